@@ -1,0 +1,60 @@
+-- The bytes of a command: its byte, then its operands at the widths that the table gives.
+-- Assumes nothing.
+use Prim.Native.Nat.{ℕ, _<_}
+use mathlib.Core.List.{List, [], _∷_, _++_}
+use Rattle.integers.specs.Numbers.{bytesOf}
+use Rattle.commands.specs.Table.{rowAt}
+use Rattle.commands.specs.declared.Command.{Command}
+use Rattle.commands.specs.declared.Command.the-variants.{Variable, Start, Mode, Action, Condition, ModeCondition, ModeEffect, Add, Linear, Term, Quotient, Residue, Goal, End, Refused}
+
+-- the table's row of a command; a refusal has none
+abbrev pub rowNumber : Command → ℕ
+rowNumber (Variable lower upper start) = 0
+rowNumber (Start start) = 1
+rowNumber (Mode size start) = 2
+rowNumber Action = 3
+rowNumber (Condition var relation constant) = 4
+rowNumber (ModeCondition mode value) = 5
+rowNumber (ModeEffect mode value) = 6
+rowNumber (Add var constant) = 7
+rowNumber (Linear target constant) = 8
+rowNumber (Term var weight) = 9
+rowNumber (Quotient target operand divisor) = 10
+rowNumber (Residue target operand divisor) = 11
+rowNumber Goal = 12
+rowNumber End = 13
+rowNumber (Refused number) = 14
+
+abbrev pub operands : Command → List ℕ
+operands (Variable lower upper start) = lower ∷ upper ∷ start ∷ []
+operands (Start start) = start ∷ []
+operands (Mode size start) = size ∷ start ∷ []
+operands Action = []
+operands (Condition var relation constant) = var ∷ relation ∷ constant ∷ []
+operands (ModeCondition mode value) = mode ∷ value ∷ []
+operands (ModeEffect mode value) = mode ∷ value ∷ []
+operands (Add var constant) = var ∷ constant ∷ []
+operands (Linear target constant) = target ∷ constant ∷ []
+operands (Term var weight) = var ∷ weight ∷ []
+operands (Quotient target operand divisor) = target ∷ operand ∷ divisor ∷ []
+operands (Residue target operand divisor) = target ∷ operand ∷ divisor ∷ []
+operands Goal = []
+operands End = []
+operands (Refused number) = []
+
+abbrev pub byteOf : Command → ℕ
+byteOf c = rowAt (rowNumber c) .byte
+
+-- numbers at the widths beside them
+abbrev pub atWidths : List ℕ → List ℕ → List ℕ
+atWidths [] vs = []
+atWidths (w ∷ ws) [] = []
+atWidths (w ∷ ws) (v ∷ vs) = bytesOf w v ++ atWidths ws vs
+
+abbrev pub encode : Command → List ℕ
+encode c = byteOf c ∷ atWidths (rowAt (rowNumber c) .widths) (operands c)
+
+-- the bytes of commands, one behind another
+abbrev pub encodeAll : List Command → List ℕ
+encodeAll [] = []
+encodeAll (c ∷ cs) = encode c ++ encodeAll cs

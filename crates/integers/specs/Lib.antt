@@ -1,0 +1,4 @@
+pub mod Parts
+pub mod Division
+pub mod Numbers
+pub mod Relation
