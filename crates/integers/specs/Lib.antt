@@ -1,3 +1,4 @@
+pub mod All
 pub mod Parts
 pub mod Division
 pub mod Numbers

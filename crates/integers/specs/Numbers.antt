@@ -1,11 +1,16 @@
 -- Numbers of a width in bytes, least byte first, unsigned and in two's complement. Every definition and law is for any width.
 -- Assumes nothing.
-use Prim.Native.Nat.{ℕ, zero, suc, _+_, _-_, _*_, _/_, _%_, _^_}
+use Prim.Native.Nat.{ℕ, zero, suc, _+_, _-_, _*_, _/_, _%_, _^_, _<_}
 use mathlib.Core.Bool.{cond}
 use mathlib.Core.List.{List, [], _∷_}
 use lib.Dec.{ltb}
 use lib.ListN.{take, drop}
 use lib.IntN.{ℤ, pos, negsuc}
+use Rattle.integers.specs.All.{All}
+
+-- a list of bytes, as every slice of bytes is
+abbrev pub Bytes : List ℕ → Type 0
+Bytes s = All (λ (b : ℕ). b < 256) s
 
 -- the bytes of a number, as many as the width says
 abbrev pub bytesOf : ℕ → ℕ → List ℕ
