@@ -1,2 +1,4 @@
 // Whole numbers: the leaves that read, compare and divide them.
-pub fn one() -> u64 { 1 }
+pub fn one() -> u64 {
+    1
+}
