@@ -1,6 +1,6 @@
 -- The worked divisions of document 01, from the definitions. Assumes nothing.
 use mathlib.Core.Path.{_≡_, refl}
-use mathlib.Core.List.{List, [], _∷_, map}
+use mathlib.Core.List.{[], _∷_, map}
 use lib.IntN.{ℤ, pos, negsuc}
 use Rattle.integers.specs.Division.{quotientOf, residueOf}
 

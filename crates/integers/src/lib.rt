@@ -1,7 +1,7 @@
 // Whole numbers: the leaves that compare them, divide them, and read and write them as the operands of a file.
 //
-// Every function is an equation with a definition of specs/, for every argument that it takes. None keeps anything, and none knows of
-// commands, tasks or plans.
+// Every contract is an equation with a definition of specs/. The crate never knows of commands, tasks or plans: what a number is for,
+// and which numbers are refused, is its callers' affair.
 ghost use mathlib.Core.Path.{_≡_};
 ghost use Prim.Native.Nat.{_+_, _^_, _≤_, _<_};
 ghost use lib.ListN.{length};
@@ -49,7 +49,7 @@ pub fn is_within(value: i64, limit: u64) -> bool
     magnitude(value) <= limit
 }
 
-// r with y = c × q + r and 0 ≤ r < |c|.
+// The r with y = c × q + r and 0 ≤ r < |c|, for every sign of y and c; c is not 0.
 pub fn residue(y: i64, c: i64) -> i64
     requires { ⌜ Within 2000000000000000 y × Within 2000000000000000 c × (0 < natAbs c) ⌝ }
     ensures { λ r. ⌜ r ≡ residueOf y c ⌝ }
@@ -61,7 +61,7 @@ pub fn residue(y: i64, c: i64) -> i64
     if 0 < c { r + c } else { r - c }
 }
 
-// q with y = c × q + r and 0 ≤ r < |c|.
+// The q with y = c × q + r and 0 ≤ r < |c|, for every sign of y and c; c is not 0.
 pub fn quotient(y: i64, c: i64) -> i64
     requires { ⌜ Within 2000000000000000 y × Within 2000000000000000 c × (0 < natAbs c) ⌝ }
     ensures { λ r. ⌜ r ≡ quotientOf y c ⌝ }
@@ -96,7 +96,7 @@ pub fn signed(bits: u32) -> i64
     }
 }
 
-// The 32 bits of a number, two's complement.
+// The 32 bits that stand for a number in two's complement; `signed` reads them back.
 pub fn bits(z: i64) -> u32
     requires { ⌜ natAbs z < 2147483648 ⌝ }
     ensures { λ r. ⌜ r ≡ bitsOf 4 z ⌝ }

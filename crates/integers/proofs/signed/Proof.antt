@@ -1,5 +1,5 @@
 -- `integers::signed` meets its contract: the lower half of the bits is itself, the upper half lies 2 to the 32 below. Assumes nothing.
-use mathlib.Core.Path.{_≡_, sym, _∙_}
+use mathlib.Core.Path.{sym, _∙_}
 use Prim.Native.Nat.{_^_, _<_}
 use native.Mathlib.Omega.{arith}
 use borrow.Author.Needs.{needs}
@@ -7,7 +7,6 @@ use mir.Syntax.{w64}
 use mir.Val.{SFits}
 use mir.Facts.{toZ-ofZ, toZ-pos}
 use lib.IntN.{pos, _-ℤ_}
-use Rattle.integers.specs.Numbers.{signedOf}
 use Rattle.integers.proofs.Parts.{ints, sub}
 use Rattle.integers.proofs.Numbers.{signed-low, signed-high}
 use Rattle.integers.proofs.signed.Statement.{statement}
