@@ -8,11 +8,8 @@ use mathlib.Core.List.{List, [], _∷_, _++_, append-assoc}
 use lib.ListN.{length, replicate, length-append}
 use Rattle.integers.specs.All.{All}
 use Rattle.integers.specs.Numbers.{Bytes, bytesOf}
+use Rattle.integers.proofs.Numbers.{length-bytes}
 use Rattle.lists.specs.Numbers.{numbersBytes, halves}
-
-length-bytes : (width n : ℕ) → length (bytesOf width n) ≡ width
-length-bytes zero n = refl
-length-bytes (suc width) n = ap suc (length-bytes width (n / 256))
 
 -- ---- numbers of any width
 
