@@ -1,7 +1,7 @@
 -- What a call that fills lent output answers and leaves: how each of its returns meets the one definition `lent`, and what a caller
 -- has of it.
 -- Assumes nothing.
-use mathlib.Core.Path.{_≡_, refl, sym, ap, ap₂, _∙_}
+use mathlib.Core.Path.{_≡_, refl, ap, _∙_}
 use Prim.Native.Nat.{ℕ, _≤_, _<_}
 use mathlib.Core.Bool.{Bool, true, false, cond}
 use mathlib.Core.List.{List, _++_}
@@ -11,7 +11,7 @@ use lib.Seq.{take-append-seam, drop-append-seam}
 use borrow.Author.Tests.{le-leb, lt-leb}
 use Rattle.lists.specs.Answer.{Answer, given, refused, lent}
 use Rattle.lists.specs.Writing.{Wrote}
-use Rattle.lists.specs.Written.{Lent, answerOf}
+use Rattle.lists.specs.Written.{Lent}
 use Rattle.lists.specs.declared.Written.{Written}
 use Rattle.lists.specs.declared.Written.the-variants.{Bytes, Refused}
 use Rattle.lists.proofs.Writing.{splice-front}

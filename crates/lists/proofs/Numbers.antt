@@ -5,7 +5,7 @@ use Prim.Native.Nat.{ℕ, zero, suc, _+_, _*_, _-_, _/_, _%_, _<_, _≤_}
 use native.Mathlib.Nat.{mul-zero, mul-suc, add-comm}
 use native.Mathlib.Omega.{arith}
 use mathlib.Core.List.{List, [], _∷_, _++_, append-assoc}
-use lib.ListN.{length, replicate, length-append}
+use lib.ListN.{length, replicate, length-append, length-replicate}
 use Rattle.integers.specs.All.{All}
 use Rattle.integers.specs.Numbers.{Bytes, bytesOf}
 use Rattle.integers.proofs.Numbers.{length-bytes}
@@ -26,6 +26,9 @@ numbers-append width [] ms = refl
 numbers-append width (k ∷ ks) ms =
     ap (λ (z : List ℕ). bytesOf width k ++ z) (numbers-append width ks ms)
     ∙ sym (append-assoc (bytesOf width k) (numbersBytes width ks) (numbersBytes width ms))
+
+pub length-run : (width n k : ℕ) → length (numbersBytes width (replicate n k)) ≡ width * n
+length-run width n k = length-numbers width (replicate n k) ∙ ap (λ (m : ℕ). width * m) (length-replicate n k)
 
 -- a run of a number is the number and a shorter run
 pub run-more : (width n k : ℕ) → 0 < n → numbersBytes width (replicate n k) ≡ bytesOf width k ++ numbersBytes width (replicate (n - 1) k)

@@ -1,7 +1,7 @@
 // Stores into output that a caller lends: numbers of one, two and four bytes, least byte first, some bytes of an array, and a run of
-// one number. Each function writes from a place on and gives the place behind what it wrote. None asks for room, refuses or stores
-// anything else: that the output has room is for the caller to show.
-ghost use mathlib.Core.Path.{_≡_};
+// one number. Each function writes from a place on and gives the place behind what it wrote. It never looks whether there is room (its
+// caller shows that there is), never refuses, and stores nothing but the bytes that its contract names.
+// Beside the code stand the laws of every loop that tests, changes, writes or counts (proofs/).
 ghost use Prim.Native.Nat.{_≤_};
 ghost use lib.ListN.{replicate, take};
 ghost use Rattle.integers.specs.Numbers.{bytesOf};

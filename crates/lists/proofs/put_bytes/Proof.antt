@@ -3,7 +3,7 @@ use mathlib.Core.Path.{_≡_, refl, sym}
 use Prim.Native.Nat.{_-_}
 use native.Mathlib.Omega.{arith}
 use borrow.Author.Needs.{needs}
-use lib.ListN.{length, take, getD}
+use lib.ListN.{length, getD}
 use Rattle.lists.specs.Writing.{Room}
 use Rattle.lists.proofs.Each.{single, flat-single}
 use Rattle.lists.proofs.Loops.{there-all}
