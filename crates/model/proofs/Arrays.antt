@@ -1,0 +1,213 @@
+-- Lists behind the states: reading and writing elements, and the walk over one that holds source and helpers.
+-- Assumes nothing.
+use mathlib.Core.Path.{_≡_, refl, sym, ap, ap₂, _∙_, subst, fun-ext}
+use Prim.Native.Nat.{ℕ, zero, suc, _+_, _<_}
+use native.Mathlib.Nat.{suc-add, add-zero}
+use native.Mathlib.Numerals.{add-one}
+use native.Mathlib.Omega.{arith}
+use mathlib.Core.Bool.{_&&_, Bool, true, false, cond}
+use mathlib.Core.Option.{Option, none, some}
+use mathlib.Core.List.{List, [], _∷_, _++_}
+use lib.ListN.{length, length-set, getD, set, List·getD-append}
+use lib.Dec.{T, eqb, eqb→eq, eqb·suc-suc, eqb·zero-suc, eqb·suc-zero}
+use lib.IntN.{ℤ, pos, _+ℤ_}
+use Rattle.integers.specs.All.{All}
+use Rattle.model.specs.Tasks.{Measured, variable, weightedSum, NumericCondition}
+use Rattle.model.specs.Steps.{measure, conditionsHold, modesHold, integerAt, naturalAt, addAll, setAll}
+use Rattle.integers.specs.Relation.{related}
+use Rattle.model.specs.NamedSystems.{modeEffectOn, orDefault, setModes}
+use Rattle.model.specs.Stages.{Name, source, helperA, helperB, hold, usesLeft}
+use Rattle.model.specs.Expansion.{sameName, additionTo, addTo, plus, namedValues}
+use Rattle.model.specs.Lowering.{numberOfName, numberedMeasure, numberedConditions, numberedAdditions}
+use Rattle.model.specs.InTask.{NameIn, MeasureIn, Once}
+use Rattle.model.proofs.StageValues.{by-place, both-true, vals-eq}
+
+module _ {A : Type 0} where
+  -- an element after a store
+  pub get-set : (l : List A) (i j : ℕ) (a d : A) → i < length l → getD (set l i a) j d ≡ cond (eqb i j) a (getD l j d)
+  get-set [] i j a d h = absurd (omega arith)
+  get-set (x ∷ l) zero zero a d h = refl
+  get-set (x ∷ l) zero (suc j) a d h = rw (eqb·zero-suc j) refl
+  get-set (x ∷ l) (suc i) zero a d h = rw (eqb·suc-zero i) refl
+  get-set (x ∷ l) (suc i) (suc j) a d h = rw (eqb·suc-suc i j) (get-set l i j a d (omega arith))
+
+  pub set-front : (l r : List A) (i : ℕ) (a : A) → i < length l → set (l ++ r) i a ≡ set l i a ++ r
+  set-front [] r i a h = absurd (omega arith)
+  set-front (x ∷ l) r zero a h = refl
+  set-front (x ∷ l) r (suc i) a h = ap (λ (u : List A). x ∷ u) (set-front l r i a (omega arith))
+
+  pub set-back : (l r : List A) (i : ℕ) (a : A) → set (l ++ r) (length l + i) a ≡ l ++ set r i a
+  set-back [] r i a = ap (λ (n : ℕ). set r n a) (omega arith)
+  set-back (x ∷ l) r i a = ap (λ (n : ℕ). set (x ∷ (l ++ r)) n a) (suc-add (length l) i) ∙ ap (λ (u : List A). x ∷ u) (set-back l r i a)
+
+  pub get-back : (l r : List A) (i : ℕ) (d : A) → getD (l ++ r) (length l + i) d ≡ getD r i d
+  get-back [] r i d = ap (λ (n : ℕ). getD r n d) (omega arith)
+  get-back (x ∷ l) r i d = ap (λ (n : ℕ). getD (x ∷ (l ++ r)) n d) (suc-add (length l) i) ∙ get-back l r i d
+
+  -- two lists of one length with the same elements
+  pub list-ext : (l r : List A) (d : A) → length l ≡ length r → ((i : ℕ) → getD l i d ≡ getD r i d) → l ≡ r
+  list-ext [] [] d e h = refl
+  list-ext [] (y ∷ r) d e h = absurd (omega arith)
+  list-ext (x ∷ l) [] d e h = absurd (omega arith)
+  list-ext (x ∷ l) (y ∷ r) d e h = λ i. h 0 i ∷ list-ext l r d (omega arith) (λ j. h (suc j)) i
+
+same→eq : (w x : Name) → T (sameName w x) → w ≡ x
+same→eq (source i) (source j) t = ap source (eqb→eq i j t)
+same→eq (source i) helperA t = absurd t
+same→eq (source i) helperB t = absurd t
+same→eq (source i) (hold j) t = absurd t
+same→eq (source i) (usesLeft j) t = absurd t
+same→eq helperA (source j) t = absurd t
+same→eq helperA helperA t = refl
+same→eq helperA helperB t = absurd t
+same→eq helperA (hold j) t = absurd t
+same→eq helperA (usesLeft j) t = absurd t
+same→eq helperB (source j) t = absurd t
+same→eq helperB helperA t = absurd t
+same→eq helperB helperB t = refl
+same→eq helperB (hold j) t = absurd t
+same→eq helperB (usesLeft j) t = absurd t
+same→eq (hold i) (source j) t = absurd t
+same→eq (hold i) helperA t = absurd t
+same→eq (hold i) helperB t = absurd t
+same→eq (hold i) (hold j) t = ap hold (eqb→eq i j t)
+same→eq (hold i) (usesLeft j) t = absurd t
+same→eq (usesLeft i) (source j) t = absurd t
+same→eq (usesLeft i) helperA t = absurd t
+same→eq (usesLeft i) helperB t = absurd t
+same→eq (usesLeft i) (hold j) t = absurd t
+same→eq (usesLeft i) (usesLeft j) t = ap usesLeft (eqb→eq i j t)
+
+-- each variable is named once
+abbrev pub OnceV : List (Name × ℤ) → Type 0
+OnceV [] = Unit {0}
+OnceV (e ∷ es) = (additionTo es (e .0) ≡ none) × OnceV es
+
+-- ---- values: n source variables, then A and B
+pub record Laid (n : ℕ) (l : List ℤ) (f : Name → ℤ) : Type 0 where
+  pub V₀ : List ℤ
+  pub a : ℤ
+  pub b : ℤ
+  pub lengths : length V₀ ≡ n
+  pub is : l ≡ V₀ ++ (a ∷ b ∷ [])
+  pub reads : f ≡ namedValues (integerAt V₀) a b
+
+core-get : (v : List ℤ) (a b : ℤ) (w : Name) → NameIn (length v) w → integerAt (v ++ (a ∷ b ∷ [])) (numberOfName (length v) w) ≡ namedValues (integerAt v) a b w
+core-get v a b (source i) h = List·getD-append v (a ∷ b ∷ []) (pos 0) i h
+core-get v a b helperA h = ap (integerAt (v ++ (a ∷ b ∷ []))) (sym (add-zero (length v))) ∙ get-back v (a ∷ b ∷ []) 0 (pos 0)
+core-get v a b helperB h = ap (integerAt (v ++ (a ∷ b ∷ []))) (sym (add-one (length v))) ∙ get-back v (a ∷ b ∷ []) 1 (pos 0)
+core-get v a b (hold j) h = absurd h
+core-get v a b (usesLeft j) h = absurd h
+
+abbrev bumped : Name → ℤ → (Name → ℤ) → Name → ℤ
+bumped w d f x = cond (sameName w x) (f x +ℤ d) (f x)
+
+core-one : (v : List ℤ) (a b : ℤ) (w : Name) (d : ℤ) → NameIn (length v) w
+    → Laid (length v) (set (v ++ (a ∷ b ∷ [])) (numberOfName (length v) w) (namedValues (integerAt v) a b w +ℤ d)) (bumped w d (namedValues (integerAt v) a b))
+core-one v a b (source i) d h = record {
+  V₀ = set v i (integerAt v i +ℤ d);
+  a = a;
+  b = b;
+  lengths = length-set v i (integerAt v i +ℤ d);
+  is = set-front v (a ∷ b ∷ []) i (integerAt v i +ℤ d) h;
+  reads = vals-eq (integerAt (set v i (integerAt v i +ℤ d))) a b (bumped (source i) d (namedValues (integerAt v) a b))
+      (λ j. by-place i (λ c k. cond c (integerAt v k +ℤ d) (integerAt v k)) (λ c k. cond c (integerAt v i +ℤ d) (integerAt v k)) refl (λ k. refl) j ∙ sym (get-set v i j (integerAt v i +ℤ d) (pos 0) h)) refl refl (λ j. refl) (λ j. refl);
+}
+core-one v a b helperA d h = record {
+  V₀ = v;
+  a = a +ℤ d;
+  b = b;
+  lengths = refl;
+  is = ap (λ (k : ℕ). set (v ++ (a ∷ b ∷ [])) k (a +ℤ d)) (sym (add-zero (length v))) ∙ set-back v (a ∷ b ∷ []) 0 (a +ℤ d);
+  reads = vals-eq (integerAt v) (a +ℤ d) b (bumped helperA d (namedValues (integerAt v) a b)) (λ j. refl) refl refl (λ j. refl) (λ j. refl);
+}
+core-one v a b helperB d h = record {
+  V₀ = v;
+  a = a;
+  b = b +ℤ d;
+  lengths = refl;
+  is = ap (λ (k : ℕ). set (v ++ (a ∷ b ∷ [])) k (b +ℤ d)) (sym (add-one (length v))) ∙ set-back v (a ∷ b ∷ []) 1 (b +ℤ d);
+  reads = vals-eq (integerAt v) a (b +ℤ d) (bumped helperB d (namedValues (integerAt v) a b)) (λ j. refl) refl refl (λ j. refl) (λ j. refl);
+}
+core-one v a b (hold j) d h = absurd h
+core-one v a b (usesLeft j) d h = absurd h
+
+pub laid-get : (n : ℕ) (l : List ℤ) (f : Name → ℤ) (w : Name) → Laid n l f → NameIn n w → integerAt l (numberOfName n w) ≡ f w
+laid-get n l f w L = subst (λ (k : ℕ). NameIn k w → integerAt l (numberOfName k w) ≡ f w) (L .lengths)
+    (λ h. ap (λ (u : List ℤ). integerAt u (numberOfName (length (L .V₀)) w)) (L .is) ∙ core-get (L .V₀) (L .a) (L .b) w h ∙ ap (λ (g : Name → ℤ). g w) (sym (L .reads)))
+
+pub laid-one : (n : ℕ) (l : List ℤ) (f : Name → ℤ) (w : Name) (d : ℤ) → Laid n l f → NameIn n w → Laid n (set l (numberOfName n w) (integerAt l (numberOfName n w) +ℤ d)) (bumped w d f)
+laid-one n l f w d L h = rw (laid-get n l f w L h) (subst (λ (k : ℕ). NameIn k w → Laid k (set l (numberOfName k w) (f w +ℤ d)) (bumped w d f)) (L .lengths)
+    (λ h′. subst (λ (g : Name → ℤ). Laid (length (L .V₀)) (set l (numberOfName (length (L .V₀)) w) (g w +ℤ d)) (bumped w d g)) (sym (L .reads))
+    (subst (λ (u : List ℤ). Laid (length (L .V₀)) (set u (numberOfName (length (L .V₀)) w) (namedValues (integerAt (L .V₀)) (L .a) (L .b) w +ℤ d)) (bumped w d (namedValues (integerAt (L .V₀)) (L .a) (L .b)))) (sym (L .is))
+    (core-one (L .V₀) (L .a) (L .b) w d h′))) h)
+
+pub laid-all : (n : ℕ) (es : List (Name × ℤ)) (l : List ℤ) (f : Name → ℤ) → All (λ (e : Name × ℤ). NameIn n (e .0)) es → OnceV es → Laid n l f → Laid n (addAll (numberedAdditions n es) l) (plus es f)
+laid-all n [] l f i o L = L
+laid-all n (e ∷ es) l f (i, is) (o, os) L =
+    subst (λ (g : Name → ℤ). Laid n (addAll (numberedAdditions n es) (set l (numberOfName n (e .0)) (integerAt l (numberOfName n (e .0)) +ℤ e .1))) g) (fun-ext go)
+    (laid-all n es (set l (numberOfName n (e .0)) (integerAt l (numberOfName n (e .0)) +ℤ e .1)) (bumped (e .0) (e .1) f) is os (laid-one n l f (e .0) (e .1) L i))
+  where
+    pick : (x : Name) (b : Bool) → sameName (e .0) x ≡ b → addTo (additionTo es x) (cond b (f x +ℤ e .1) (f x)) ≡ addTo (cond b (some (e .1)) (additionTo es x)) (f x)
+    pick x true q = ap (λ (r : Option ℤ). addTo r (f x +ℤ e .1)) (ap (additionTo es) (sym (same→eq (e .0) x (subst T (sym q) tt))) ∙ o)
+    pick x false q = refl
+
+    go : (x : Name) → plus es (bumped (e .0) (e .1) f) x ≡ plus (e ∷ es) f x
+    go x = pick x (sameName (e .0) x) refl
+
+pub laid-conds : (n : ℕ) (cs : List (NumericCondition Name)) (l : List ℤ) (f : Name → ℤ) → All (λ (c : NumericCondition Name). MeasureIn (NameIn n) (c .measured)) cs → Laid n l f → conditionsHold (numberedConditions n cs) (integerAt l) ≡ conditionsHold cs f
+laid-conds n [] l f i L = refl
+laid-conds n (c ∷ cs) l f (i, is) L = ap₂ _&&_ (ap (λ (z : ℤ). related (c .relation) z (c .constant)) (lhs (c .measured) i)) (laid-conds n cs l f is L)
+  where
+    lhs : (e : Measured Name) → MeasureIn (NameIn n) e → measure (numberedMeasure n e) (integerAt l) ≡ measure e f
+    lhs (variable w) h = laid-get n l f w L h
+    lhs (weightedSum ts) h = absurd h
+
+-- ---- modes: m source modes, then control
+pub record LaidM (m : ℕ) (l : List ℕ) (g : ℕ → ℕ) (c : ℕ) : Type 0 where
+  pub M₀ : List ℕ
+  pub lengths : length M₀ ≡ m
+  pub is : l ≡ M₀ ++ (c ∷ [])
+  pub reads : g ≡ naturalAt M₀
+
+pub laidM-get : (m : ℕ) (l : List ℕ) (g : ℕ → ℕ) (c j : ℕ) → LaidM m l g c → j < m → naturalAt l j ≡ g j
+laidM-get m l g c j L h = ap (λ (u : List ℕ). naturalAt u j) (L .is) ∙ List·getD-append (L .M₀) (c ∷ []) 0 j (omega (arith, L .lengths)) ∙ ap (λ (f : ℕ → ℕ). f j) (sym (L .reads))
+
+pub laidM-ctl : (m : ℕ) (l : List ℕ) (g : ℕ → ℕ) (c : ℕ) → LaidM m l g c → naturalAt l m ≡ c
+laidM-ctl m l g c L = ap₂ (λ (u : List ℕ) (k : ℕ). naturalAt u k) (L .is) (sym (L .lengths) ∙ sym (add-zero (length (L .M₀)))) ∙ get-back (L .M₀) (c ∷ []) 0 0
+
+pub laidM-one : (m : ℕ) (l : List ℕ) (g : ℕ → ℕ) (c j b : ℕ) → LaidM m l g c → j < m → LaidM m (set l j b) (λ k. cond (eqb j k) b (g k)) c
+laidM-one m l g c j b L h = record {
+  M₀ = set (L .M₀) j b;
+  lengths = length-set (L .M₀) j b ∙ L .lengths;
+  is = ap (λ (u : List ℕ). set u j b) (L .is) ∙ set-front (L .M₀) (c ∷ []) j b (omega (arith, L .lengths));
+  reads = fun-ext (λ k. ap (λ (f : ℕ → ℕ). cond (eqb j k) b (f k)) (L .reads) ∙ sym (get-set (L .M₀) j k b 0 (omega (arith, L .lengths))));
+}
+
+pub laidM-set : (m : ℕ) (l : List ℕ) (g : ℕ → ℕ) (c c′ : ℕ) → LaidM m l g c → LaidM m (set l m c′) g c′
+laidM-set m l g c c′ L = record {
+  M₀ = L .M₀;
+  lengths = L .lengths;
+  is = ap₂ (λ (u : List ℕ) (k : ℕ). set u k c′) (L .is) (sym (L .lengths) ∙ sym (add-zero (length (L .M₀)))) ∙ set-back (L .M₀) (c ∷ []) 0 c′;
+  reads = L .reads;
+}
+
+pub laidM-all : (m : ℕ) (es : List (ℕ × ℕ)) (l : List ℕ) (g : ℕ → ℕ) (c : ℕ) → All (λ (e : ℕ × ℕ). e .0 < m) es → Once es → LaidM m l g c → LaidM m (setAll es l) (setModes es g) c
+laidM-all m [] l g c i o L = L
+laidM-all m (e ∷ es) l g c (i, is) (o, os) L =
+    subst (λ (f : ℕ → ℕ). LaidM m (setAll es (set l (e .0) (e .1))) f c) (fun-ext (λ k. pick k (eqb (e .0) k) refl))
+    (laidM-all m es (set l (e .0) (e .1)) (λ k. cond (eqb (e .0) k) (e .1) (g k)) c is os (laidM-one m l g c (e .0) (e .1) L i))
+  where
+    pick : (k : ℕ) (b : Bool) → eqb (e .0) k ≡ b → orDefault (modeEffectOn es k) (cond b (e .1) (g k)) ≡ orDefault (cond b (some (e .1)) (modeEffectOn es k)) (g k)
+    pick k true q = ap (λ (r : Option ℕ). orDefault r (e .1)) (ap (modeEffectOn es) (sym (eqb→eq (e .0) k (subst T (sym q) tt))) ∙ o)
+    pick k false q = refl
+
+pub laidM-holds : (m : ℕ) (ps : List (ℕ × ℕ)) (l : List ℕ) (g : ℕ → ℕ) (c need : ℕ) → All (λ (p : ℕ × ℕ). p .0 < m) ps → LaidM m l g c
+    → modesHold (ps ++ ((m, need) ∷ [])) (naturalAt l) ≡ ((modesHold ps g) && (eqb c need))
+laidM-holds m [] l g c need i L = both-true (eqb (naturalAt l m) need) ∙ ap (λ (k : ℕ). eqb k need) (laidM-ctl m l g c L)
+laidM-holds m (p ∷ ps) l g c need (i, is) L = ap₂ _&&_ (ap (λ (k : ℕ). eqb k (p .1)) (laidM-get m l g c (p .0) L i)) (laidM-holds m ps l g c need is L)
+    ∙ again (eqb (g (p .0)) (p .1)) (modesHold ps g) (eqb c need)
+  where
+    again : (x y z : Bool) → (x && ((y && z))) ≡ (((x && y)) && z)
+    again true y z = refl
+    again false y z = refl

@@ -1,0 +1,179 @@
+-- Where the rows of a source action stand among the rows of the whole task, and which numbers are whose.
+-- Assumes nothing.
+use mathlib.Core.Path.{_≡_, refl, sym, ap, ap₂, _∙_}
+use mathlib.Core.Logic.{_⊎_, inl, inr}
+use Prim.Native.Nat.{ℕ, zero, suc, _+_, _-_, _≤_, _<_}
+use native.Mathlib.Nat.{suc-add}
+use native.Mathlib.Omega.{arith}
+use mathlib.Core.Bool.{Bool, true, false, not, cond}
+use mathlib.Core.Option.{Option, none, some, Option·none-ne-some}
+use mathlib.Core.List.{List, [], _∷_, _++_}
+use lib.ListN.{length, length-append, length-replicate, replicate, getElem?}
+use lib.Dec.{T, ltb, ltb→lt, lt→ltb, not-T}
+use lib.IntN.{ℤ, pos, negsuc, natAbs}
+use Rattle.integers.specs.All.{All}
+use Rattle.model.specs.Steps.{conditionsHold}
+use Rattle.model.specs.Stages.{Name, NamedAction, Stage, firstStage, stageActions, turnPlace, stagesActions, countActions, stagesOf, macro, lowerActions, macroSize, opening, sourceNumber, later}
+use Rattle.model.specs.Tasks.{SourceAction}
+use Rattle.model.specs.Expansion.{strokes, unitsIn, afterStrokes, afterStage, stageWalk}
+use Rattle.model.specs.NamedSystems.{walkToDeadEnd, stagesPrice, priceToDeadEnd}
+use Rattle.model.proofs.Pairing.{app-assoc, unsome}
+use Rattle.model.proofs.StageWalk.{body-length, stage-length, Under, Past, rows-from, rows-past, rows-under, under-mono, past-mono, all-app, all-map, all-get, get-split, get-past}
+
+pub rows-length : (s : ℕ) (ds : List Stage) → length (stagesActions s ds) ≡ countActions ds
+rows-length s [] = refl
+rows-length s (d ∷ ds) = length-append (stageActions s d (firstStage (suc s) ds)) (stagesActions (suc s) ds) ∙ omega (arith, stage-length s d (firstStage (suc s) ds), rows-length (suc s) ds)
+
+-- ---- the walk's length and its numbers
+goes-length : (b : ℕ) (q : ℤ) → length (strokes b q) ≡ natAbs q
+goes-length b (pos k) = length-replicate k b
+goes-length b (negsuc k) = length-replicate (suc k) (suc b)
+
+pub walk-length : (b : ℕ) (ds : List Stage) (v : Name → ℤ) → length (stageWalk b ds v) ≡ stagesPrice ds v
+walk-length b [] v = refl
+walk-length b (d ∷ ds) v = length-append (strokes b (unitsIn (d .kind) (v (d .counter)))) ((b + turnPlace (d .kind)) ∷ stageWalk (suc (b + turnPlace (d .kind))) ds (afterStage d v))
+    ∙ omega (arith, goes-length b (unitsIn (d .kind) (v (d .counter))), walk-length (suc (b + turnPlace (d .kind))) ds (afterStage d v))
+
+pub walkTo-length : (b : ℕ) (ds : List Stage) (v : Name → ℤ) → length (walkToDeadEnd b ds v) ≡ priceToDeadEnd ds v
+walkTo-length b [] v = refl
+walkTo-length b (d ∷ ds) v = length-append (strokes b (unitsIn (d .kind) (v (d .counter))))
+    (cond (conditionsHold (d .turnConditions) (afterStrokes d v)) ((b + turnPlace (d .kind)) ∷ walkToDeadEnd (suc (b + turnPlace (d .kind))) ds (afterStage d v)) [])
+    ∙ ap₂ (λ (x y : ℕ). x + y) (goes-length b (unitsIn (d .kind) (v (d .counter)))) (go (conditionsHold (d .turnConditions) (afterStrokes d v)) (walkTo-length (suc (b + turnPlace (d .kind))) ds (afterStage d v)))
+  where
+    go : (c : Bool) → length (walkToDeadEnd (suc (b + turnPlace (d .kind))) ds (afterStage d v)) ≡ priceToDeadEnd ds (afterStage d v)
+        → length (cond c ((b + turnPlace (d .kind)) ∷ walkToDeadEnd (suc (b + turnPlace (d .kind))) ds (afterStage d v)) []) ≡ cond c (suc (priceToDeadEnd ds (afterStage d v))) zero
+    go true h = ap suc h
+    go false h = refl
+
+abbrev pub Between : ℕ → ℕ → ℕ → Type 0
+Between l h k = (l ≤ k) × (k < h)
+
+same-all : (Q : ℕ → Type 0) (k n : ℕ) → Q n → All Q (replicate k n)
+same-all Q zero n h = tt
+same-all Q (suc k) n h = (h, same-all Q k n h)
+
+goes-range : (b h : ℕ) (q : ℤ) → b + 2 ≤ h → All (Between b h) (strokes b q)
+goes-range b h (pos k) l = same-all (Between b h) k b (omega arith, omega arith)
+goes-range b h (negsuc k) l = same-all (Between b h) (suc k) (suc b) (omega arith, omega arith)
+
+pub walk-range : (b : ℕ) (ds : List Stage) (v : Name → ℤ) → All (Between b (b + countActions ds)) (stageWalk b ds v)
+walk-range b [] v = tt
+walk-range b (d ∷ ds) v = all-app (Between b (b + (suc (turnPlace (d .kind)) + countActions ds))) (strokes b (unitsIn (d .kind) (v (d .counter))))
+    ((b + turnPlace (d .kind)) ∷ stageWalk (suc (b + turnPlace (d .kind))) ds (afterStage d v))
+    (goes-range b (b + (suc (turnPlace (d .kind)) + countActions ds)) (unitsIn (d .kind) (v (d .counter))) (omega (arith, body-length 0 d))) (
+      (omega arith, omega arith),
+      all-map (Between (suc (b + turnPlace (d .kind))) (suc (b + turnPlace (d .kind)) + countActions ds)) (Between b (b + (suc (turnPlace (d .kind)) + countActions ds))) (λ r h. (omega arith, omega arith))
+          (stageWalk (suc (b + turnPlace (d .kind))) ds (afterStage d v)) (walk-range (suc (b + turnPlace (d .kind))) ds (afterStage d v)),
+    )
+
+module _ (lo hi : ℕ → ℤ) where
+  pub macro-length : (s : ℕ) (a : SourceAction) → length (macro lo hi s a) ≡ macroSize lo hi a
+  macro-length s a = ap suc (rows-length s (stagesOf lo hi (a .effect)))
+
+  pub lower-past : (s : ℕ) (acts : List SourceAction) → Past s (lowerActions lo hi s acts)
+  lower-past s [] = tt
+  lower-past s (a ∷ acts) = (
+    inl refl,
+    all-app (λ (r : NamedAction). (r .control ≡ 0) ⊎ (s ≤ r .control)) (stagesActions s (stagesOf lo hi (a .effect))) (lowerActions lo hi (s + length (stagesOf lo hi (a .effect))) acts)
+        (rows-past s (stagesOf lo hi (a .effect)))
+        (past-mono s (s + length (stagesOf lo hi (a .effect))) (omega arith) (lowerActions lo hi (s + length (stagesOf lo hi (a .effect))) acts) (lower-past (s + length (stagesOf lo hi (a .effect))) acts)),
+  )
+
+  pub record Where (acts : List SourceAction) (s k : ℕ) (a : SourceAction) : Type 0 where
+    pub from : ℕ
+    pub pre : List NamedAction
+    pub post : List NamedAction
+    pub split : lowerActions lo hi s acts ≡ pre ++ (macro lo hi from a ++ post)
+    pub lengths : length pre ≡ opening lo hi acts k
+    pub under : Under from pre
+    pub past : Past (from + length (stagesOf lo hi (a .effect))) post
+    pub after : s ≤ from
+
+  pub locate : (acts : List SourceAction) (s k : ℕ) (a : SourceAction) → 1 ≤ s → getElem? acts k ≡ some a → Where acts s k a
+  locate [] s k a h e = absurd (Option·none-ne-some a e)
+  locate (a₀ ∷ acts) s zero a h e = record {
+    from = s;
+    pre = [];
+    post = lowerActions lo hi (s + length (stagesOf lo hi (a .effect))) acts;
+    split = ap (λ (x : SourceAction). macro lo hi s x ++ lowerActions lo hi (s + length (stagesOf lo hi (x .effect))) acts) (unsome e);
+    lengths = refl;
+    under = tt;
+    past = lower-past (s + length (stagesOf lo hi (a .effect))) acts;
+    after = omega arith;
+  }
+  locate (a₀ ∷ acts) s (suc k) a h e = go (locate acts (s + length (stagesOf lo hi (a₀ .effect))) k a (omega arith) e)
+    where
+      go : Where acts (s + length (stagesOf lo hi (a₀ .effect))) k a → Where (a₀ ∷ acts) s (suc k) a
+      go w = record {
+        from = w .from;
+        pre = macro lo hi s a₀ ++ w .pre;
+        post = w .post;
+        split = ap (λ (l : List NamedAction). macro lo hi s a₀ ++ l) (w .split) ∙ sym (app-assoc (macro lo hi s a₀) (w .pre) (macro lo hi (w .from) a ++ w .post));
+        lengths = length-append (macro lo hi s a₀) (w .pre) ∙ ap₂ (λ (x y : ℕ). x + y) (macro-length s a₀) (w .lengths);
+        under = all-app (λ (r : NamedAction). r .control < w .from) (macro lo hi s a₀) (w .pre)
+            (omega (arith, h, w .after), under-mono (s + length (stagesOf lo hi (a₀ .effect))) (w .from) (w .after) (stagesActions s (stagesOf lo hi (a₀ .effect))) (rows-under s (stagesOf lo hi (a₀ .effect))))
+            (w .under);
+        past = w .past;
+        after = omega (arith, w .after);
+      }
+
+  -- a row at rest is the first of some source action
+  pub first-of : (acts : List SourceAction) (s k : ℕ) (r : NamedAction) → 1 ≤ s → getElem? (lowerActions lo hi s acts) k ≡ some r → r .control ≡ 0 → (a : ℕ) × (k ≡ opening lo hi acts a)
+  first-of [] s k r h e z = absurd (Option·none-ne-some r e)
+  first-of (a₀ ∷ acts) s k r h e z = go k e (get-split (macro lo hi s a₀) (lowerActions lo hi (s + length (stagesOf lo hi (a₀ .effect))) acts) k r e)
+      (λ i f. first-of acts (s + length (stagesOf lo hi (a₀ .effect))) i r (omega arith) f z)
+    where
+      inner : (i : ℕ) → getElem? (stagesActions s (stagesOf lo hi (a₀ .effect))) i ≡ some r → ⊥
+      inner i f = clash (all-get (λ (u : NamedAction). s ≤ u .control) (stagesActions s (stagesOf lo hi (a₀ .effect))) i r (rows-from s (stagesOf lo hi (a₀ .effect))) f)
+        where
+          clash : s ≤ r .control → ⊥
+          clash q = omega arith
+
+      go : (k : ℕ) → getElem? (lowerActions lo hi s (a₀ ∷ acts)) k ≡ some r
+          → (getElem? (macro lo hi s a₀) k ≡ some r) ⊎ ((i : ℕ) × (k ≡ length (macro lo hi s a₀) + i) × (getElem? (lowerActions lo hi (s + length (stagesOf lo hi (a₀ .effect))) acts) i ≡ some r))
+          → ((i : ℕ) → getElem? (lowerActions lo hi (s + length (stagesOf lo hi (a₀ .effect))) acts) i ≡ some r → (a : ℕ) × (i ≡ opening lo hi acts a))
+          → (a : ℕ) × (k ≡ opening lo hi (a₀ ∷ acts) a)
+      go zero e q ih = (zero, refl)
+      go (suc k) e (inl f) ih = absurd (inner k f)
+      go (suc k) e (inr (i, q, f)) ih = let (a, ea) = ih i f in (suc a, q ∙ ap₂ (λ (x y : ℕ). x + y) (macro-length s a₀) ea)
+
+  pub opn-none : (acts : List SourceAction) (s k : ℕ) → getElem? acts k ≡ none → getElem? (lowerActions lo hi s acts) (opening lo hi acts k) ≡ none
+  opn-none [] s k e = refl
+  opn-none (a ∷ acts) s zero e = absurd (Option·none-ne-some a (sym e))
+  opn-none (a ∷ acts) s (suc k) e =
+      ap (λ (n : ℕ). getElem? (macro lo hi s a ++ lowerActions lo hi (s + length (stagesOf lo hi (a .effect))) acts) (n + opening lo hi acts k)) (sym (macro-length s a))
+      ∙ get-past (macro lo hi s a) (lowerActions lo hi (s + length (stagesOf lo hi (a .effect))) acts) (opening lo hi acts k)
+      ∙ opn-none acts (s + length (stagesOf lo hi (a .effect))) k e
+
+  -- ---- whose number
+  pick : (b : Bool) (x : Option ℕ) → T (not b) → cond b none x ≡ x
+  pick true x t = absurd t
+  pick false x t = refl
+
+  drop-it : (b : Bool) (x : Option ℕ) → T b → cond b none x ≡ none
+  drop-it true x t = refl
+  drop-it false x t = absurd t
+
+  own-past : (a : SourceAction) (acts : List SourceAction) (x : ℕ) → sourceNumber lo hi (a ∷ acts) (macroSize lo hi a + x) ≡ later (sourceNumber lo hi acts x)
+  own-past a acts x = ap (sourceNumber lo hi (a ∷ acts)) (suc-add n x)
+      ∙ pick (ltb (suc (n + x)) (suc n)) (later (sourceNumber lo hi acts (suc (n + x) - suc n))) (not-T (ltb (suc (n + x)) (suc n)) (λ t. omega (arith, ltb→lt (suc (n + x)) (suc n) t)))
+      ∙ ap (λ (y : ℕ). later (sourceNumber lo hi acts y)) (omega arith)
+    where
+      n : ℕ
+      n = countActions (stagesOf lo hi (a .effect))
+
+  pub own-opn : (acts : List SourceAction) (k : ℕ) (a : SourceAction) → getElem? acts k ≡ some a → sourceNumber lo hi acts (opening lo hi acts k) ≡ some k
+  own-opn [] k a e = absurd (Option·none-ne-some a e)
+  own-opn (a₀ ∷ acts) zero a e = refl
+  own-opn (a₀ ∷ acts) (suc k) a e = own-past a₀ acts (opening lo hi acts k) ∙ ap later (own-opn acts k a e)
+
+  pub own-in : (acts : List SourceAction) (k : ℕ) (a : SourceAction) (m : ℕ) → getElem? acts k ≡ some a → opening lo hi acts k < m → m < opening lo hi acts k + macroSize lo hi a → sourceNumber lo hi acts m ≡ none
+  own-in [] k a m e h l = absurd (Option·none-ne-some a e)
+  own-in (a₀ ∷ acts) zero a zero e h l = absurd (omega arith)
+  own-in (a₀ ∷ acts) zero a (suc m) e h l = drop-it (ltb (suc m) (macroSize lo hi a₀)) (later (sourceNumber lo hi acts (suc m - macroSize lo hi a₀)))
+      (lt→ltb (suc m) (macroSize lo hi a₀) (omega (arith, ap (macroSize lo hi) (unsome e))))
+  own-in (a₀ ∷ acts) (suc k) a m e h l = ap (sourceNumber lo hi (a₀ ∷ acts)) (sym back) ∙ own-past a₀ acts (m - macroSize lo hi a₀)
+      ∙ ap later (own-in acts k a (m - macroSize lo hi a₀) e (omega arith) (omega arith))
+    where
+      back : macroSize lo hi a₀ + (m - macroSize lo hi a₀) ≡ m
+      back = omega arith

@@ -1,0 +1,397 @@
+-- The systems over lists and numbers go the same way as those over named variables; so the pairing of plans holds of them.
+-- Assumes nothing.
+use mathlib.Core.Path.{_≡_, refl, sym, ap, ap₂, _∙_, subst, fun-ext}
+use Prim.Native.Nat.{ℕ, zero, suc, _+_, _≤_, _<_}
+use native.Mathlib.Omega.{arith}
+use mathlib.Core.Bool.{_&&_, Bool, true, false, cond}
+use mathlib.Core.Option.{Option, none, some, Option·none-ne-some}
+use mathlib.Core.List.{List, [], _∷_, _++_}
+use lib.ListN.{length, length-set, set}
+use lib.Dec.{T, eqb, eqb→eq}
+use lib.IntN.{ℤ, pos, negsuc, negℤ, _-ℤ_}
+use lib.Signed.{ltZ}
+use Rattle.model.specs.Systems.{bind, orEmpty, orZero, runPlan, keep, expandFrom, totalPrice, provided}
+use Rattle.integers.specs.All.{All}
+use Rattle.model.specs.Walks.{Pairing}
+use Rattle.model.specs.Tasks.{Measured, variable, weightedSum, NumericCondition, SourceAction, Effect, noEffect, addEffect, linearEffect, quotientEffect, residueEffect, State}
+use Rattle.integers.specs.Relation.{atMost, atLeast}
+use Rattle.model.specs.Steps.{conditionsHold, modesHold, result, withinBounds, integerAt, naturalAt, setAll, appliesRestricted, applyRestricted, restrictedStep, putResult, trySource, sourceStep}
+use Rattle.model.specs.NamedSystems.{modeEffectOn, orDefault, setModes, NamedState, applies, apply, stepNamed, NamedSource, store, conditionsMet, tryNamedSource, stepNamedSource, atRest, stageSteps, priceAt, byName, afterAction}
+use Rattle.model.specs.Stages.{Name, source, helperA, helperB, NamedAction, Stage, when, opposite, stageActions, firstStage, stagesActions, drain, refill, divide, empty, clear, move, drainTerms, stagesOf, addedBound, openingAdditions, onSourceTerms, onSource, onSourceVariables, lowerActions, opening, sourceNumber}
+use Rattle.model.specs.Expansion.{sameName, additionTo, namedValues, stageStepsFrom, priceFrom}
+use Rattle.model.specs.Lowering.{numberedMeasure, numberedConditions, numberedAdditions, numbered, numberedAll, helpersAtRest, loweredActions}
+use Rattle.model.specs.InTask.{NameIn, MeasureIn, Once, EffectIn, ActionIn, SourceGoal, LoweredGoal}
+use Rattle.model.proofs.Pairing.{unsome}
+use Rattle.model.proofs.StageWalk.{both-in, both-out, all-app}
+use Rattle.model.proofs.Outcomes.{Good}
+use Rattle.model.proofs.NamedPairing.{plans-pair-off, GoalS, GoalR}
+use Rattle.model.proofs.Arrays.{get-set, list-ext, OnceV, Laid, laid-all, laid-conds, LaidM, laidM-all, laidM-set, laidM-holds}
+
+-- ---- two systems that go together
+abbrev pub Agree : {X Y : Type 0} → (X → Y → Type 0) → Option X → Option Y → Type 0
+Agree Sim none none = Unit {0}
+Agree Sim none (some y) = ⊥
+Agree Sim (some x) none = ⊥
+Agree Sim (some x) (some y) = Sim x y
+
+module _ {X Y : Type 0} (Sim : X → Y → Type 0) where
+  pub agree-left : (o : Option X) (o′ : Option Y) (x : X) → Agree Sim o o′ → o ≡ some x → (y : Y) × (o′ ≡ some y) × Sim x y
+  agree-left none o′ x h e = absurd (Option·none-ne-some x e)
+  agree-left (some u) none x h e = absurd h
+  agree-left (some u) (some y) x h e = (y, refl, subst (λ (v : X). Sim v y) (unsome e) h)
+
+  pub agree-right : (o : Option X) (o′ : Option Y) (y : Y) → Agree Sim o o′ → o′ ≡ some y → (x : X) × (o ≡ some x) × Sim x y
+  agree-right o none y h e = absurd (Option·none-ne-some y e)
+  agree-right none (some v) y h e = absurd h
+  agree-right (some x) (some v) y h e = (x, refl, subst (Sim x) (unsome e) h)
+
+  pub agree-run : (stepX : X → ℕ → Option X) (stepY : Y → ℕ → Option Y) → ((x : X) (y : Y) (k : ℕ) → Sim x y → Agree Sim (stepX x k) (stepY y k))
+      → (q : List ℕ) (x : X) (y : Y) → Sim x y → Agree Sim (runPlan stepX q x) (runPlan stepY q y)
+  agree-run stepX stepY h [] x y s = s
+  agree-run stepX stepY h (k ∷ q) x y s = go (stepX x k) (stepY y k) (h x y k s) (agree-run stepX stepY h q)
+    where
+      go : (o : Option X) (o′ : Option Y) → Agree Sim o o′ → ((x : X) (y : Y) → Sim x y → Agree Sim (runPlan stepX q x) (runPlan stepY q y)) → Agree Sim (bind o (runPlan stepX q)) (bind o′ (runPlan stepY q))
+      go none none a ih = tt
+      go none (some y) a ih = absurd a
+      go (some x) none a ih = absurd a
+      go (some x) (some y) a ih = ih x y a
+
+  pub agree-given : (b b′ : Bool) (x : X) (y : Y) → b ≡ b′ → (T b′ → Sim x y) → Agree Sim (provided b x) (provided b′ y)
+  agree-given b true x y e h = subst (λ (c : Bool). Agree Sim (provided c x) (some y)) (sym e) (h tt)
+  agree-given b false x y e h = subst (λ (c : Bool). Agree Sim (provided c x) none) (sym e) tt
+
+-- ---- rows
+pub record RowIn (n m : ℕ) (r : NamedAction) : Type 0 where
+  pub modeConditionsIn : All (λ (p : ℕ × ℕ). p .0 < m) (r .modeConditions)
+  pub conditionsIn : All (λ (c : NumericCondition Name). MeasureIn (NameIn n) (c .measured)) (r .conditions)
+  pub modeEffectsIn : All (λ (p : ℕ × ℕ). p .0 < m) (r .modeEffects)
+  pub modeEffectsOnce : Once (r .modeEffects)
+  pub additionsIn : All (λ (e : Name × ℤ). NameIn n (e .0)) (r .additions)
+  pub additionsOnce : OnceV (r .additions)
+
+abbrev pub SimR : ℕ → ℕ → State → NamedState → Type 0
+SimR n m X x = Laid n (X .values) (x .value) × LaidM m (X .modes) (x .mode) (x .control)
+
+setAll-app : (es fs : List (ℕ × ℕ)) (l : List ℕ) → setAll (es ++ fs) l ≡ setAll fs (setAll es l)
+setAll-app [] fs l = refl
+setAll-app (e ∷ es) fs l = setAll-app es fs (set l (e .0) (e .1))
+
+shuffle : (a b c : Bool) → (((a && b)) && c) ≡ (b && ((a && c)))
+shuffle true true c = refl
+shuffle true false c = refl
+shuffle false true c = refl
+shuffle false false c = refl
+
+row-applies : (n m : ℕ) (r : NamedAction) (X : State) (x : NamedState) → RowIn n m r → SimR n m X x → appliesRestricted (numbered n m r) X ≡ applies r x
+row-applies n m r X x i (L, M) = ap₂ _&&_ (laidM-holds m (r .modeConditions) (X .modes) (x .mode) (x .control) (r .control) (i .modeConditionsIn) M) (laid-conds n (r .conditions) (X .values) (x .value) (i .conditionsIn) L)
+    ∙ shuffle (modesHold (r .modeConditions) (x .mode)) (eqb (x .control) (r .control)) (conditionsHold (r .conditions) (x .value))
+
+row-apply : (n m : ℕ) (r : NamedAction) (X : State) (x : NamedState) → RowIn n m r → SimR n m X x → T (applies r x) → SimR n m (applyRestricted (numbered n m r) X) (apply r x)
+row-apply n m r X x i (L, M) t = (
+  laid-all n (r .additions) (X .values) (x .value) (i .additionsIn) (i .additionsOnce) L,
+  subst (λ (u : List ℕ). LaidM m u (setModes (r .modeEffects) (x .mode)) (r .nextControl)) (sym (setAll-app (r .modeEffects) (cond (eqb (r .control) (r .nextControl)) [] ((m, r .nextControl) ∷ [])) (X .modes)))
+      (go (eqb (r .control) (r .nextControl)) refl),
+)
+  where
+    M′ : LaidM m (setAll (r .modeEffects) (X .modes)) (setModes (r .modeEffects) (x .mode)) (x .control)
+    M′ = laidM-all m (r .modeEffects) (X .modes) (x .mode) (x .control) (i .modeEffectsIn) (i .modeEffectsOnce) M
+
+    go : (b : Bool) → eqb (r .control) (r .nextControl) ≡ b → LaidM m (setAll (cond b [] ((m, r .nextControl) ∷ [])) (setAll (r .modeEffects) (X .modes))) (setModes (r .modeEffects) (x .mode)) (r .nextControl)
+    go true e = subst (LaidM m (setAll (r .modeEffects) (X .modes)) (setModes (r .modeEffects) (x .mode)))
+        (eqb→eq (x .control) (r .control) (both-out (eqb (x .control) (r .control)) (((modesHold (r .modeConditions) (x .mode)) && (conditionsHold (r .conditions) (x .value)))) t .0) ∙ eqb→eq (r .control) (r .nextControl) (subst T (sym e) tt)) M′
+    go false e = laidM-set m (setAll (r .modeEffects) (X .modes)) (setModes (r .modeEffects) (x .mode)) (x .control) (r .nextControl) M′
+
+pub rows-agree : (n m : ℕ) (R : List NamedAction) → All (RowIn n m) R → (X : State) (x : NamedState) (k : ℕ) → SimR n m X x → Agree (SimR n m) (restrictedStep (numberedAll n m R) X k) (stepNamed R x k)
+rows-agree n m [] i X x k s = tt
+rows-agree n m (r ∷ R) (i, is) X x zero s = agree-given (SimR n m) (appliesRestricted (numbered n m r) X) (applies r x) (applyRestricted (numbered n m r) X) (apply r x) (row-applies n m r X x i s) (row-apply n m r X x i s)
+rows-agree n m (r ∷ R) (i, is) X x (suc k) s = rows-agree n m R is X x k s
+
+-- ---- every row of a lowered task is in range
+pub record StageIn (n : ℕ) (d : Stage) : Type 0 where
+  pub cIn : NameIn n (d .counter)
+  pub aIn : All (λ (e : Name × ℤ). NameIn n (e .0)) (d .additions)
+  pub aOnce : OnceV (d .additions)
+  pub xIn : All (λ (c : NumericCondition Name). MeasureIn (NameIn n) (c .measured)) (d .turnConditions)
+  pub tIn : All (λ (e : Name × ℤ). NameIn n (e .0)) (d .turnAdditions)
+  pub tOnce : OnceV (d .turnAdditions)
+
+opposite-in : (n : ℕ) (es : List (Name × ℤ)) → All (λ (e : Name × ℤ). NameIn n (e .0)) es → All (λ (e : Name × ℤ). NameIn n (e .0)) (opposite es)
+opposite-in n [] h = tt
+opposite-in n (e ∷ es) (h, hs) = (h, opposite-in n es hs)
+
+opposite-none : (es : List (Name × ℤ)) (w : Name) → additionTo es w ≡ none → additionTo (opposite es) w ≡ none
+opposite-none [] w h = refl
+opposite-none (e ∷ es) w h = go (sameName (e .0) w) h (opposite-none es w)
+  where
+    go : (b : Bool) → cond b (some (e .1)) (additionTo es w) ≡ none → (additionTo es w ≡ none → additionTo (opposite es) w ≡ none) → cond b (some (negℤ (e .1))) (additionTo (opposite es) w) ≡ none
+    go true h k = absurd (Option·none-ne-some (e .1) (sym h))
+    go false h k = k h
+
+opposite-once : (es : List (Name × ℤ)) → OnceV es → OnceV (opposite es)
+opposite-once [] h = tt
+opposite-once (e ∷ es) (h, hs) = (opposite-none es (e .0) h, opposite-once es hs)
+
+rows-in : (n m : ℕ) (ds : List Stage) (s : ℕ) → All (StageIn n) ds → All (RowIn n m) (stagesActions s ds)
+rows-in n m [] s h = tt
+rows-in n m (d ∷ ds) s (h, hs) = all-app (RowIn n m) (stageActions s d (firstStage (suc s) ds)) (stagesActions (suc s) ds) (
+  record { modeConditionsIn = tt; conditionsIn = (h .cIn, tt); modeEffectsIn = tt; modeEffectsOnce = tt; additionsIn = h .aIn; additionsOnce = h .aOnce },
+  (
+    record { modeConditionsIn = tt; conditionsIn = (h .cIn, tt); modeEffectsIn = tt; modeEffectsOnce = tt; additionsIn = opposite-in n (d .additions) (h .aIn); additionsOnce = opposite-once (d .additions) (h .aOnce) },
+    (record { modeConditionsIn = tt; conditionsIn = (h .cIn, (h .cIn, h .xIn)); modeEffectsIn = tt; modeEffectsOnce = tt; additionsIn = h .tIn; additionsOnce = h .tOnce }, tt),
+  ),
+)
+    (rows-in n m ds (suc s) hs)
+
+module _ (n : ℕ) where
+  drain-in : (t : ℕ) (w : ℤ) → t < n → StageIn n (drain t w)
+  drain-in t w h = record { cIn = h; aIn = (h, (tt, (tt, tt))); aOnce = (refl, (refl, (refl, tt))); xIn = tt; tIn = tt; tOnce = tt }
+
+  refill-in : (t : ℕ) → t < n → StageIn n (refill t)
+  refill-in t h = record { cIn = tt; aIn = (h, (tt, tt)); aOnce = (refl, (refl, tt)); xIn = tt; tIn = tt; tOnce = tt }
+
+  divide-in : (c : ℤ) → StageIn n (divide c)
+  divide-in c = record { cIn = tt; aIn = (tt, (tt, tt)); aOnce = (refl, (refl, tt)); xIn = tt; tIn = tt; tOnce = tt }
+
+  empty-in : (v : Name) → NameIn n v → StageIn n (empty v)
+  empty-in v h = record { cIn = h; aIn = (h, tt); aOnce = (refl, tt); xIn = tt; tIn = tt; tOnce = tt }
+
+  clear-in : (t : ℕ) → t < n → StageIn n (clear t)
+  clear-in t h = record { cIn = h; aIn = (h, tt); aOnce = (refl, tt); xIn = tt; tIn = tt; tOnce = tt }
+
+  move-in : (t : ℕ) (f : Name) (lo hi : ℤ) → t < n → NameIn n f → sameName f (source t) ≡ false → StageIn n (move t f lo hi)
+  move-in t f lo hi h k e = record { cIn = k; aIn = (h, (k, tt)); aOnce = (ap (λ (b : Bool). cond b (some (negsuc 0)) none) e, (refl, tt)); xIn = (h, (h, tt)); tIn = tt; tOnce = tt }
+
+  terms-in : (ts : List (ℕ × ℤ)) (ds : List Stage) → All (λ (p : ℕ × ℤ). p .0 < n) ts → All (StageIn n) ds → All (StageIn n) (drainTerms ts ds)
+  terms-in [] ds h k = k
+  terms-in (t ∷ ts) ds (h, hs) k = (drain-in (t .0) (t .1) h, (refill-in (t .0) h, terms-in ts ds hs k))
+
+  stages-in : (lo hi : ℕ → ℤ) (e : Effect) → EffectIn n e → All (StageIn n) (stagesOf lo hi e)
+  stages-in lo hi noEffect h = tt
+  stages-in lo hi (addEffect t c) h = tt
+  stages-in lo hi (linearEffect t w ts) (h, hs) = terms-in ts (stagesOf lo hi (linearEffect t w [])) hs (clear-in t h, (move-in t helperA (lo t) (hi t) h tt refl, tt))
+  stages-in lo hi (quotientEffect t y c) (h, k) = (drain-in y (pos 1) k, (refill-in y k, (divide-in c, (empty-in helperA tt, (clear-in t h, (move-in t helperB (lo t) (hi t) h tt refl, tt))))))
+  stages-in lo hi (residueEffect t y c) (h, k) = (drain-in y (pos 1) k, (refill-in y k, (divide-in c, (empty-in helperB tt, (clear-in t h, (move-in t helperA (lo t) (hi t) h tt refl, tt))))))
+
+lift-in : (n : ℕ) (cs : List (NumericCondition ℕ)) → All (λ (c : NumericCondition ℕ). MeasureIn (λ (i : ℕ). i < n) (c .measured)) cs → All (λ (c : NumericCondition Name). MeasureIn (NameIn n) (c .measured)) (onSourceVariables cs)
+lift-in n [] h = tt
+lift-in n (c ∷ cs) (h, hs) = (lhs (c .measured) h, lift-in n cs hs)
+  where
+    lhs : (l : Measured ℕ) → MeasureIn (λ (i : ℕ). i < n) l → MeasureIn (NameIn n) (onSource l)
+    lhs (variable i) h = h
+    lhs (weightedSum ts) h = absurd h
+
+bound-in : (n : ℕ) (lo hi : ℕ → ℤ) (e : Effect) → EffectIn n e → All (λ (c : NumericCondition Name). MeasureIn (NameIn n) (c .measured)) (addedBound lo hi e)
+bound-in n lo hi noEffect h = tt
+bound-in n lo hi (addEffect t c) h = (which (ltZ (pos 0) c) (when (source t) atMost (hi t -ℤ c)) (when (source t) atLeast (lo t -ℤ c)) h h, tt)
+  where
+    which : (b : Bool) (x y : NumericCondition Name) → MeasureIn (NameIn n) (x .measured) → MeasureIn (NameIn n) (y .measured) → MeasureIn (NameIn n) ((cond b x y) .measured)
+    which true x y h k = h
+    which false x y h k = k
+bound-in n lo hi (linearEffect t w ts) h = tt
+bound-in n lo hi (quotientEffect t y c) h = tt
+bound-in n lo hi (residueEffect t y c) h = tt
+
+start-in : (n : ℕ) (e : Effect) → EffectIn n e → All (λ (e : Name × ℤ). NameIn n (e .0)) (openingAdditions e) × OnceV (openingAdditions e)
+start-in n noEffect h = (tt, tt)
+start-in n (addEffect t c) h = ((h, tt), (refl, tt))
+start-in n (linearEffect t (pos zero) ts) h = (tt, tt)
+start-in n (linearEffect t (pos (suc w)) ts) h = ((tt, tt), (refl, tt))
+start-in n (linearEffect t (negsuc w) ts) h = ((tt, tt), (refl, tt))
+start-in n (quotientEffect t y c) h = (tt, tt)
+start-in n (residueEffect t y c) h = (tt, tt)
+
+pub lower-in : (n m : ℕ) (lo hi : ℕ → ℤ) (acts : List SourceAction) (s : ℕ) → All (ActionIn n m) acts → All (RowIn n m) (lowerActions lo hi s acts)
+lower-in n m lo hi [] s h = tt
+lower-in n m lo hi (a ∷ acts) s (h, hs) = (
+  record {
+    modeConditionsIn = h .modeConditionsIn;
+    conditionsIn = all-app (λ (c : NumericCondition Name). MeasureIn (NameIn n) (c .measured)) (onSourceVariables (a .conditions)) (addedBound lo hi (a .effect)) (lift-in n (a .conditions) (h .conditionsIn)) (bound-in n lo hi (a .effect) (h .effectIn));
+    modeEffectsIn = h .modeEffectsIn;
+    modeEffectsOnce = h .modeEffectsOnce;
+    additionsIn = start-in n (a .effect) (h .effectIn) .0;
+    additionsOnce = start-in n (a .effect) (h .effectIn) .1;
+  },
+  all-app (RowIn n m) (stagesActions s (stagesOf lo hi (a .effect))) (lowerActions lo hi (s + length (stagesOf lo hi (a .effect))) acts)
+      (rows-in n m (stagesOf lo hi (a .effect)) s (stages-in n lo hi (a .effect) (h .effectIn)))
+      (lower-in n m lo hi acts (s + length (stagesOf lo hi (a .effect))) hs),
+)
+
+-- ---- source states
+abbrev pub SimT : ℕ → ℕ → State → NamedSource → Type 0
+SimT n m X s = (length (X .values) ≡ n) × (length (X .modes) ≡ m) × (s ≡ byName X)
+
+modes-all : (es : List (ℕ × ℕ)) (m : ℕ) (l : List ℕ) → length l ≡ m → All (λ (e : ℕ × ℕ). e .0 < m) es → Once es → (length (setAll es l) ≡ m) × (setModes es (naturalAt l) ≡ naturalAt (setAll es l))
+modes-all [] m l h i o = (h, refl)
+modes-all (e ∷ es) m l h (i, is) (o, os) =
+    let (h′, r) = modes-all es m (set l (e .0) (e .1)) (length-set l (e .0) (e .1) ∙ h) is os in
+    (h′, fun-ext (λ k. pick k (eqb (e .0) k) refl ∙ ap (orDefault (modeEffectOn es k)) (sym (get-set l (e .0) k (e .1) 0 (omega (arith, h, i))))) ∙ r)
+  where
+    pick : (k : ℕ) (b : Bool) → eqb (e .0) k ≡ b → orDefault (cond b (some (e .1)) (modeEffectOn es k)) (naturalAt l k) ≡ orDefault (modeEffectOn es k) (cond b (e .1) (naturalAt l k))
+    pick k true q = sym (ap (λ (r : Option ℕ). orDefault r (e .1)) (ap (modeEffectOn es) (sym (eqb→eq (e .0) k (subst T (sym q) tt))) ∙ o))
+    pick k false q = refl
+
+put-store : (o : Option (ℕ × ℤ)) (l : List ℤ) → ((p : ℕ × ℤ) → o ≡ some p → p .0 < length l) → (length (putResult o l) ≡ length l) × (store o (integerAt l) ≡ integerAt (putResult o l))
+put-store none l h = (refl, refl)
+put-store (some p) l h = (length-set l (p .0) (p .1), fun-ext (λ j. sym (get-set l (p .0) j (p .1) (pos 0) (h p refl))))
+
+target-in : (n : ℕ) (e : Effect) (v : ℕ → ℤ) → EffectIn n e → (p : ℕ × ℤ) → result e v ≡ some p → p .0 < n
+target-in n noEffect v h p e = absurd (Option·none-ne-some p e)
+target-in n (addEffect t c) v h p e = subst (λ (q : ℕ × ℤ). q .0 < n) (unsome e) h
+target-in n (linearEffect t w ts) v h p e = subst (λ (q : ℕ × ℤ). q .0 < n) (unsome e) (h .0)
+target-in n (quotientEffect t y c) v h p e = subst (λ (q : ℕ × ℤ). q .0 < n) (unsome e) (h .0)
+target-in n (residueEffect t y c) v h p e = subst (λ (q : ℕ × ℤ). q .0 < n) (unsome e) (h .0)
+
+num-lift : (n : ℕ) (cs : List (NumericCondition ℕ)) → numberedConditions n (onSourceVariables cs) ≡ cs
+num-lift n [] = refl
+num-lift n (c ∷ cs) = λ i. record { measured = lhs (c .measured) i; relation = c .relation; constant = c .constant } ∷ num-lift n cs i
+  where
+    sums : (ts : List (ℕ × ℤ)) → numberedAdditions n (onSourceTerms ts) ≡ ts
+    sums [] = refl
+    sums (t ∷ ts) = ap (λ (r : List (ℕ × ℤ)). t ∷ r) (sums ts)
+
+    lhs : (l : Measured ℕ) → numberedMeasure n (onSource l) ≡ l
+    lhs (variable i) = refl
+    lhs (weightedSum ts) = ap weightedSum (sums ts)
+
+module _ (n m : ℕ) (lo hi : ℕ → ℤ) where
+  goal-conds : (cs : List (NumericCondition ℕ)) → All (λ (c : NumericCondition ℕ). MeasureIn (λ (i : ℕ). i < n) (c .measured)) cs → (l : List ℤ) (f : Name → ℤ) → Laid n l f → conditionsHold cs (integerAt l) ≡ conditionsHold (onSourceVariables cs) f
+  goal-conds cs i l f L = ap (λ (u : List (NumericCondition ℕ)). conditionsHold u (integerAt l)) (sym (num-lift n cs)) ∙ laid-conds n (onSourceVariables cs) l f (lift-in n cs i) L
+
+  fire-agree : (a : SourceAction) → ActionIn n m a → (X : State) → length (X .values) ≡ n → length (X .modes) ≡ m → Agree (SimT n m) (trySource lo hi X a) (tryNamedSource lo hi (byName X) a)
+  fire-agree a i X h k = agree-given (SimT n m) tst tst (record { values = putResult (result (a .effect) (integerAt (X .values))) (X .values); modes = setAll (a .modeEffects) (X .modes) }) (afterAction a (byName X)) refl
+      (λ t. (
+        put-store (result (a .effect) (integerAt (X .values))) (X .values) tin .0 ∙ h,
+        modes-all (a .modeEffects) m (X .modes) k (i .modeEffectsIn) (i .modeEffectsOnce) .0,
+        λ j. record { value = put-store (result (a .effect) (integerAt (X .values))) (X .values) tin .1 j; mode = modes-all (a .modeEffects) m (X .modes) k (i .modeEffectsIn) (i .modeEffectsOnce) .1 j },
+      ))
+    where
+      tst : Bool
+      tst = ((conditionsMet a (byName X)) && (withinBounds lo hi (result (a .effect) (integerAt (X .values)))))
+
+      tin : (p : ℕ × ℤ) → result (a .effect) (integerAt (X .values)) ≡ some p → p .0 < length (X .values)
+      tin p e = subst (λ (c : ℕ). p .0 < c) (sym h) (target-in n (a .effect) (integerAt (X .values)) (i .effectIn) p e)
+
+  pub acts-agree : (acts : List SourceAction) → All (ActionIn n m) acts → (X : State) (s : NamedSource) (k : ℕ) → SimT n m X s → Agree (SimT n m) (sourceStep lo hi acts X k) (stepNamedSource lo hi acts s k)
+  acts-agree [] i X s k h = tt
+  acts-agree (a ∷ acts) (i, is) X s zero h = subst (λ (u : NamedSource). Agree (SimT n m) (trySource lo hi X a) (tryNamedSource lo hi u a)) (sym (h .2)) (fire-agree a i X (h .0) (h .1))
+  acts-agree (a ∷ acts) (i, is) X s (suc k) h = acts-agree acts is X s k h
+
+  -- a restricted state over lists that stands for a source state at rest
+  at-rest : (Y X : State) → length (X .values) ≡ n → length (X .modes) ≡ m → SimR n m Y (atRest (byName X)) → Y ≡ helpersAtRest X
+  at-rest Y X h k (L, M) = λ i. record { values = (L .is ∙ vs) i; modes = (M .is ∙ ms) i }
+    where
+      v-is : L .V₀ ≡ X .values
+      v-is = list-ext (L .V₀) (X .values) (pos 0) (L .lengths ∙ sym h) (λ j. ap (λ (f : Name → ℤ). f (source j)) (sym (L .reads)))
+
+      vs : L .V₀ ++ (L .a ∷ L .b ∷ []) ≡ X .values ++ (pos 0 ∷ pos 0 ∷ [])
+      vs = λ i. v-is i ++ (ap (λ (f : Name → ℤ). f helperA) (sym (L .reads)) i ∷ ap (λ (f : Name → ℤ). f helperB) (sym (L .reads)) i ∷ [])
+
+      ms : M .M₀ ++ (0 ∷ []) ≡ X .modes ++ (0 ∷ [])
+      ms = ap (λ (u : List ℕ). u ++ (0 ∷ [])) (list-ext (M .M₀) (X .modes) 0 (M .lengths ∙ sym k) (λ j. ap (λ (f : ℕ → ℕ). f j) (sym (M .reads))))
+
+  emb-sim : (X : State) → length (X .values) ≡ n → length (X .modes) ≡ m → SimR n m (helpersAtRest X) (atRest (byName X))
+  emb-sim X h k = (record { V₀ = X .values; a = pos 0; b = pos 0; lengths = h; is = refl; reads = refl }, record { M₀ = X .modes; lengths = k; is = refl; reads = refl })
+
+  module _ (acts : List SourceAction) (acts-in : All (ActionIn n m) acts) where
+    expand-sim : (p : List ℕ) (X : State) (s : NamedSource) → SimT n m X s
+        → expandFrom (sourceStep lo hi acts) (opening lo hi acts) (stageStepsFrom lo hi acts) p X ≡ expandFrom (stepNamedSource lo hi acts) (opening lo hi acts) (stageSteps lo hi acts) p s
+    expand-sim [] X s h = refl
+    expand-sim (k ∷ p) X s h = λ i. opening lo hi acts k ∷ (stageSteps lo hi acts (sym (h .2) i) k ++ rest (sourceStep lo hi acts X k) (stepNamedSource lo hi acts s k) (acts-agree acts acts-in X s k h) (expand-sim p) i)
+      where
+        rest : (o : Option State) (o′ : Option NamedSource) → Agree (SimT n m) o o′
+            → ((X : State) (s : NamedSource) → SimT n m X s → expandFrom (sourceStep lo hi acts) (opening lo hi acts) (stageStepsFrom lo hi acts) p X ≡ expandFrom (stepNamedSource lo hi acts) (opening lo hi acts) (stageSteps lo hi acts) p s)
+            → orEmpty o (expandFrom (sourceStep lo hi acts) (opening lo hi acts) (stageStepsFrom lo hi acts) p) ≡ orEmpty o′ (expandFrom (stepNamedSource lo hi acts) (opening lo hi acts) (stageSteps lo hi acts) p)
+        rest none none a ih = refl
+        rest none (some y) a ih = absurd a
+        rest (some x) none a ih = absurd a
+        rest (some x) (some y) a ih = ih x y a
+
+    total-sim : (p : List ℕ) (X : State) (s : NamedSource) → SimT n m X s → totalPrice (sourceStep lo hi acts) (priceFrom acts) p X ≡ totalPrice (stepNamedSource lo hi acts) (priceAt acts) p s
+    total-sim [] X s h = refl
+    total-sim (k ∷ p) X s h = ap₂ (λ (x y : ℕ). x + y) (ap (λ (u : NamedSource). priceAt acts u k) (sym (h .2)))
+        (rest (sourceStep lo hi acts X k) (stepNamedSource lo hi acts s k) (acts-agree acts acts-in X s k h) (total-sim p))
+      where
+        rest : (o : Option State) (o′ : Option NamedSource) → Agree (SimT n m) o o′
+            → ((X : State) (s : NamedSource) → SimT n m X s → totalPrice (sourceStep lo hi acts) (priceFrom acts) p X ≡ totalPrice (stepNamedSource lo hi acts) (priceAt acts) p s)
+            → orZero o (totalPrice (sourceStep lo hi acts) (priceFrom acts) p) ≡ orZero o′ (totalPrice (stepNamedSource lo hi acts) (priceAt acts) p)
+        rest none none a ih = refl
+        rest none (some y) a ih = absurd a
+        rest (some x) none a ih = absurd a
+        rest (some x) (some y) a ih = ih x y a
+
+    abbrev R : List NamedAction
+    R = lowerActions lo hi 1 acts
+
+    restricted-agrees : (q : List ℕ) (X : State) → length (X .values) ≡ n → length (X .modes) ≡ m → Agree (SimR n m) (runPlan (restrictedStep (loweredActions n m lo hi acts)) q (helpersAtRest X)) (runPlan (stepNamed R) q (atRest (byName X)))
+    restricted-agrees q X h k = agree-run (SimR n m) (restrictedStep (loweredActions n m lo hi acts)) (stepNamed R) (λ Y y j. rows-agree n m R (lower-in n m lo hi acts 1 acts-in) Y y j) q (helpersAtRest X) (atRest (byName X)) (emb-sim X h k)
+
+    source-agrees : (p : List ℕ) (X : State) → length (X .values) ≡ n → length (X .modes) ≡ m → Agree (SimT n m) (runPlan (sourceStep lo hi acts) p X) (runPlan (stepNamedSource lo hi acts) p (byName X))
+    source-agrees p X h k = agree-run (SimT n m) (sourceStep lo hi acts) (stepNamedSource lo hi acts) (λ Y y j. acts-agree acts acts-in Y y j) p X (byName X) (h, k, refl)
+
+    pub whole : (gp : List (ℕ × ℕ)) (gc : List (NumericCondition ℕ)) → All (λ (p : ℕ × ℕ). p .0 < m) gp → All (λ (c : NumericCondition ℕ). MeasureIn (λ (i : ℕ). i < n) (c .measured)) gc
+        → (X₀ : State) → length (X₀ .values) ≡ n → length (X₀ .modes) ≡ m → Good lo hi (byName X₀)
+        → Pairing (sourceStep lo hi acts) (restrictedStep (loweredActions n m lo hi acts)) helpersAtRest (opening lo hi acts) (sourceNumber lo hi acts) (stageStepsFrom lo hi acts) (priceFrom acts)
+        X₀ (SourceGoal gp gc) (LoweredGoal m gp gc) 1_000_000
+    whole gp gc gpIn gcIn X₀ h k g = record {
+      forth = λ p X′ r goal l.
+          let (s′, r′, sim) = agree-left (SimT n m) (runPlan (sourceStep lo hi acts) p X₀) (runPlan (stepNamedSource lo hi acts) p (byName X₀)) X′ (source-agrees p X₀ h k) r in
+          to p X′ s′ r′ sim goal l;
+      lengths = λ p X′ r.
+          let (s′, r′, sim) = agree-left (SimT n m) (runPlan (sourceStep lo hi acts) p X₀) (runPlan (stepNamedSource lo hi acts) p (byName X₀)) X′ (source-agrees p X₀ h k) r in
+          ap length (ex-is p) ∙ P .lengths p s′ r′ ∙ sym (total-sim p X₀ (byName X₀) (h, k, refl));
+      back = λ q Y r goal l.
+          let (y, r′, sim) = agree-left (SimR n m) (runPlan (restrictedStep (loweredActions n m lo hi acts)) q (helpersAtRest X₀)) (runPlan (stepNamed R) q (atRest (byName X₀))) Y (restricted-agrees q X₀ h k) r in
+          fro q Y y r′ sim goal l;
+    }
+      where
+        P : Pairing (stepNamedSource lo hi acts) (stepNamed R) atRest (opening lo hi acts) (sourceNumber lo hi acts) (stageSteps lo hi acts) (priceAt acts) (byName X₀) (GoalS lo hi acts gp gc) (GoalR lo hi acts gp gc) 1_000_000
+        P = plans-pair-off lo hi acts gp gc (byName X₀) g
+
+        ex : List ℕ → List ℕ
+        ex p = expandFrom (sourceStep lo hi acts) (opening lo hi acts) (stageStepsFrom lo hi acts) p X₀
+
+        ex-is : (p : List ℕ) → ex p ≡ expandFrom (stepNamedSource lo hi acts) (opening lo hi acts) (stageSteps lo hi acts) p (byName X₀)
+        ex-is p = expand-sim p X₀ (byName X₀) (h, k, refl)
+
+        goal-in : (Y : State) (y : NamedState) → SimR n m Y y → LoweredGoal m gp gc Y → GoalR lo hi acts gp gc y
+        goal-in Y y (L, M) (a, b) =
+            let (a₁, a₂) = both-out (modesHold gp (y .mode)) (eqb (y .control) 0) (subst T (laidM-holds m gp (Y .modes) (y .mode) (y .control) 0 gpIn M) a) in
+            (a₁, subst T (goal-conds gc gcIn (Y .values) (y .value) L) b, eqb→eq (y .control) 0 a₂)
+
+        goal-out : (Y : State) (y : NamedState) → SimR n m Y y → GoalR lo hi acts gp gc y → LoweredGoal m gp gc Y
+        goal-out Y y (L, M) (a, b, c) = (
+          subst T (sym (laidM-holds m gp (Y .modes) (y .mode) (y .control) 0 gpIn M)) (both-in (modesHold gp (y .mode)) (eqb (y .control) 0) a (subst (λ (u : ℕ). T (eqb u 0)) (sym c) tt)),
+          subst T (sym (goal-conds gc gcIn (Y .values) (y .value) L)) b,
+        )
+
+        arrive : (q : List ℕ) (X′ : State) → length (X′ .values) ≡ n → length (X′ .modes) ≡ m → runPlan (stepNamed R) q (atRest (byName X₀)) ≡ some (atRest (byName X′)) → runPlan (restrictedStep (loweredActions n m lo hi acts)) q (helpersAtRest X₀) ≡ some (helpersAtRest X′)
+        arrive q X′ hv hm r =
+            let (Y, r′, sim) = agree-right (SimR n m) (runPlan (restrictedStep (loweredActions n m lo hi acts)) q (helpersAtRest X₀)) (runPlan (stepNamed R) q (atRest (byName X₀))) (atRest (byName X′)) (restricted-agrees q X₀ h k) r in
+            r′ ∙ ap {B = Option State} some (at-rest Y X′ hv hm sim)
+
+        to : (p : List ℕ) (X′ : State) (s′ : NamedSource) → runPlan (stepNamedSource lo hi acts) p (byName X₀) ≡ some s′ → SimT n m X′ s′ → SourceGoal gp gc X′ → length (ex p) ≤ 1_000_000
+            → (runPlan (restrictedStep (loweredActions n m lo hi acts)) (ex p) (helpersAtRest X₀) ≡ some (helpersAtRest X′)) × LoweredGoal m gp gc (helpersAtRest X′) × (keep (sourceNumber lo hi acts) (ex p) ≡ p)
+            × (length (ex p) ≡ totalPrice (sourceStep lo hi acts) (priceFrom acts) p X₀)
+        to p X′ s′ r (hv, hm, e) goal l =
+            let (rr, gr, kp, ln) = P .forth p (byName X′) (subst (λ (u : NamedSource). runPlan (stepNamedSource lo hi acts) p (byName X₀) ≡ some u) e r) goal (subst (λ (u : List ℕ). length u ≤ 1_000_000) (ex-is p) l) in (
+              ap (λ (u : List ℕ). runPlan (restrictedStep (loweredActions n m lo hi acts)) u (helpersAtRest X₀)) (ex-is p) ∙ arrive (expandFrom (stepNamedSource lo hi acts) (opening lo hi acts) (stageSteps lo hi acts) p (byName X₀)) X′ hv hm rr,
+              goal-out (helpersAtRest X′) (atRest (byName X′)) (emb-sim X′ hv hm) gr,
+              ap (keep (sourceNumber lo hi acts)) (ex-is p) ∙ kp,
+              ap length (ex-is p) ∙ ln ∙ sym (total-sim p X₀ (byName X₀) (h, k, refl)),
+            )
+
+        fro : (q : List ℕ) (Y : State) (y : NamedState) → runPlan (stepNamed R) q (atRest (byName X₀)) ≡ some y → SimR n m Y y → LoweredGoal m gp gc Y → length q ≤ 1_000_000
+            → (X′ : State) × (runPlan (sourceStep lo hi acts) (keep (sourceNumber lo hi acts) q) X₀ ≡ some X′) × SourceGoal gp gc X′ × (Y ≡ helpersAtRest X′) × (ex (keep (sourceNumber lo hi acts) q) ≡ q) × (length (ex (keep (sourceNumber lo hi acts) q)) ≤ 1_000_000)
+        fro q Y y r sim goal l =
+            let (s′, rs, gs, ys, exq, ln) = P .back q y r (goal-in Y y sim goal) l in
+            let (X′, rx, hv, hm, e) = flat (agree-right (SimT n m) (runPlan (sourceStep lo hi acts) (keep (sourceNumber lo hi acts) q) X₀) (runPlan (stepNamedSource lo hi acts) (keep (sourceNumber lo hi acts) q) (byName X₀)) s′ (source-agrees (keep (sourceNumber lo hi acts) q) X₀ h k) rs) in (
+              X′,
+              rx,
+              subst (GoalS lo hi acts gp gc) e gs,
+              at-rest Y X′ hv hm (subst (SimR n m Y) (ys ∙ ap atRest e) sim),
+              ex-is (keep (sourceNumber lo hi acts) q) ∙ exq,
+              subst (λ (u : List ℕ). length u ≤ 1_000_000) (sym (ex-is (keep (sourceNumber lo hi acts) q))) ln,
+            )
+          where
+            flat : {Q : State → Type 0} {s : NamedSource} → (X : State) × Q X × SimT n m X s → (X : State) × Q X × (length (X .values) ≡ n) × (length (X .modes) ≡ m) × (s ≡ byName X)
+            flat (X, q, (hv, hm, e)) = (X, q, hv, hm, e)

@@ -1,0 +1,49 @@
+-- Document 01, "Files": "The bytes of action k can be had as a part of the caller's file"; and the action that those bytes give.
+-- Assumes nothing.
+use Prim.Native.Nat.{ℕ, zero, suc, _+_, _-_}
+use mathlib.Core.Bool.{cond}
+use mathlib.Core.List.{List, [], _∷_}
+use lib.Dec.{eqb, ltb}
+use lib.ListN.{length, getD, take, drop}
+use Rattle.lists.specs.Answer.{Answer, given, refused}
+use Rattle.commands.specs.Table.{sizeOfByte, letterA, letterG}
+use Rattle.commands.specs.Reading.{commandAt}
+use Rattle.commands.specs.declared.Command.{Command}
+use Rattle.model.specs.Limits.{Limits}
+use Rattle.model.specs.Reading.{Verdict, Accepted, Rejected, verdictOf}
+use Rattle.model.specs.Decoding.{Part, blank, beforeAll}
+
+-- the offset of a command A, G or another, before those of the commands behind it
+abbrev pub edgeAt : ℕ → ℕ → List ℕ → List ℕ
+edgeAt b at more = cond (eqb b letterG) (at ∷ []) (cond (eqb b letterA) (at ∷ more) more)
+
+-- the offsets of the commands A, and last that of G, among so many commands from an offset on, `rest` being what remains there
+unfoldable pub edges : ℕ → ℕ → List ℕ → List ℕ
+edges zero at rest = []
+edges (suc most) at rest =
+    cond (eqb (length rest) 0) []
+    (edgeAt (getD rest 0 0) at (edges most (at + sizeOfByte (getD rest 0 0)) (drop (sizeOfByte (getD rest 0 0)) rest)))
+
+-- the k-th of them, or the file's length
+unfoldable pub edgeOf : List ℕ → ℕ → ℕ
+edgeOf file k = getD (edges (suc (length file)) 0 file) k (length file)
+
+-- "They run from its A up to the next A or G"
+abbrev pub actionPart : List ℕ → ℕ → List ℕ
+actionPart file k = take (edgeOf file (suc k) - edgeOf file k) (drop (edgeOf file k) file)
+
+-- the file's refusal first; "a k past the last action gives 11 with place k"
+abbrev pub ofVerdict : Verdict → List ℕ → ℕ → Answer (List ℕ)
+ofVerdict (Accepted variables modes actions) file k = cond (ltb k actions) (given (actionPart file k)) (refused 11 k)
+ofVerdict (Rejected number place) file k = refused number place
+
+unfoldable pub actionBytes : Limits → List ℕ → ℕ → Answer (List ℕ)
+actionBytes l file k = ofVerdict (verdictOf l file) file k
+
+-- ---- the commands in a run of bytes, and the action whose bytes they are: all but its A
+unfoldable pub commandsIn : ℕ → List ℕ → List Command
+commandsIn zero s = []
+commandsIn (suc most) s = cond (eqb (length s) 0) [] (commandAt s ∷ commandsIn most (drop (sizeOfByte (getD s 0 0)) s))
+
+unfoldable pub decodeAction : List ℕ → Part
+decodeAction s = beforeAll (drop 1 (commandsIn (suc (length s)) s)) blank .current

@@ -1,0 +1,50 @@
+-- Document 01, "Files": the limits of each kind of file.
+-- Assumes nothing.
+use Prim.Native.Nat.{ℕ}
+use mathlib.Core.Bool.{Bool, true, false}
+
+-- `restricted`: U in place of V, no L T Q R, several + an action. `size`: of a mode. `conditions` and `modeConditions`: C and P of an action
+-- or goal. `additions`: + of a restricted action. `terms`: T of an L. `constant`: every constant, bound and start lies within ± it.
+-- `relations`: the largest relation
+pub record Limits : Type 0 where
+  pub restricted : Bool
+  pub variables : ℕ
+  pub modes : ℕ
+  pub size : ℕ
+  pub actions : ℕ
+  pub conditions : ℕ
+  pub modeConditions : ℕ
+  pub additions : ℕ
+  pub terms : ℕ
+  pub constant : ℕ
+  pub relations : ℕ
+
+abbrev pub sourceLimits : Limits
+sourceLimits = record {
+  restricted = false;
+  variables = 8;
+  modes = 4;
+  size = 16;
+  actions = 32;
+  conditions = 8;
+  modeConditions = 8;
+  additions = 1;
+  terms = 4;
+  constant = 10_000;
+  relations = 3;
+}
+
+abbrev pub restrictedLimits : Limits
+restrictedLimits = record {
+  restricted = true;
+  variables = 64;
+  modes = 8;
+  size = 8192;
+  actions = 16_384;
+  conditions = 24;
+  modeConditions = 16;
+  additions = 16;
+  terms = 0;
+  constant = 1_000_000_000;
+  relations = 3;
+}
