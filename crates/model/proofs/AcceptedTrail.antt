@@ -159,16 +159,17 @@ module _ (l : Limits) where
       step : (q : ReadingState) (o : Progress) → takeOf l p s .state ≡ q → takeOf l p s .progress ≡ o
           → Is (afterCommand (λ q. verdictFrom l len k q (at + sizeOfByte (getD s 0 0)) (drop (sizeOfByte (getD s 0 0)) s)) at (length s) len q o)
           → ((q : ReadingState) → Is (verdictFrom l len k q (at + sizeOfByte (getD s 0 0)) (drop (sizeOfByte (getD s 0 0)) s))
-            → Fine l q (commandsFrom l k q (drop (sizeOfByte (getD s 0 0)) s)) (verdictFrom l len k q (at + sizeOfByte (getD s 0 0)) (drop (sizeOfByte (getD s 0 0)) s)))
+          → Fine l q (commandsFrom l k q (drop (sizeOfByte (getD s 0 0)) s)) (verdictFrom l len k q (at + sizeOfByte (getD s 0 0)) (drop (sizeOfByte (getD s 0 0)) s)))
           → Fine l p (gather (λ q. commandsFrom l k q (drop (sizeOfByte (getD s 0 0)) s)) (commandAt s) q o)
-            (afterCommand (λ q. verdictFrom l len k q (at + sizeOfByte (getD s 0 0)) (drop (sizeOfByte (getD s 0 0)) s)) at (length s) len q o)
+          (afterCommand (λ q. verdictFrom l len k q (at + sizeOfByte (getD s 0 0)) (drop (sizeOfByte (getD s 0 0)) s)) at (length s) len q o)
       step q Going e f h rec =
           let (a, b, c) = take-inv l p s (subst Alive (sym f) tt) in
           let e′ : q ≡ ruleOf l p (commandAt s) .state = sym e ∙ ap (λ (t : Taken). t .state) b in
-          let (t, v) = rec q h in
-          ((a, sym (ap (λ (t : Taken). t .progress) b) ∙ f, subst (λ (x : ReadingState). Trail l x (commandsFrom l k q (drop (sizeOfByte (getD s 0 0)) s))) e′ t),
+          let (t, v) = rec q h in (
+            (a, sym (ap (λ (t : Taken). t .progress) b) ∙ f, subst (λ (x : ReadingState). Trail l x (commandsFrom l k q (drop (sizeOfByte (getD s 0 0)) s))) e′ t),
             subst (λ (x : ReadingState). verdictFrom l len k q (at + sizeOfByte (getD s 0 0)) (drop (sizeOfByte (getD s 0 0)) s)
-              ≡ Accepted (endState l x (commandsFrom l k q (drop (sizeOfByte (getD s 0 0)) s)) .variables) (endState l x (commandsFrom l k q (drop (sizeOfByte (getD s 0 0)) s)) .modes) (endState l x (commandsFrom l k q (drop (sizeOfByte (getD s 0 0)) s)) .actions)) e′ v)
+                ≡ Accepted (endState l x (commandsFrom l k q (drop (sizeOfByte (getD s 0 0)) s)) .variables) (endState l x (commandsFrom l k q (drop (sizeOfByte (getD s 0 0)) s)) .modes) (endState l x (commandsFrom l k q (drop (sizeOfByte (getD s 0 0)) s)) .actions)) e′ v,
+          )
       step q Ended e f h rec =
           let (a, b, c) = take-inv l p s (subst Alive (sym f) tt) in
           let z : commandAt s ≡ End = end-only l p (commandAt s) (sym (ap (λ (t : Taken). t .progress) b) ∙ f) in

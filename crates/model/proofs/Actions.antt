@@ -295,12 +295,15 @@ no-acts (c ∷ cs) (h, hs) = ap length (acts-other c (beforeAll cs blank) h) ∙
 other : (c : Command) (cs : List Command) (k at d : ℕ) → edgesC at (c ∷ cs) ≡ edgesC (at + length (encode c)) cs → before c (beforeAll cs blank) .actions ≡ beforeAll cs blank .actions
     → At k (at + length (encode c)) d cs → At k at d (c ∷ cs)
 other c cs k at d e f A = record {
-    pre = c ∷ A .pre; body = A .body; post = A .post;
-    is = ap (λ (z : List ℕ). encode c ++ z) (A .is) ∙ sym (append-assoc (encode c) (encodeAll (A .pre)) (encodeAll (Action ∷ A .body) ++ encodeAll (A .post)));
-    lo = ap (λ (z : List ℕ). getD z k d) e ∙ A .lo ∙ tidy at (length (encode c)) (length (encodeAll (A .pre))) (length-append (encode c) (encodeAll (A .pre)));
-    hi = ap (λ (z : List ℕ). getD z (suc k) d) e ∙ A .hi ∙ ap (λ (z : ℕ). z + length (encodeAll (Action ∷ A .body))) (tidy at (length (encode c)) (length (encodeAll (A .pre))) (length-append (encode c) (encodeAll (A .pre))));
-    part = ap (λ (z : List Part). getElem? z k) f ∙ A .part;
-    oks = A .oks }
+  pre = c ∷ A .pre;
+  body = A .body;
+  post = A .post;
+  is = ap (λ (z : List ℕ). encode c ++ z) (A .is) ∙ sym (append-assoc (encode c) (encodeAll (A .pre)) (encodeAll (Action ∷ A .body) ++ encodeAll (A .post)));
+  lo = ap (λ (z : List ℕ). getD z k d) e ∙ A .lo ∙ tidy at (length (encode c)) (length (encodeAll (A .pre))) (length-append (encode c) (encodeAll (A .pre)));
+  hi = ap (λ (z : List ℕ). getD z (suc k) d) e ∙ A .hi ∙ ap (λ (z : ℕ). z + length (encodeAll (Action ∷ A .body))) (tidy at (length (encode c)) (length (encodeAll (A .pre))) (length-append (encode c) (encodeAll (A .pre))));
+  part = ap (λ (z : List Part). getElem? z k) f ∙ A .part;
+  oks = A .oks;
+}
   where
     tidy : (a b e : ℕ) {z : ℕ} → z ≡ b + e → (a + b) + e ≡ a + z
     tidy a b e h = omega (arith, h)
@@ -308,22 +311,28 @@ other c cs k at d e f A = record {
 find : (cs : List Command) (k at d : ℕ) → GoalIn cs → All Ok cs → k < length (beforeAll cs blank .actions) → At k at d cs
 find [] k at d g o h = absurd (omega (arith, h))
 find (Action ∷ cs) zero at d g (o, os) h = record {
-    pre = []; body = upTo cs; post = beyond cs;
-    is = ap (λ (z : List ℕ). 65 ∷ z) (split cs);
-    lo = sym (add-zero at);
-    hi = next-edge cs (at + 1) d g ∙ tidy at (length (encodeAll (upTo cs)));
-    part = ap some (cur-is cs);
-    oks = upTo-ok cs os }
+  pre = [];
+  body = upTo cs;
+  post = beyond cs;
+  is = ap (λ (z : List ℕ). 65 ∷ z) (split cs);
+  lo = sym (add-zero at);
+  hi = next-edge cs (at + 1) d g ∙ tidy at (length (encodeAll (upTo cs)));
+  part = ap some (cur-is cs);
+  oks = upTo-ok cs os;
+}
   where
     tidy : (a b : ℕ) → (a + 1) + b ≡ (a + 0) + suc b
     tidy a b = omega arith
 find (Action ∷ cs) (suc k) at d g (o, os) h = let A : At k (at + 1) d cs = find cs k (at + 1) d g os (omega (arith, h)) in record {
-    pre = Action ∷ A .pre; body = A .body; post = A .post;
-    is = ap (λ (z : List ℕ). 65 ∷ z) (A .is);
-    lo = A .lo ∙ tidy at (length (encodeAll (A .pre)));
-    hi = A .hi ∙ ap (λ (z : ℕ). z + length (encodeAll (Action ∷ A .body))) (tidy at (length (encodeAll (A .pre))));
-    part = A .part;
-    oks = A .oks }
+  pre = Action ∷ A .pre;
+  body = A .body;
+  post = A .post;
+  is = ap (λ (z : List ℕ). 65 ∷ z) (A .is);
+  lo = A .lo ∙ tidy at (length (encodeAll (A .pre)));
+  hi = A .hi ∙ ap (λ (z : ℕ). z + length (encodeAll (Action ∷ A .body))) (tidy at (length (encodeAll (A .pre))));
+  part = A .part;
+  oks = A .oks;
+}
   where
     tidy : (a b : ℕ) → (a + 1) + b ≡ a + suc b
     tidy a b = omega arith
@@ -361,7 +370,7 @@ part-of file cs k w o A = cut (edgeOf file k) (edgeOf file (suc k)) (encodeAll (
     (ap (λ (z : List ℕ). getD z k (length file)) es ∙ A .lo ∙ zero-plus (length (encodeAll (A .pre))))
     (ap (λ (z : List ℕ). getD z (suc k) (length file)) es ∙ A .hi ∙ ap (λ (z : ℕ). z + length (encodeAll (Action ∷ A .body))) (zero-plus (length (encodeAll (A .pre)))))
     (w ∙ ap (λ (z : List ℕ). z ++ encode End) (A .is) ∙ append-assoc (encodeAll (A .pre)) (encodeAll (Action ∷ A .body) ++ encodeAll (A .post)) (encode End)
-      ∙ ap (λ (z : List ℕ). encodeAll (A .pre) ++ z) (append-assoc (encodeAll (Action ∷ A .body)) (encodeAll (A .post)) (encode End)))
+    ∙ ap (λ (z : List ℕ). encodeAll (A .pre) ++ z) (append-assoc (encodeAll (Action ∷ A .body)) (encodeAll (A .post)) (encode End)))
   where
     zero-plus : (n : ℕ) → 0 + n ≡ n
     zero-plus n = omega arith
@@ -397,7 +406,7 @@ module _ (l : Limits) (file : List ℕ) (b : Bytes file) (h : Is (verdictOf l fi
       let A : At k 0 (length file) (commandsOf l file) = find (commandsOf l file) k 0 (length file) (goal-in l (commandsOf l file) begin (omega arith) (trail-of l file h .0)) o q in
       let part : actionPart file k ≡ encodeAll (Action ∷ A .body) = part-of file (commandsOf l file) k w o A in
       A .part ∙ ap (λ (c : List Command). some (beforeAll (drop 1 c) blank .current))
-        (sym (in-all (Action ∷ A .body) (suc (length (actionPart file k))) (omega (arith, ap length part, count (A .body))) (tt, A .oks)) ∙ ap (commandsIn (suc (length (actionPart file k)))) (sym part))
+      (sym (in-all (Action ∷ A .body) (suc (length (actionPart file k))) (omega (arith, ap length part, count (A .body))) (tt, A .oks)) ∙ ap (commandsIn (suc (length (actionPart file k)))) (sym part))
 
 -- ---- in the file of a restricted task: the bytes of action k are those of its encoding
 abbrev Has : ℕ → ℕ → ℕ → List Command → List Command → Type 0
@@ -435,13 +444,19 @@ module _ (k d : ℕ) (b : List Command) (more : List Command) (ready : (at : ℕ
 
 -- one action further on
 later : (k at d : ℕ) (cs b : List Command) → Has k (at + 1) d cs b → Has (suc k) at d (Action ∷ cs) b
-later k at d cs b (A, q) = (record {
-    pre = Action ∷ A .pre; body = A .body; post = A .post;
+later k at d cs b (A, q) = (
+  record {
+    pre = Action ∷ A .pre;
+    body = A .body;
+    post = A .post;
     is = ap (λ (z : List ℕ). 65 ∷ z) (A .is);
     lo = A .lo ∙ tidy at (length (encodeAll (A .pre)));
     hi = A .hi ∙ ap (λ (z : ℕ). z + length (encodeAll (Action ∷ A .body))) (tidy at (length (encodeAll (A .pre))));
     part = A .part;
-    oks = A .oks }, q)
+    oks = A .oks;
+  },
+  q,
+)
   where
     tidy : (a b : ℕ) → (a + 1) + b ≡ a + suc b
     tidy a b = omega arith
@@ -481,7 +496,7 @@ has-act (x ∷ acts) gs zero at d a e g o =
 has-act (x ∷ acts) gs (suc k) at d a e g (o, os) =
     later k at d (bodyOf x (actionsCommands acts (Goal ∷ gs))) (bodyOf a [])
     (skip-places k d (bodyOf a []) _ (λ at. skip-compares k d (bodyOf a []) _ (λ at. skip-effects k d (bodyOf a []) _ (λ at. skip-adds k d (bodyOf a []) _
-      (λ at. has-act acts gs k at d a e (goal-past x (actionsCommands acts (Goal ∷ gs)) g) (ok-past x (actionsCommands acts (Goal ∷ gs)) os)) (x .additions) at) (x .modeEffects) at) (x .conditions) at) (x .modeConditions) (at + 1))
+    (λ at. has-act acts gs k at d a e (goal-past x (actionsCommands acts (Goal ∷ gs)) g) (ok-past x (actionsCommands acts (Goal ∷ gs)) os)) (x .additions) at) (x .modeEffects) at) (x .conditions) at) (x .modeConditions) (at + 1))
   where
     goal-past : (x : RestrictedAction) (more : List Command) → GoalIn (bodyOf x more) → GoalIn more
     goal-past x more g = over-adds (x .additions) more (over-effects (x .modeEffects) (additionCommands (x .additions) more) (over-compares (x .conditions) (modeEffectCommands (x .modeEffects) (additionCommands (x .additions) more)) (over-places (x .modeConditions) (conditionCommands (x .conditions) (modeEffectCommands (x .modeEffects) (additionCommands (x .additions) more))) g)))
@@ -525,10 +540,10 @@ pub encoded-part : (r : RestrictedTask) → RestrictedTaskOk r → (k : ℕ) (a 
 unfolding encodeFile
 encoded-part r F k a e =
     let H : Has k 0 (length (encodeAll (fileCommands r) ++ encode End)) (fileCommands r) (bodyOf a [])
-        = skip-starts k (length (encodeAll (fileCommands r) ++ encode End)) (bodyOf a []) _ (λ at. skip-modes k (length (encodeAll (fileCommands r) ++ encode End)) (bodyOf a []) _
-          (λ at. has-act (r .actions) (modeConditionCommands (r .goalModes) (conditionCommands (r .goalConditions) [])) k at (length (encodeAll (fileCommands r) ++ encode End)) a e
-            (modes-goal (r .modes) (actionsCommands (r .actions) (Goal ∷ modeConditionCommands (r .goalModes) (conditionCommands (r .goalConditions) []))) (starts-goal (r .starts) (modeCommands (r .modes) (actionsCommands (r .actions) (Goal ∷ modeConditionCommands (r .goalModes) (conditionCommands (r .goalConditions) [])))) (goal-in restrictedLimits (fileCommands r) begin (omega arith) (trail r F))))
-            (modes-ok (r .modes) (actionsCommands (r .actions) (Goal ∷ modeConditionCommands (r .goalModes) (conditionCommands (r .goalConditions) []))) (starts-ok (r .starts) (modeCommands (r .modes) (actionsCommands (r .actions) (Goal ∷ modeConditionCommands (r .goalModes) (conditionCommands (r .goalConditions) [])))) (file-ok r F)))) (r .modes) at) (r .starts) 0 in
+    = skip-starts k (length (encodeAll (fileCommands r) ++ encode End)) (bodyOf a []) _ (λ at. skip-modes k (length (encodeAll (fileCommands r) ++ encode End)) (bodyOf a []) _
+    (λ at. has-act (r .actions) (modeConditionCommands (r .goalModes) (conditionCommands (r .goalConditions) [])) k at (length (encodeAll (fileCommands r) ++ encode End)) a e
+    (modes-goal (r .modes) (actionsCommands (r .actions) (Goal ∷ modeConditionCommands (r .goalModes) (conditionCommands (r .goalConditions) []))) (starts-goal (r .starts) (modeCommands (r .modes) (actionsCommands (r .actions) (Goal ∷ modeConditionCommands (r .goalModes) (conditionCommands (r .goalConditions) [])))) (goal-in restrictedLimits (fileCommands r) begin (omega arith) (trail r F))))
+    (modes-ok (r .modes) (actionsCommands (r .actions) (Goal ∷ modeConditionCommands (r .goalModes) (conditionCommands (r .goalConditions) []))) (starts-ok (r .starts) (modeCommands (r .modes) (actionsCommands (r .actions) (Goal ∷ modeConditionCommands (r .goalModes) (conditionCommands (r .goalConditions) [])))) (file-ok r F)))) (r .modes) at) (r .starts) 0 in
     part-of (encodeAll (fileCommands r) ++ encode End) (fileCommands r) k refl (file-ok r F) (H .0) ∙ ap (λ (c : List Command). encodeAll (Action ∷ c)) (H .1)
   where
     starts-goal : (zs : List ℤ) (m : List Command) → GoalIn (startCommands zs m) → GoalIn m

@@ -63,13 +63,13 @@ module _ (t : SourceTask) (S : SourceTaskOk t) where
   price = priceFrom (t .actions)
 
   pairing : Pairing (stepSource t) stepR helpersAtRest (opening (lowerBounds t) (upperBounds t) (t .actions)) (sourceNumber (lowerBounds t) (upperBounds t) (t .actions)) (stageStepsFrom (lowerBounds t) (upperBounds t) (t .actions)) price
-    (sourceStart t) (SourceGoal (t .goalModes) (t .goalConditions)) (LoweredGoal (length (t .modes)) (t .goalModes) (t .goalConditions)) 1_000_000
+      (sourceStart t) (SourceGoal (t .goalModes) (t .goalConditions)) (LoweredGoal (length (t .modes)) (t .goalModes) (t .goalConditions)) 1_000_000
   pairing = plans-pair-off-for-accepted (length (t .variables)) (length (t .modes)) (lowerBounds t) (upperBounds t) (t .actions) (sizesOf (t .modes)) (t .goalModes) (t .goalConditions) (sourceStart t) (accepted t S)
 
   -- R's judge, on R as it is read
   judge-R : (q : List ℕ) → judgeRestrictedTask (lowerTask t) q ≡ judge (length (lowerTask t .actions)) stepR (restrictedGoalHolds (lowerTask t)) 0 q (helpersAtRest (sourceStart t))
   judge-R q = ap₂ (λ (s m : List ℕ). judge (length (lowerTask t .actions)) (guarded (soundRestricted s) (restrictedStep (lowerTask t .actions))) (restrictedGoalHolds (lowerTask t)) 0 q (record { values = lowerTask t .starts; modes = m }))
-    (sizesR t S) (each-app (λ (m : ℕ × ℕ). m .1) (t .modes) ((z, 0) ∷ []))
+      (sizesR t S) (each-app (λ (m : ℕ × ℕ). m .1) (t .modes) ((z, 0) ∷ []))
 
   goal-in : (x : State) → T (sourceGoalHolds t x) → SourceGoal (t .goalModes) (t .goalConditions) x
   goal-in x h = both-out (modesHold (t .goalModes) (naturalAt (x .modes))) (conditionsHold (t .goalConditions) (integerAt (x .values))) h
@@ -135,18 +135,19 @@ module _ (t : SourceTask) (S : SourceTaskOk t) where
             let (run₂, g₂, kept, _) = pairing .forth p s run₁ (goal-in s g) (omega (arith, size, few)) in
             let nums₂ : All (λ (k : ℕ). k < length (lowerTask t .actions)) (expandTask t p) = few-R (expandTask t p) (helpersAtRest s) run₂ in
             let r₂ : readPlan (planBytes (expandTask t p)) ≡ given (expandTask t p)
-                = plan-reads-back (expandTask t p) (few-all (length (lowerTask t .actions)) 65_536 (omega (arith, formed t S .actionsFew)) (expandTask t p) nums₂) (omega (arith, size, few)) in
+            = plan-reads-back (expandTask t p) (few-all (length (lowerTask t .actions)) 65_536 (omega (arith, formed t S .actionsFew)) (expandTask t p) nums₂) (omega (arith, size, few)) in
             let j₂ : judgeRestrictedTask (lowerTask t) (expandTask t p) ≡ given (0 + length (expandTask t p), helpersAtRest s)
-                = judge-R (expandTask t p) ∙ judges (length (lowerTask t .actions)) stepR (restrictedGoalHolds (lowerTask t)) (expandTask t p) 0 (helpersAtRest (sourceStart t)) (helpersAtRest s) run₂ (goalR-out (helpersAtRest s) g₂) nums₂ in
+            = judge-R (expandTask t p) ∙ judges (length (lowerTask t .actions)) stepR (restrictedGoalHolds (lowerTask t)) (expandTask t p) 0 (helpersAtRest (sourceStart t)) (helpersAtRest s) run₂ (goalR-out (helpersAtRest s) g₂) nums₂ in
             let x : expandBytes file plan ≡ given (planBytes (expandTask t p))
-                = expand-is plan p (n, s) (0 + totalPrice (stepSource t) price p (sourceStart t)) r j′ (capped (stepSource t) price p 0 0 (sourceStart t) s run₁ (omega (arith, cost, few))) in
+            = expand-is plan p (n, s) (0 + totalPrice (stepSource t) price p (sourceStart t)) r j′ (capped (stepSource t) price p 0 0 (sourceStart t) s run₁ (omega (arith, cost, few))) in
             let k : projectBytes file (planBytes (expandTask t p)) ≡ given plan
-                = project-is (planBytes (expandTask t p)) (expandTask t p) (0 + length (expandTask t p), helpersAtRest s) r₂ j₂ ∙ ap given (ap planBytes kept ∙ plan-read plan p b r .0) in
-            (planBytes (expandTask t p),
+            = project-is (planBytes (expandTask t p)) (expandTask t p) (0 + length (expandTask t p), helpersAtRest s) r₂ j₂ ∙ ap given (ap planBytes kept ∙ plan-read plan p b r .0) in (
+              planBytes (expandTask t p),
               x,
               judgeR-is (planBytes (expandTask t p)) (expandTask t p) r₂ ∙ j₂ ∙ ap (λ (k : ℕ). given (k, helpersAtRest s)) (zero-plus (length (expandTask t p)) ∙ size),
               k,
-              round-trip (expandBytes file plan) (projectBytes file) plan (planBytes (expandTask t p)) x k)
+              round-trip (expandBytes file plan) (projectBytes file) plan (planBytes (expandTask t p)) x k,
+            )
 
     back : (restricted : List ℕ) → Bytes restricted → (c : ℕ) (x : State) → judgeRestricted (lowerFile t) restricted ≡ given (c, x)
         → (plan : List ℕ) × (n : ℕ) × (s : State) × (projectBytes file restricted ≡ given plan) × (judgeSource file plan ≡ given (n, s)) × (x ≡ helpersAtRest s) × (pricePlan file plan ≡ given c) × (c ≤ 1_000_000)
@@ -164,23 +165,26 @@ module _ (t : SourceTask) (S : SourceTaskOk t) where
             let (s, run₂, g₂, is, ex, _) = pairing .back q x run₁ (goalR-in x g) short in
             let nums₂ : All (λ (k : ℕ). k < length (t .actions)) (projectTask t q) = few-T (projectTask t q) s run₂ in
             let r₂ : readPlan (planBytes (projectTask t q)) ≡ given (projectTask t q)
-                = plan-reads-back (projectTask t q) (few-all (length (t .actions)) 65_536 (omega (arith, S .actionsFew)) (projectTask t q) nums₂) (omega (arith, short, keep-few (sourceNumber (lowerBounds t) (upperBounds t) (t .actions)) q)) in
+            = plan-reads-back (projectTask t q) (few-all (length (t .actions)) 65_536 (omega (arith, S .actionsFew)) (projectTask t q) nums₂) (omega (arith, short, keep-few (sourceNumber (lowerBounds t) (upperBounds t) (t .actions)) q)) in
             let j₂ : judgeSourceTask t (projectTask t q) ≡ given (0 + length (projectTask t q), s)
-                = judges (length (t .actions)) (stepSource t) (sourceGoalHolds t) (projectTask t q) 0 (sourceStart t) s run₂ (goal-out s g₂) nums₂ in
+            = judges (length (t .actions)) (stepSource t) (sourceGoalHolds t) (projectTask t q) 0 (sourceStart t) s run₂ (goal-out s g₂) nums₂ in
             let size : 0 + totalPrice (stepSource t) price (projectTask t q) (sourceStart t) ≡ c
-                = zero-plus (totalPrice (stepSource t) price (projectTask t q) (sourceStart t)) ∙ sym (pairing .lengths (projectTask t q) s run₂) ∙ ap length ex ∙ sym (zero-plus (length q)) ∙ sym len in
+            = zero-plus (totalPrice (stepSource t) price (projectTask t q) (sourceStart t)) ∙ sym (pairing .lengths (projectTask t q) s run₂) ∙ ap length ex ∙ sym (zero-plus (length q)) ∙ sym len in
             let k : projectBytes file restricted ≡ given (planBytes (projectTask t q)) = project-is restricted q (c, x) r j′ in
             let y : expandBytes file (planBytes (projectTask t q)) ≡ given restricted
-                = expand-is (planBytes (projectTask t q)) (projectTask t q) (0 + length (projectTask t q), s) (0 + totalPrice (stepSource t) price (projectTask t q) (sourceStart t)) r₂ j₂
-                  (capped (stepSource t) price (projectTask t q) 0 0 (sourceStart t) s run₂ (omega (arith, size, len, short))) ∙ ap given (ap planBytes ex ∙ same) in
-            (planBytes (projectTask t q), 0 + length (projectTask t q), s,
+            = expand-is (planBytes (projectTask t q)) (projectTask t q) (0 + length (projectTask t q), s) (0 + totalPrice (stepSource t) price (projectTask t q) (sourceStart t)) r₂ j₂
+            (capped (stepSource t) price (projectTask t q) 0 0 (sourceStart t) s run₂ (omega (arith, size, len, short))) ∙ ap given (ap planBytes ex ∙ same) in (
+              planBytes (projectTask t q),
+              0 + length (projectTask t q),
+              s,
               k,
               judge-is (planBytes (projectTask t q)) (projectTask t q) r₂ ∙ j₂,
               is,
               price-is (planBytes (projectTask t q)) (projectTask t q) (0 + length (projectTask t q), s) r₂ j₂ ∙ priced (stepSource t) price (projectTask t q) 0 0 (sourceStart t) s run₂ ∙ ap given size,
               omega (arith, len, short),
               y,
-              round-trip (projectBytes file restricted) (expandBytes file) restricted (planBytes (projectTask t q)) k y)
+              round-trip (projectBytes file restricted) (expandBytes file) restricted (planBytes (projectTask t q)) k y,
+            )
 
 pub plans-pair : (file lowered : List ℕ) → lowerBytes file ≡ given lowered → PlansPair file lowered
 plans-pair file lowered l =

@@ -72,7 +72,7 @@ ops-back [] k s h b = ap (λ (n : ℕ). drop n s) (plus-zero k)
 ops-back (w ∷ ws) k s h b =
     append-assoc (bytesOf w (numberOf (take w (drop k s)))) (atWidths ws (ops ws (k + w) s)) (drop (k + (w + sum ws)) s)
     ∙ ap₂ (λ (x y : List ℕ). x ++ y) (cut-back w k s (omega (arith, h)) b)
-      (ap (λ (n : ℕ). atWidths ws (ops ws (k + w) s) ++ drop n s) (tidy k w (sum ws)) ∙ ops-back ws (k + w) s (omega (arith, h)) b ∙ sym (drop-drop w k s))
+    (ap (λ (n : ℕ). atWidths ws (ops ws (k + w) s) ++ drop n s) (tidy k w (sum ws)) ∙ ops-back ws (k + w) s (omega (arith, h)) b ∙ sym (drop-drop w k s))
     ∙ take-append-drop w (drop k s)
   where
     tidy : (a b c : ℕ) → a + (b + c) ≡ (a + b) + c
@@ -148,13 +148,14 @@ canon s k h = go (known-row s k)
     go S = let i : ℕ = rowOf (getD s 0 0) in
         let sz : sizeOfByte (getD s 0 0) ≡ 1 + sum (rowAt (rowOf (getD s 0 0)) .widths) = size-is (getD s 0 0) (S .few) ∙ row-size (rowOf (getD s 0 0)) (S .few) in
         let en : encode (commandAt s) ≡ getD s 0 0 ∷ atWidths (rowAt (rowOf (getD s 0 0)) .widths) (ops (rowAt (rowOf (getD s 0 0)) .widths) 1 s)
-            = ap encode (S .is)
-              ∙ ap₂ (λ (j : ℕ) (vs : List ℕ). rowAt j .byte ∷ atWidths (rowAt j .widths) vs) (row-no s (rowOf (getD s 0 0)) (S .few)) (row-operands s (rowOf (getD s 0 0)) (S .few))
-              ∙ ap (λ (x : ℕ). x ∷ atWidths (rowAt (rowOf (getD s 0 0)) .widths) (ops (rowAt (rowOf (getD s 0 0)) .widths) 1 s)) (row-byte (getD s 0 0) (S .few)) in
-        (ap₂ (λ (x : List ℕ) (n : ℕ). x ++ drop n s) en sz
-          ∙ ap (λ (z : List ℕ). getD s 0 0 ∷ z) (ops-back (rowAt (rowOf (getD s 0 0)) .widths) 1 s (omega (arith, S .whole, row-size (rowOf (getD s 0 0)) (S .few))) h)
-          ∙ first s (S .there),
-          subst Ok (sym (S .is)) (row-ok s (rowOf (getD s 0 0)) (S .few) (S .whole) h))
+        = ap encode (S .is)
+        ∙ ap₂ (λ (j : ℕ) (vs : List ℕ). rowAt j .byte ∷ atWidths (rowAt j .widths) vs) (row-no s (rowOf (getD s 0 0)) (S .few)) (row-operands s (rowOf (getD s 0 0)) (S .few))
+        ∙ ap (λ (x : ℕ). x ∷ atWidths (rowAt (rowOf (getD s 0 0)) .widths) (ops (rowAt (rowOf (getD s 0 0)) .widths) 1 s)) (row-byte (getD s 0 0) (S .few)) in (
+          ap₂ (λ (x : List ℕ) (n : ℕ). x ++ drop n s) en sz
+              ∙ ap (λ (z : List ℕ). getD s 0 0 ∷ z) (ops-back (rowAt (rowOf (getD s 0 0)) .widths) 1 s (omega (arith, S .whole, row-size (rowOf (getD s 0 0)) (S .few))) h)
+              ∙ first s (S .there),
+          subst Ok (sym (S .is)) (row-ok s (rowOf (getD s 0 0)) (S .few) (S .whole) h),
+        )
 
 one-byte : (s : List ℕ) → eqb (length s) 1 ≡ true → s ≡ getD s 0 0 ∷ []
 one-byte s e = go s (eqb→eq (length s) 1 (subst T (sym e) tt))
@@ -177,7 +178,7 @@ module _ (l : Limits) where
       step : (q : ReadingState) (o : Progress) → takeOf l p s .progress ≡ o
           → Is (afterCommand (λ q. verdictFrom l len k q (at + sizeOfByte (getD s 0 0)) (drop (sizeOfByte (getD s 0 0)) s)) at (length s) len q o)
           → ((q : ReadingState) → Is (verdictFrom l len k q (at + sizeOfByte (getD s 0 0)) (drop (sizeOfByte (getD s 0 0)) s))
-            → Whole (drop (sizeOfByte (getD s 0 0)) s) (commandsFrom l k q (drop (sizeOfByte (getD s 0 0)) s)))
+          → Whole (drop (sizeOfByte (getD s 0 0)) s) (commandsFrom l k q (drop (sizeOfByte (getD s 0 0)) s)))
           → Whole s (gather (λ q. commandsFrom l k q (drop (sizeOfByte (getD s 0 0)) s)) (commandAt s) q o)
       step q Going f h rec =
           let (_, _, kn) = take-inv l p s (subst Alive (sym f) tt) in

@@ -52,7 +52,7 @@ module _ {X : Type 0} (count : ℕ) (step : X → ℕ → Option X) (goal : X �
       go false s q = absurd (subst T (ap goal (sym q) ∙ s) g)
   judges (k ∷ ks) i x y e g (h, hs) = let (z, e₁, e₂) = bind-inv (step x k) (runPlan step ks) y e in
       rw (lt-ltb k count h) (ap (λ (o : Option X). ifApplies o i (judge count step goal (suc i) ks)) e₁ ∙ judges ks (suc i) z y e₂ g hs
-        ∙ ap (λ (a : ℕ). given (a, y)) (tidy i (length ks)))
+      ∙ ap (λ (a : ℕ). given (a, y)) (tidy i (length ks)))
     where
       tidy : (a b : ℕ) → suc a + b ≡ a + suc b
       tidy a b = omega arith

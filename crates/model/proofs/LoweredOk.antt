@@ -109,16 +109,18 @@ values-more sizes z m x e h ps v =
 module _ (n m : ℕ) (sizes : List ℕ) (z : ℕ) (sm : length sizes ≡ m) where
   write-ok : (r : NamedAction) → RowIn n m r → RowOk sizes z r → RestrictedActionOk restrictedLimits (n + 2) (sizes ++ (z ∷ [])) (numbered n m r)
   write-ok r i o = record {
-      conditionsOk = record {
-        modeConditionsFew = omega (arith, o .modeConditionsFew, length-append (r .modeConditions) ((m, r .control) ∷ []));
-        modeConditionsIn = values-more sizes z m (r .control) sm (o .control) (r .modeConditions) (o .modeConditionsIn);
-        conditionsFew = omega (arith, o .conditionsFew, length-numC n (r .conditions));
-        conditionsIn = all-cond n (r .conditions) (i .conditionsIn) (o .csUp) };
-      modeEffectsIn = go₁ (eqb (r .control) (r .nextControl));
-      modeEffectsOnce = go₂ (eqb (r .control) (r .nextControl));
-      additionsFew = omega (arith, o .additionsFew, length-numA n (r .additions));
-      additionsIn = all-add n (r .additions) (i .additionsIn) (o .addsUp);
-      additionsOnce = once-apart (numberedAdditions n (r .additions)) (num-once n (r .additions) (i .additionsIn) (i .additionsOnce)) }
+    conditionsOk = record {
+      modeConditionsFew = omega (arith, o .modeConditionsFew, length-append (r .modeConditions) ((m, r .control) ∷ []));
+      modeConditionsIn = values-more sizes z m (r .control) sm (o .control) (r .modeConditions) (o .modeConditionsIn);
+      conditionsFew = omega (arith, o .conditionsFew, length-numC n (r .conditions));
+      conditionsIn = all-cond n (r .conditions) (i .conditionsIn) (o .csUp);
+    };
+    modeEffectsIn = go₁ (eqb (r .control) (r .nextControl));
+    modeEffectsOnce = go₂ (eqb (r .control) (r .nextControl));
+    additionsFew = omega (arith, o .additionsFew, length-numA n (r .additions));
+    additionsIn = all-add n (r .additions) (i .additionsIn) (o .addsUp);
+    additionsOnce = once-apart (numberedAdditions n (r .additions)) (num-once n (r .additions) (i .additionsIn) (i .additionsOnce));
+  }
     where
       nil : {A : Type 0} (xs : List A) → xs ++ [] ≡ xs
       nil [] = refl
@@ -163,11 +165,31 @@ rows-ok sizes z o [] s h a = tt
 rows-ok sizes z o (d ∷ ds) s h (a, as₁) = all-app (RowOk sizes z) (stageActions s d (firstStage (suc s) ds)) (stagesActions (suc s) ds) (
   record { modeConditionsFew = omega arith; modeConditionsIn = tt; conditionsFew = omega arith; csUp = (omega (arith, a .highUp), tt); modeEffectsIn = tt; esApart = tt; additionsFew = a .aFew; addsUp = a .aUp; control = omega (arith, h); nextControl = omega (arith, h) },
   (
-    record { modeConditionsFew = omega arith; modeConditionsIn = tt; conditionsFew = omega arith; csUp = (omega arith, tt); modeEffectsIn = tt; esApart = tt; additionsFew = omega (arith, a .aFew, opposite-length (d .additions)); addsUp = opposite-ok (d .additions) (a .aUp);
-    control = omega (arith, h); nextControl = omega (arith, h) },
+    record {
+      modeConditionsFew = omega arith;
+      modeConditionsIn = tt;
+      conditionsFew = omega arith;
+      csUp = (omega arith, tt);
+      modeEffectsIn = tt;
+      esApart = tt;
+      additionsFew = omega (arith, a .aFew, opposite-length (d .additions));
+      addsUp = opposite-ok (d .additions) (a .aUp);
+      control = omega (arith, h);
+      nextControl = omega (arith, h);
+    },
     (
-      record { modeConditionsFew = omega arith; modeConditionsIn = tt; conditionsFew = omega (arith, a .xFew); csUp = (omega arith, (omega (arith, a .highUp), a .xUp)); modeEffectsIn = tt; esApart = tt; additionsFew = a .tFew; addsUp = a .tUp;
-      control = omega (arith, h); nextControl = entry-lt (suc s) ds z o (omega (arith, h)) },
+      record {
+        modeConditionsFew = omega arith;
+        modeConditionsIn = tt;
+        conditionsFew = omega (arith, a .xFew);
+        csUp = (omega arith, (omega (arith, a .highUp), a .xUp));
+        modeEffectsIn = tt;
+        esApart = tt;
+        additionsFew = a .tFew;
+        addsUp = a .tUp;
+        control = omega (arith, h);
+        nextControl = entry-lt (suc s) ds z o (omega (arith, h));
+      },
       tt,
     ),
   ),
@@ -193,8 +215,15 @@ module _ (lo hi : ℕ → ℤ) (loUp : (j : ℕ) → natAbs (lo j) ≤ 10_000) (
   refill-ok t = record { highUp = omega arith; xFew = omega arith; xUp = tt; aFew = omega arith; aUp = (one, (one, tt)); tFew = omega arith; tUp = tt }
 
   divide-ok : (c : ℤ) → Factor c → StageOk (divide c)
-  divide-ok c h = record { highUp = omega (arith, h .1, factor-less c h); xFew = omega arith; xUp = tt; aFew = omega arith;
-    aUp = ((omega arith, omega (arith, h .1, factor-less c h)), ((omega (arith, sign-upTo c), omega (arith, sign-upTo c)), tt)); tFew = omega arith; tUp = tt }
+  divide-ok c h = record {
+    highUp = omega (arith, h .1, factor-less c h);
+    xFew = omega arith;
+    xUp = tt;
+    aFew = omega arith;
+    aUp = ((omega arith, omega (arith, h .1, factor-less c h)), ((omega (arith, sign-upTo c), omega (arith, sign-upTo c)), tt));
+    tFew = omega arith;
+    tUp = tt;
+  }
 
   empty-ok : (v : Name) → StageOk (empty v)
   empty-ok v = record { highUp = omega arith; xFew = omega arith; xUp = tt; aFew = omega arith; aUp = (one, tt); tFew = omega arith; tUp = tt }
@@ -286,15 +315,17 @@ module _ (lo hi : ℕ → ℤ) (loUp : (j : ℕ) → natAbs (lo j) ≤ 10_000) (
       additionsFew = start-few (a .effect);
       addsUp = start-ok n (a .effect) (k .effectOk);
       control = omega (arith, o);
-      nextControl = entry-lt s (stagesOf lo hi (a .effect)) z o h }
+      nextControl = entry-lt s (stagesOf lo hi (a .effect)) z o h;
+    }
 
     lower-ok : (z : ℕ) → 1 ≤ z → (acts : List SourceAction) (s : ℕ) → s + stageCount lo hi acts ≤ z → All (SourceActionOk n sizes) acts → All (RowOk sizes z) (lowerActions lo hi s acts)
     lower-ok z o [] s h k = tt
     lower-ok z o (a ∷ acts) s h (k, ks) = (
       first-ok z s a o (omega (arith, h)) k,
       all-app (RowOk sizes z) (stagesActions s (stagesOf lo hi (a .effect))) (lowerActions lo hi (s + length (stagesOf lo hi (a .effect))) acts)
-        (rows-ok sizes z o (stagesOf lo hi (a .effect)) s (omega (arith, h)) (stages-ok n (a .effect) (k .effectOk)))
-        (lower-ok z o acts (s + length (stagesOf lo hi (a .effect))) (omega (arith, h)) ks))
+          (rows-ok sizes z o (stagesOf lo hi (a .effect)) s (omega (arith, h)) (stages-ok n (a .effect) (k .effectOk)))
+          (lower-ok z o acts (s + length (stagesOf lo hi (a .effect))) (omega (arith, h)) ks),
+    )
 
     stages-count : (acts : List SourceAction) → All (SourceActionOk n sizes) acts → stageCount lo hi acts ≤ 10 * length acts
     stages-count [] h = omega arith
@@ -306,8 +337,14 @@ module _ (lo hi : ℕ → ℤ) (loUp : (j : ℕ) → natAbs (lo j) ≤ 10_000) (
 
     lower-length : (acts : List SourceAction) (s : ℕ) → All (SourceActionOk n sizes) acts → length (lowerActions lo hi s acts) ≤ 31 * length acts
     lower-length [] s h = omega arith
-    lower-length (a ∷ acts) s (h, hs) = omega (arith, stages-few n (a .effect) (h .effectOk), rows-length s (stagesOf lo hi (a .effect)), widths-few (stagesOf lo hi (a .effect)),
-      length-append (stagesActions s (stagesOf lo hi (a .effect))) (lowerActions lo hi (s + length (stagesOf lo hi (a .effect))) acts), lower-length acts (s + length (stagesOf lo hi (a .effect))) hs)
+    lower-length (a ∷ acts) s (h, hs) = omega (
+      arith,
+      stages-few n (a .effect) (h .effectOk),
+      rows-length s (stagesOf lo hi (a .effect)),
+      widths-few (stagesOf lo hi (a .effect)),
+      length-append (stagesActions s (stagesOf lo hi (a .effect))) (lowerActions lo hi (s + length (stagesOf lo hi (a .effect))) acts),
+      lower-length acts (s + length (stagesOf lo hi (a .effect))) hs,
+    )
 
 write-length : (n m : ℕ) (R : List NamedAction) → length (numberedAll n m R) ≡ length R
 write-length n m [] = refl
@@ -353,7 +390,8 @@ act-in n sizes a k = record {
   conditionsIn = cond-vars n 10_000 (a .conditions) (k .conditionsOk .conditionsIn);
   modeEffectsIn = firsts sizes (a .modeEffects) (k .modeEffectsIn);
   modeEffectsOnce = apart-once (a .modeEffects) (k .modeEffectsOnce);
-  effectIn = eff-in n (a .effect) (k .effectOk) }
+  effectIn = eff-in n (a .effect) (k .effectOk);
+}
 
 -- ---- bounds and starts
 between : (C : ℕ) (a z b : ℤ) → T (leZ a z) → T (leZ z b) → natAbs a ≤ C → natAbs b ≤ C → natAbs z ≤ C
@@ -409,7 +447,7 @@ module _ (t : SourceTask) (S : SourceTaskOk t) where
   pub accepted : Accepted (length (t .variables)) (length (t .modes)) (lowerBounds t) (upperBounds t) (t .actions) (sizesOf (t .modes)) (t .goalModes) (t .goalConditions) (sourceStart t)
   accepted = record {
     actionsIn = subst (λ (m : ℕ). All (ActionIn (length (t .variables)) m) (t .actions)) long
-      (all-to (SourceActionOk (length (t .variables)) (sizesOf (t .modes))) (ActionIn (length (t .variables)) (length (sizesOf (t .modes)))) (act-in (length (t .variables)) (sizesOf (t .modes))) (t .actions) (S .actionsOk));
+        (all-to (SourceActionOk (length (t .variables)) (sizesOf (t .modes))) (ActionIn (length (t .variables)) (length (sizesOf (t .modes)))) (act-in (length (t .variables)) (sizesOf (t .modes))) (t .actions) (S .actionsOk));
     constants = all-to (SourceActionOk (length (t .variables)) (sizesOf (t .modes))) (λ (a : SourceAction). EffUpTo 1_000_000_000 (a .effect)) (λ a k. eff-up (length (t .variables)) (a .effect) (k .effectOk)) (t .actions) (S .actionsOk);
     sets = all-to (SourceActionOk (length (t .variables)) (sizesOf (t .modes))) (λ (a : SourceAction). ValuesIn (sizesOf (t .modes)) (a .modeEffects)) (λ a k. k .modeEffectsIn) (t .actions) (S .actionsOk);
     sizesLong = long;
@@ -419,7 +457,8 @@ module _ (t : SourceTask) (S : SourceTaskOk t) where
     modesLong = length-each (λ (m : ℕ × ℕ). m .1) (t .modes);
     good = start-good (t .variables) (S .variablesIn);
     below = modes-below (t .modes) 16 (S .modesIn);
-    starts = start-up (t .variables) (S .variablesIn) }
+    starts = start-up (t .variables) (S .variablesIn);
+  }
 
 -- THE LOWERED TASK is well-formed
 keys-app : (xs ys : List (ℕ × ℕ)) → keys (xs ++ ys) ≡ keys xs ++ keys ys
@@ -442,8 +481,8 @@ module _ (t : SourceTask) (S : SourceTaskOk t) where
 
   acts-ok : All (RestrictedActionOk restrictedLimits (length (t .variables) + 2) (sizesOf (t .modes) ++ (suc (stageCount (lowerBounds t) (upperBounds t) (t .actions)) ∷ []))) (lowerTask t .actions)
   acts-ok = write-all (length (t .variables)) (length (t .modes)) (sizesOf (t .modes)) (suc (stageCount (lowerBounds t) (upperBounds t) (t .actions))) (length-keys (t .modes)) (lowerActions (lowerBounds t) (upperBounds t) 1 (t .actions))
-    (lower-in (length (t .variables)) (length (t .modes)) (lowerBounds t) (upperBounds t) (t .actions) 1 (accepted t S .actionsIn))
-    (lower-ok (lowerBounds t) (upperBounds t) (lower-up (t .variables) (S .variablesIn)) (upper-up (t .variables) (S .variablesIn)) (length (t .variables)) (sizesOf (t .modes)) (suc (stageCount (lowerBounds t) (upperBounds t) (t .actions))) (omega arith) (t .actions) 1 (omega arith) (S .actionsOk))
+      (lower-in (length (t .variables)) (length (t .modes)) (lowerBounds t) (upperBounds t) (t .actions) 1 (accepted t S .actionsIn))
+      (lower-ok (lowerBounds t) (upperBounds t) (lower-up (t .variables) (S .variablesIn)) (upper-up (t .variables) (S .variablesIn)) (length (t .variables)) (sizesOf (t .modes)) (suc (stageCount (lowerBounds t) (upperBounds t) (t .actions))) (omega arith) (t .actions) 1 (omega arith) (S .actionsOk))
 
   goal-ok : ConditionsOk restrictedLimits (length (t .variables) + 2) (sizesOf (t .modes) ++ (suc (stageCount (lowerBounds t) (upperBounds t) (t .actions)) ∷ [])) (lowerTask t .goalModes) (t .goalConditions)
   goal-ok = record {
@@ -451,7 +490,8 @@ module _ (t : SourceTask) (S : SourceTaskOk t) where
     modeConditionsIn = values-more (sizesOf (t .modes)) (suc (stageCount (lowerBounds t) (upperBounds t) (t .actions))) (length (t .modes)) 0 (length-keys (t .modes)) (omega arith) (t .goalModes) (S .goal .modeConditionsIn);
     conditionsFew = omega (arith, S .goal .conditionsFew);
     conditionsIn = all-to (λ (c : NumericCondition ℕ). MeasureIn (λ (i : ℕ). i < length (t .variables)) (c .measured) × (natAbs (c .constant) ≤ 10_000))
-      (λ (c : NumericCondition ℕ). MeasureIn (λ (i : ℕ). i < length (t .variables) + 2) (c .measured) × (natAbs (c .constant) ≤ 1_000_000_000)) (λ c h. (lhs (c .measured) (h .0), omega (arith, h .1))) (t .goalConditions) (S .goal .conditionsIn) }
+        (λ (c : NumericCondition ℕ). MeasureIn (λ (i : ℕ). i < length (t .variables) + 2) (c .measured) × (natAbs (c .constant) ≤ 1_000_000_000)) (λ c h. (lhs (c .measured) (h .0), omega (arith, h .1))) (t .goalConditions) (S .goal .conditionsIn);
+  }
     where
       lhs : (l : Measured ℕ) → MeasureIn (λ (i : ℕ). i < length (t .variables)) l → MeasureIn (λ (i : ℕ). i < length (t .variables) + 2) l
       lhs (variable i) h = omega (arith, h)
@@ -463,11 +503,16 @@ module _ (t : SourceTask) (S : SourceTaskOk t) where
     startsIn = starts-in (t .variables) (S .variablesIn);
     modesFew = omega (arith, length-append (t .modes) ((suc (stageCount (lowerBounds t) (upperBounds t) (t .actions)), 0) ∷ []), S .modesFew);
     modesIn = all-app (λ (m : ℕ × ℕ). (m .1 < m .0) × (m .0 ≤ 8192)) (t .modes) ((suc (stageCount (lowerBounds t) (upperBounds t) (t .actions)), 0) ∷ [])
-      (all-to (λ (m : ℕ × ℕ). (m .1 < m .0) × (m .0 ≤ 16)) (λ (m : ℕ × ℕ). (m .1 < m .0) × (m .0 ≤ 8192)) (λ m h. (h .0, omega (arith, h .1))) (t .modes) (S .modesIn))
-      ((omega arith, omega (arith, stage-few)), tt);
-    actionsFew = omega (arith, write-length (length (t .variables)) (length (t .modes)) (lowerActions (lowerBounds t) (upperBounds t) 1 (t .actions)),
-      lower-length (lowerBounds t) (upperBounds t) (lower-up (t .variables) (S .variablesIn)) (upper-up (t .variables) (S .variablesIn)) (length (t .variables)) (sizesOf (t .modes)) (t .actions) 1 (S .actionsOk), S .actionsFew);
+        (all-to (λ (m : ℕ × ℕ). (m .1 < m .0) × (m .0 ≤ 16)) (λ (m : ℕ × ℕ). (m .1 < m .0) × (m .0 ≤ 8192)) (λ m h. (h .0, omega (arith, h .1))) (t .modes) (S .modesIn))
+        ((omega arith, omega (arith, stage-few)), tt);
+    actionsFew = omega (
+      arith,
+      write-length (length (t .variables)) (length (t .modes)) (lowerActions (lowerBounds t) (upperBounds t) 1 (t .actions)),
+      lower-length (lowerBounds t) (upperBounds t) (lower-up (t .variables) (S .variablesIn)) (upper-up (t .variables) (S .variablesIn)) (length (t .variables)) (sizesOf (t .modes)) (t .actions) 1 (S .actionsOk),
+      S .actionsFew,
+    );
     actionsOk = subst (λ (k : ℕ). All (RestrictedActionOk restrictedLimits k (sizesOf (lowerTask t .modes))) (lowerTask t .actions)) (sym nStarts)
-      (subst (λ (s : List ℕ). All (RestrictedActionOk restrictedLimits (length (t .variables) + 2) s) (lowerTask t .actions)) (sym sizesR) acts-ok);
+        (subst (λ (s : List ℕ). All (RestrictedActionOk restrictedLimits (length (t .variables) + 2) s) (lowerTask t .actions)) (sym sizesR) acts-ok);
     goal = subst (λ (k : ℕ). ConditionsOk restrictedLimits k (sizesOf (lowerTask t .modes)) (lowerTask t .goalModes) (t .goalConditions)) (sym nStarts)
-      (subst (λ (s : List ℕ). ConditionsOk restrictedLimits (length (t .variables) + 2) s (lowerTask t .goalModes) (t .goalConditions)) (sym sizesR) goal-ok) }
+        (subst (λ (s : List ℕ). ConditionsOk restrictedLimits (length (t .variables) + 2) s (lowerTask t .goalModes) (t .goalConditions)) (sym sizesR) goal-ok);
+  }

@@ -170,9 +170,9 @@ Smalls n a = All (λ (c : NumericCondition ℕ). MeasureIn (λ (i : ℕ). i < n)
 act-back : (n : ℕ) (a : RestrictedAction) (more : List Command) (s d : Draft) → Smalls n a → beforeAll more s ≡ d → d .current ≡ emptyPart → beforeAll (actionCommands a more) s ≡ putActs (partOf a ∷ []) d
 act-back n a more s d (h, g) e q =
     ap (before Action) (
-      places-back (a .modeConditions) _ s ∙ ap (inside (putPs (a .modeConditions))) (compares-back n (a .conditions) _ s h ∙ ap (inside (putCs (a .conditions))) (effects-back (a .modeEffects) _ s ∙ ap (inside (putEs (a .modeEffects))) (adds-back (a .additions) more s g ∙ ap (inside (putAdds (a .additions))) e)))
-      ∙ (λ i. withCurrent d (putPs (a .modeConditions) (putCs (a .conditions) (putEs (a .modeEffects) (putAdds (a .additions) (q i))))))
-      ∙ (λ i. withCurrent d (record { modeConditions = append-nil (a .modeConditions) i; conditions = append-nil (a .conditions) i; modeEffects = append-nil (a .modeEffects) i; additions = append-nil (a .additions) i; effect = headEff (a .additions) noEffect; terms = [] }))
+    places-back (a .modeConditions) _ s ∙ ap (inside (putPs (a .modeConditions))) (compares-back n (a .conditions) _ s h ∙ ap (inside (putCs (a .conditions))) (effects-back (a .modeEffects) _ s ∙ ap (inside (putEs (a .modeEffects))) (adds-back (a .additions) more s g ∙ ap (inside (putAdds (a .additions))) e)))
+    ∙ (λ i. withCurrent d (putPs (a .modeConditions) (putCs (a .conditions) (putEs (a .modeEffects) (putAdds (a .additions) (q i))))))
+    ∙ (λ i. withCurrent d (record { modeConditions = append-nil (a .modeConditions) i; conditions = append-nil (a .conditions) i; modeEffects = append-nil (a .modeEffects) i; additions = append-nil (a .additions) i; effect = headEff (a .additions) noEffect; terms = [] }))
     )
 
 acts-back : (n : ℕ) (acts : List RestrictedAction) (more : List Command) (s d : Draft) → All (Smalls n) acts → beforeAll more s ≡ d → d .current ≡ emptyPart → beforeAll (actionsCommands acts more) s ≡ putActs (each partOf acts) d
@@ -199,14 +199,15 @@ module _ (r : RestrictedTask) (F : RestrictedTaskOk r) where
   smalls : All (Smalls (length (r .starts))) (r .actions)
   smalls = all-to (RestrictedActionOk restrictedLimits (length (r .starts)) (sizesOf (r .modes))) (Smalls (length (r .starts))) (λ a h. (
     h .conditionsOk .conditionsIn,
-    all-to (λ (e : ℕ × ℤ). (e .0 < length (r .starts)) × (1 ≤ natAbs (e .1)) × Small (e .1)) (λ (e : ℕ × ℤ). Small (e .1)) (λ c q. q .2) (a .additions) (h .additionsIn))) (r .actions) (F .actionsOk)
+    all-to (λ (e : ℕ × ℤ). (e .0 < length (r .starts)) × (1 ≤ natAbs (e .1)) × Small (e .1)) (λ (e : ℕ × ℤ). Small (e .1)) (λ c q. q .2) (a .additions) (h .additionsIn),
+  )) (r .actions) (F .actionsOk)
 
   pub draft-back : draftOf (fileCommands r) ≡ putStarts (r .starts) (putModes (r .modes) (putActs (each partOf (r .actions)) (goalDraft (r .goalModes) (r .goalConditions))))
   draft-back =
       starts-back (r .starts) _ blank (F .startsIn)
       ∙ ap (putStarts (r .starts)) (modes-back (r .modes) _ blank
-        ∙ ap (putModes (r .modes)) (acts-back (length (r .starts)) (r .actions) _ blank (goalDraft (r .goalModes) (r .goalConditions)) smalls
-            (goal-back (length (r .starts)) (r .goalModes) (r .goalConditions) (F .goal .conditionsIn)) refl))
+      ∙ ap (putModes (r .modes)) (acts-back (length (r .starts)) (r .actions) _ blank (goalDraft (r .goalModes) (r .goalConditions)) smalls
+      (goal-back (length (r .starts)) (r .goalModes) (r .goalConditions) (F .goal .conditionsIn)) refl))
 
   task-back : restrictedTaskOf (draftOf (fileCommands r)) ≡ r
   task-back = ap restrictedTaskOf draft-back ∙ λ i. record { starts = append-nil (r .starts) i; modes = append-nil (r .modes) i; actions = again (r .actions) i; goalModes = r .goalModes; goalConditions = r .goalConditions }

@@ -135,16 +135,21 @@ module _ (n : ℕ) (sizes : List ℕ) where
   -- a command other than T shuts the row of T's
   shut : (p : ReadingState) {e : Effect} {ts : List (ℕ × ℤ)} → Inv n sizes p → NumOk n (p .numericEffects) 0 (p .variablesSeen) e ts → NumOk n (p .numericEffects) (p .terms) (p .variablesSeen) e ts
   shut p {e} {ts} i o = record {
-    effect = o .effect; sole = o .sole; tsOk = o .tsOk; free = o .free;
+    effect = o .effect;
+    sole = o .sole;
+    tsOk = o .tsOk;
+    free = o .free;
     none = λ h z. o .none h refl;
-    few = λ h. omega (arith, i .tFew, ap length (o .none (i .tOne h) refl)) }
+    few = λ h. omega (arith, i .tFew, ap length (o .none (i .tOne h) refl));
+  }
 
   nothing-ok : (p : ReadingState) → Inv n sizes p → CurOk n sizes p emptyPart
   nothing-ok p i = (
     (omega (arith, i .plcs), tt),
     (omega (arith, i .cmps), tt),
     (tt, tt, tt),
-    record { effect = tt; sole = λ h. refl; tsOk = (tt, tt); free = tt; none = λ h z. refl; few = λ h. omega (arith, i .tFew) })
+    record { effect = tt; sole = λ h. refl; tsOk = (tt, tt); free = tt; none = λ h z. refl; few = λ h. omega (arith, i .tFew) },
+  )
 
   var-of : (p : ReadingState) (v : ℕ) → Inv n sizes p → noVariable p v ≡ false → v < n
   var-of p v i e = omega (arith, over (p .variables) v e, i .core .variables)
@@ -160,31 +165,82 @@ module _ (n : ℕ) (sizes : List ℕ) where
       → Off (testsOf l p (Condition v r k)) → Step p (Condition v r k) (nextOf p (Condition v r k))
   unfolding testsOf nextOf
   compare-step p v r k i (a, (b, (c, (e, t)))) = (
-    record { core = core-as p (withCondition p) (i .core) refl refl refl; nFew = i .nFew; sFew = i .sFew; actions = i .actions; plcs = i .plcs; cmps = omega (arith, over 8 (p .conditions) a);
-      tFew = omega arith; tOne = λ h. absurd (omega (arith, h)); marked = i .marked; seenl = i .seenl },
-    λ d R. let (ps, cs, es, nu) = R .current in record { variables = R .variables; modes = R .modes; actions = R .actions; few = R .few; goal = R .goal;
-      current = (ps, (omega (arith, cs .0), ((var-of p v i b, upTo 10_000 (natAbs (constant k)) e), cs .1)), es, shut p i nu) })
+    record {
+      core = core-as p (withCondition p) (i .core) refl refl refl;
+      nFew = i .nFew;
+      sFew = i .sFew;
+      actions = i .actions;
+      plcs = i .plcs;
+      cmps = omega (arith, over 8 (p .conditions) a);
+      tFew = omega arith;
+      tOne = λ h. absurd (omega (arith, h));
+      marked = i .marked;
+      seenl = i .seenl;
+    },
+    λ d R. let (ps, cs, es, nu) = R .current in record {
+      variables = R .variables;
+      modes = R .modes;
+      actions = R .actions;
+      few = R .few;
+      goal = R .goal;
+      current = (ps, (omega (arith, cs .0), ((var-of p v i b, upTo 10_000 (natAbs (constant k)) e), cs .1)), es, shut p i nu);
+    },
+  )
 
   place-step : (p : ReadingState) (m x : ℕ) → Inv n sizes p
       → Off (testsOf l p (ModeCondition m x)) → Step p (ModeCondition m x) (nextOf p (ModeCondition m x))
   unfolding testsOf nextOf
   place-step p m x i (a, (b, (c, t))) = (
-    record { core = core-as p (withModeCondition p) (i .core) refl refl refl; nFew = i .nFew; sFew = i .sFew; actions = i .actions; plcs = omega (arith, over 8 (p .modeConditions) a); cmps = i .cmps;
-      tFew = omega arith; tOne = λ h. absurd (omega (arith, h)); marked = i .marked; seenl = i .seenl },
-    λ d R. let (ps, cs, es, nu) = R .current in record { variables = R .variables; modes = R .modes; actions = R .actions; few = R .few; goal = R .goal;
-      current = ((omega (arith, ps .0), (value-of p m x i b c, ps .1)), cs, es, shut p i nu) })
+    record {
+      core = core-as p (withModeCondition p) (i .core) refl refl refl;
+      nFew = i .nFew;
+      sFew = i .sFew;
+      actions = i .actions;
+      plcs = omega (arith, over 8 (p .modeConditions) a);
+      cmps = i .cmps;
+      tFew = omega arith;
+      tOne = λ h. absurd (omega (arith, h));
+      marked = i .marked;
+      seenl = i .seenl;
+    },
+    λ d R. let (ps, cs, es, nu) = R .current in record {
+      variables = R .variables;
+      modes = R .modes;
+      actions = R .actions;
+      few = R .few;
+      goal = R .goal;
+      current = ((omega (arith, ps .0), (value-of p m x i b c, ps .1)), cs, es, shut p i nu);
+    },
+  )
 
   effect-step : (p : ReadingState) (m x : ℕ) → Inv n sizes p
       → Off (testsOf l p (ModeEffect m x)) → Step p (ModeEffect m x) (nextOf p (ModeEffect m x))
   unfolding testsOf nextOf
   effect-step p m x i (b, (c, (a, t))) = (
-    record { core = core-as p (withModeEffect p m) (i .core) refl refl refl; nFew = i .nFew; sFew = i .sFew; actions = i .actions; plcs = i .plcs; cmps = i .cmps;
-      tFew = omega arith; tOne = λ h. absurd (omega (arith, h)); marked = length-set (p .modesSet) m 1 ∙ i .marked; seenl = i .seenl },
+    record {
+      core = core-as p (withModeEffect p m) (i .core) refl refl refl;
+      nFew = i .nFew;
+      sFew = i .sFew;
+      actions = i .actions;
+      plcs = i .plcs;
+      cmps = i .cmps;
+      tFew = omega arith;
+      tOne = λ h. absurd (omega (arith, h));
+      marked = length-set (p .modesSet) m 1 ∙ i .marked;
+      seenl = i .seenl;
+    },
     λ d R. let (ps, cs, es, nu) = R .current in
-      let v : (m < length sizes) × (x < naturalAt sizes m) = value-of p m x i b c in
-      let u : Free (p .modesSet) (keys (d .current .modeEffects)) × All (λ (j : ℕ). eqb j m ≡ false) (keys (d .current .modeEffects)) = unset (p .modesSet) m (omega (arith, v .0, i .sFew, i .marked)) (keys (d .current .modeEffects)) (es .2) in
-      record { variables = R .variables; modes = R .modes; actions = R .actions; few = R .few; goal = R .goal;
-        current = (ps, cs, ((v, es .0), (u .1, es .1), (unmarked (getD (p .modesSet) m 0) a, u .0)), shut p i nu) })
+        let v : (m < length sizes) × (x < naturalAt sizes m) = value-of p m x i b c in
+        let u : Free (p .modesSet) (keys (d .current .modeEffects)) × All (λ (j : ℕ). eqb j m ≡ false) (keys (d .current .modeEffects)) = unset (p .modesSet) m (omega (arith, v .0, i .sFew, i .marked)) (keys (d .current .modeEffects)) (es .2) in
+        record {
+          variables = R .variables;
+          modes = R .modes;
+          actions = R .actions;
+          few = R .few;
+          goal = R .goal;
+          current = (ps, cs, ((v, es .0), (u .1, es .1), (unmarked (getD (p .modesSet) m 0) a, u .0)), shut p i nu);
+        },
+  )
     where
       unmarked : (z : ℕ) → leb 1 z ≡ false → z ≡ 0
       unmarked z e = omega (arith, over 1 z e)
@@ -193,48 +249,117 @@ module _ (n : ℕ) (sizes : List ℕ) where
       → Off (testsOf l p (Add v k)) → Step p (Add v k) (nextOf p (Add v k))
   unfolding testsOf nextOf
   add-step p v k i (_, (b, (z, (e, (a, t))))) = (
-    record { core = core-as p (withAdd p v) (i .core) refl refl refl; nFew = i .nFew; sFew = i .sFew; actions = i .actions; plcs = i .plcs; cmps = i .cmps;
-      tFew = omega arith; tOne = λ h. absurd (omega (arith, h)); marked = i .marked; seenl = length-set (p .variablesSeen) v 1 ∙ i .seenl },
-    λ d R. let (ps, cs, es, nu) = R .current in record { variables = R .variables; modes = R .modes; actions = R .actions; few = R .few; goal = R .goal;
-      current = (ps, cs, es, record {
-        effect = (var-of p v i b, (some₁ (natAbs (constant k)) z, upTo 10_000 (natAbs (constant k)) e));
-        sole = λ h. absurd (omega (arith, h, over 1 (p .numericEffects) a));
-        tsOk = nu .tsOk;
-        free = unset (p .variablesSeen) v (omega (arith, var-of p v i b, i .nFew, i .seenl)) (keys (d .current .terms)) (nu .free) .0;
-        none = λ h q. absurd (omega (arith, h, over 1 (p .numericEffects) a));
-        few = λ h. absurd (omega (arith, i .tOne h, over 1 (p .numericEffects) a)) }) })
+    record {
+      core = core-as p (withAdd p v) (i .core) refl refl refl;
+      nFew = i .nFew;
+      sFew = i .sFew;
+      actions = i .actions;
+      plcs = i .plcs;
+      cmps = i .cmps;
+      tFew = omega arith;
+      tOne = λ h. absurd (omega (arith, h));
+      marked = i .marked;
+      seenl = length-set (p .variablesSeen) v 1 ∙ i .seenl;
+    },
+    λ d R. let (ps, cs, es, nu) = R .current in record {
+      variables = R .variables;
+      modes = R .modes;
+      actions = R .actions;
+      few = R .few;
+      goal = R .goal;
+      current = (
+        ps,
+        cs,
+        es,
+        record {
+          effect = (var-of p v i b, (some₁ (natAbs (constant k)) z, upTo 10_000 (natAbs (constant k)) e));
+          sole = λ h. absurd (omega (arith, h, over 1 (p .numericEffects) a));
+          tsOk = nu .tsOk;
+          free = unset (p .variablesSeen) v (omega (arith, var-of p v i b, i .nFew, i .seenl)) (keys (d .current .terms)) (nu .free) .0;
+          none = λ h q. absurd (omega (arith, h, over 1 (p .numericEffects) a));
+          few = λ h. absurd (omega (arith, i .tOne h, over 1 (p .numericEffects) a));
+        },
+      );
+    },
+  )
 
   linear-step : (p : ReadingState) (v k : ℕ) → Inv n sizes p
       → Off (testsOf l p (Linear v k)) → Step p (Linear v k) (nextOf p (Linear v k))
   unfolding testsOf nextOf
   linear-step p v k i (b, (e, (a, t))) = (
-    record { core = core-as p (withNumericEffect p 1) (i .core) refl refl refl; nFew = i .nFew; sFew = i .sFew; actions = i .actions; plcs = i .plcs; cmps = i .cmps;
-      tFew = omega arith; tOne = λ h. omega arith; marked = i .marked; seenl = i .seenl },
-    λ d R. let (ps, cs, es, nu) = R .current in record { variables = R .variables; modes = R .modes; actions = R .actions; few = R .few; goal = R .goal;
-      current = (ps, cs, es, record {
-        effect = (var-of p v i b, upTo 10_000 (natAbs (constant k)) e, omega (arith, nu .few (omega arith)), nu .tsOk);
-        sole = λ h. absurd (omega (arith, h, over 1 (p .numericEffects) a));
-        tsOk = nu .tsOk;
-        free = nu .free;
-        none = λ h q. absurd (omega (arith, h, over 1 (p .numericEffects) a));
-        few = λ h. absurd (omega (arith, i .tOne h, over 1 (p .numericEffects) a)) }) })
+    record {
+      core = core-as p (withNumericEffect p 1) (i .core) refl refl refl;
+      nFew = i .nFew;
+      sFew = i .sFew;
+      actions = i .actions;
+      plcs = i .plcs;
+      cmps = i .cmps;
+      tFew = omega arith;
+      tOne = λ h. omega arith;
+      marked = i .marked;
+      seenl = i .seenl;
+    },
+    λ d R. let (ps, cs, es, nu) = R .current in record {
+      variables = R .variables;
+      modes = R .modes;
+      actions = R .actions;
+      few = R .few;
+      goal = R .goal;
+      current = (
+        ps,
+        cs,
+        es,
+        record {
+          effect = (var-of p v i b, upTo 10_000 (natAbs (constant k)) e, omega (arith, nu .few (omega arith)), nu .tsOk);
+          sole = λ h. absurd (omega (arith, h, over 1 (p .numericEffects) a));
+          tsOk = nu .tsOk;
+          free = nu .free;
+          none = λ h q. absurd (omega (arith, h, over 1 (p .numericEffects) a));
+          few = λ h. absurd (omega (arith, i .tOne h, over 1 (p .numericEffects) a));
+        },
+      );
+    },
+  )
 
   term-step : (p : ReadingState) (v k : ℕ) → Inv n sizes p → 1 ≤ p .terms
       → Off (testsOf l p (Term v k)) → Step p (Term v k) (nextOf p (Term v k))
   unfolding testsOf nextOf
   term-step p v k i o (f, (b, (z, (e, (a, t))))) = (
-    record { core = core-as p (withTerm p v) (i .core) refl refl refl; nFew = i .nFew; sFew = i .sFew; actions = i .actions; plcs = i .plcs; cmps = i .cmps;
-      tFew = omega (arith, upTo 4 (p .terms) f); tOne = λ h. i .tOne o; marked = i .marked; seenl = length-set (p .variablesSeen) v 1 ∙ i .seenl },
+    record {
+      core = core-as p (withTerm p v) (i .core) refl refl refl;
+      nFew = i .nFew;
+      sFew = i .sFew;
+      actions = i .actions;
+      plcs = i .plcs;
+      cmps = i .cmps;
+      tFew = omega (arith, upTo 4 (p .terms) f);
+      tOne = λ h. i .tOne o;
+      marked = i .marked;
+      seenl = length-set (p .variablesSeen) v 1 ∙ i .seenl;
+    },
     λ d R. let (ps, cs, es, nu) = R .current in
-      let u : Free (p .variablesSeen) (keys (d .current .terms)) × All (λ (j : ℕ). eqb j v ≡ false) (keys (d .current .terms)) = unset (p .variablesSeen) v (omega (arith, var-of p v i b, i .nFew, i .seenl)) (keys (d .current .terms)) (nu .free) in
-      record { variables = R .variables; modes = R .modes; actions = R .actions; few = R .few; goal = R .goal;
-      current = (ps, cs, es, record {
-        effect = nu .effect;
-        sole = nu .sole;
-        tsOk = (((var-of p v i b, (some₁ (natAbs (constant k)) z, upTo 10_000 (natAbs (constant k)) e)), nu .tsOk .0), (u .1, nu .tsOk .1));
-        free = (unmarked (getD (p .variablesSeen) v 0) a, u .0);
-        none = λ h q. absurd (omega (arith, o, q));
-        few = λ h. omega (arith, nu .few (omega arith)) }) })
+        let u : Free (p .variablesSeen) (keys (d .current .terms)) × All (λ (j : ℕ). eqb j v ≡ false) (keys (d .current .terms)) = unset (p .variablesSeen) v (omega (arith, var-of p v i b, i .nFew, i .seenl)) (keys (d .current .terms)) (nu .free) in
+        record {
+          variables = R .variables;
+          modes = R .modes;
+          actions = R .actions;
+          few = R .few;
+          goal = R .goal;
+          current = (
+            ps,
+            cs,
+            es,
+            record {
+              effect = nu .effect;
+              sole = nu .sole;
+              tsOk = (((var-of p v i b, (some₁ (natAbs (constant k)) z, upTo 10_000 (natAbs (constant k)) e)), nu .tsOk .0), (u .1, nu .tsOk .1));
+              free = (unmarked (getD (p .variablesSeen) v 0) a, u .0);
+              none = λ h q. absurd (omega (arith, o, q));
+              few = λ h. omega (arith, nu .few (omega arith));
+            },
+          );
+        },
+  )
     where
       unmarked : (z : ℕ) → leb 1 z ≡ false → z ≡ 0
       unmarked z e = omega (arith, over 1 z e)
@@ -243,21 +368,54 @@ module _ (n : ℕ) (sizes : List ℕ) where
       → ((v < n) × (y < n) × Factor (constant k) → EffectOk n f) → Inv n sizes p → Off (testsOf l p (Quotient v y k)) → Step p c (withNumericEffect p 0)
   unfolding testsOf nextOf
   divided p v y k c f is ok i (b, (b′, (z, (e, (a, t))))) = (
-    record { core = core-as p (withNumericEffect p 0) (i .core) refl refl refl; nFew = i .nFew; sFew = i .sFew; actions = i .actions; plcs = i .plcs; cmps = i .cmps;
-      tFew = omega arith; tOne = λ h. absurd (omega (arith, h)); marked = i .marked; seenl = i .seenl },
-    λ d R. let (ps, cs, es, nu) = R .current in subst (Rest n sizes p) (sym (is d)) (record { variables = R .variables; modes = R .modes; actions = R .actions; few = R .few; goal = R .goal;
-      current = (ps, cs, es, record {
-        effect = ok (var-of p v i b, var-of p y i b′, (some₁ (natAbs (constant k)) z, upTo 10_000 (natAbs (constant k)) e));
-        sole = λ h. absurd (omega (arith, h, over 1 (p .numericEffects) a));
-        tsOk = nu .tsOk;
-        free = nu .free;
-        none = λ h q. absurd (omega (arith, h, over 1 (p .numericEffects) a));
-        few = λ h. absurd (omega (arith, i .tOne h, over 1 (p .numericEffects) a)) }) }))
+    record {
+      core = core-as p (withNumericEffect p 0) (i .core) refl refl refl;
+      nFew = i .nFew;
+      sFew = i .sFew;
+      actions = i .actions;
+      plcs = i .plcs;
+      cmps = i .cmps;
+      tFew = omega arith;
+      tOne = λ h. absurd (omega (arith, h));
+      marked = i .marked;
+      seenl = i .seenl;
+    },
+    λ d R. let (ps, cs, es, nu) = R .current in subst (Rest n sizes p) (sym (is d)) (record {
+      variables = R .variables;
+      modes = R .modes;
+      actions = R .actions;
+      few = R .few;
+      goal = R .goal;
+      current = (
+        ps,
+        cs,
+        es,
+        record {
+          effect = ok (var-of p v i b, var-of p y i b′, (some₁ (natAbs (constant k)) z, upTo 10_000 (natAbs (constant k)) e));
+          sole = λ h. absurd (omega (arith, h, over 1 (p .numericEffects) a));
+          tsOk = nu .tsOk;
+          free = nu .free;
+          none = λ h q. absurd (omega (arith, h, over 1 (p .numericEffects) a));
+          few = λ h. absurd (omega (arith, i .tOne h, over 1 (p .numericEffects) a));
+        },
+      );
+    }),
+  )
 
   -- ---- an action or the goal begins
   open-inv : (p : ReadingState) (s a : ℕ) → Core n sizes p → n ≤ 8 → length sizes ≤ 4 → a ≤ 32 → Inv n sizes (opened p s a)
-  open-inv p s a c nf sf h = record { core = core-as p (opened p s a) c refl refl refl; nFew = nf; sFew = sf; actions = h; plcs = omega arith; cmps = omega arith;
-    tFew = omega arith; tOne = λ q. absurd (omega (arith, q)); marked = refl; seenl = refl }
+  open-inv p s a c nf sf h = record {
+    core = core-as p (opened p s a) c refl refl refl;
+    nFew = nf;
+    sFew = sf;
+    actions = h;
+    plcs = omega arith;
+    cmps = omega arith;
+    tFew = omega arith;
+    tOne = λ q. absurd (omega (arith, q));
+    marked = refl;
+    seenl = refl;
+  }
 
   conds-of : (p : ReadingState) (s a : ℕ) (c : Part) → CurOk n sizes (opened p s a) c → ConditionsOk l n sizes (c .modeConditions) (c .conditions)
   conds-of p s a c (ps, cs, es, nu) = record { modeConditionsFew = omega (arith, ps .0); modeConditionsIn = ps .1; conditionsFew = omega (arith, cs .0); conditionsIn = cs .1 }
@@ -324,13 +482,14 @@ record Decl (n : ℕ) (sizes : List ℕ) (d : Draft) : Type 0 where
 declared : (n : ℕ) (sizes : List ℕ) (p : ReadingState) (d : Draft) → n ≤ 8 → length sizes ≤ 4 → d .variables ≡ [] → d .modes ≡ [] → length (d .actions) ≤ 32 → All (SourceActionOk n sizes) (each sourceActionOf (d .actions))
     → ConditionsOk l n sizes (d .goal .modeConditions) (d .goal .conditions) → Decl n sizes d
 declared n sizes p d h k ev em few acts goal = record {
-    variablesFew = omega (arith, h, eN);
-    variablesIn = subst (λ (x : List SourceVariable). All SourceVariableOk x) (sym ev) tt;
-    modesFew = omega (arith, k, ap length eS);
-    modesIn = subst (λ (x : List (ℕ × ℕ)). All (λ (m : ℕ × ℕ). (m .1 < m .0) × (m .0 ≤ 16)) x) (sym em) tt;
-    few = few;
-    actions = subst (λ (s : List ℕ). All (SourceActionOk (n + length (d .variables)) s) (each sourceActionOf (d .actions))) (sym eS) (subst (λ (m : ℕ). All (SourceActionOk m sizes) (each sourceActionOf (d .actions))) (sym eN) acts);
-    goal = subst (λ (s : List ℕ). ConditionsOk l (n + length (d .variables)) s (d .goal .modeConditions) (d .goal .conditions)) (sym eS) (subst (λ (m : ℕ). ConditionsOk l m sizes (d .goal .modeConditions) (d .goal .conditions)) (sym eN) goal) }
+  variablesFew = omega (arith, h, eN);
+  variablesIn = subst (λ (x : List SourceVariable). All SourceVariableOk x) (sym ev) tt;
+  modesFew = omega (arith, k, ap length eS);
+  modesIn = subst (λ (x : List (ℕ × ℕ)). All (λ (m : ℕ × ℕ). (m .1 < m .0) × (m .0 ≤ 16)) x) (sym em) tt;
+  few = few;
+  actions = subst (λ (s : List ℕ). All (SourceActionOk (n + length (d .variables)) s) (each sourceActionOf (d .actions))) (sym eS) (subst (λ (m : ℕ). All (SourceActionOk m sizes) (each sourceActionOf (d .actions))) (sym eN) acts);
+  goal = subst (λ (s : List ℕ). ConditionsOk l (n + length (d .variables)) s (d .goal .modeConditions) (d .goal .conditions)) (sym eS) (subst (λ (m : ℕ). ConditionsOk l m sizes (d .goal .modeConditions) (d .goal .conditions)) (sym eN) goal);
+}
   where
     eN : n + length (d .variables) ≡ n
     eN = ap (λ (x : List SourceVariable). n + length x) ev ∙ add-zero n
@@ -361,7 +520,12 @@ sound₀ (Variable a b c ∷ cs) p sizes i (w, g, t) =
     let (o, t′) = onward p (Variable a b c) cs refl g t in
     let D : Decl (p .variables + 1) sizes (beforeAll cs blank) = sound₀ cs (withVariable p) sizes (record {
       core = record { variables = refl; mods = i .core .mods; lengths = i .core .lengths; sized = i .core .sized };
-      section = i .section; terms = refl; actions = i .actions; nFew = omega (arith, over 8 (p .variables) (o .0)); sFew = i .sFew }) t′ in
+      section = i .section;
+      terms = refl;
+      actions = i .actions;
+      nFew = omega (arith, over 8 (p .variables) (o .0));
+      sFew = i .sFew;
+    }) t′ in
     one D (upTo 10_000 (natAbs (constant a)) (o .1 .0), upTo 10_000 (natAbs (constant b)) (o .1 .1 .0), yes-le (leZ (constant a) (constant c)) true (o .1 .1 .1 .1 .0), yes-le (leZ (constant c) (constant b)) true (o .1 .1 .1 .1 .1 .0))
   where
     one : Decl (p .variables + 1) sizes (beforeAll cs blank) → SourceVariableOk (record { lower = constant a; upper = constant b; start = constant c }) → Decl (p .variables) sizes (before (Variable a b c) (beforeAll cs blank))
@@ -372,13 +536,19 @@ sound₀ (Variable a b c ∷ cs) p sizes i (w, g, t) =
       modesIn = D .modesIn;
       few = D .few;
       actions = subst (λ (m : ℕ). All (SourceActionOk m (sizes ++ keys (beforeAll cs blank .modes))) (each sourceActionOf (beforeAll cs blank .actions))) e (D .actions);
-      goal = subst (λ (m : ℕ). ConditionsOk l m (sizes ++ keys (beforeAll cs blank .modes)) (beforeAll cs blank .goal .modeConditions) (beforeAll cs blank .goal .conditions)) e (D .goal) }
+      goal = subst (λ (m : ℕ). ConditionsOk l m (sizes ++ keys (beforeAll cs blank .modes)) (beforeAll cs blank .goal .modeConditions) (beforeAll cs blank .goal .conditions)) e (D .goal);
+    }
 sound₀ (Start a ∷ cs) p sizes i (w, g, t) = absurd (clash (sym w))
 sound₀ (Mode z x ∷ cs) p sizes i (w, g, t) =
     let (o, t′) = onward p (Mode z x) cs refl g t in
     let D : Decl (p .variables) (sizes ++ (z ∷ [])) (beforeAll cs blank) = sound₀ cs (withMode p z) (sizes ++ (z ∷ [])) (record {
       core = core-mode (p .variables) sizes p z (omega (arith, i .sFew)) (i .core);
-      section = i .section; terms = refl; actions = i .actions; nFew = i .nFew; sFew = omega (arith, over 4 (p .modes) (o .0), i .core .mods, length-append sizes (z ∷ [])) }) t′ in
+      section = i .section;
+      terms = refl;
+      actions = i .actions;
+      nFew = i .nFew;
+      sFew = omega (arith, over 4 (p .modes) (o .0), i .core .mods, length-append sizes (z ∷ []));
+    }) t′ in
     one D (over z x (o .1 .0), upTo 16 z (o .1 .1 .0))
   where
     one : Decl (p .variables) (sizes ++ (z ∷ [])) (beforeAll cs blank) → (x < z) × (z ≤ 16) → Decl (p .variables) sizes (before (Mode z x) (beforeAll cs blank))
@@ -389,13 +559,14 @@ sound₀ (Mode z x ∷ cs) p sizes i (w, g, t) =
       modesIn = (h, D .modesIn);
       few = D .few;
       actions = subst (λ (s : List ℕ). All (SourceActionOk (p .variables + length (beforeAll cs blank .variables)) s) (each sourceActionOf (beforeAll cs blank .actions))) e (D .actions);
-      goal = subst (λ (s : List ℕ). ConditionsOk l (p .variables + length (beforeAll cs blank .variables)) s (beforeAll cs blank .goal .modeConditions) (beforeAll cs blank .goal .conditions)) e (D .goal) }
+      goal = subst (λ (s : List ℕ). ConditionsOk l (p .variables + length (beforeAll cs blank .variables)) s (beforeAll cs blank .goal .modeConditions) (beforeAll cs blank .goal .conditions)) e (D .goal);
+    }
 sound₀ (Action ∷ cs) p sizes i (w, g, t) =
     let (o, t′) = onward p Action cs refl g t in
     let R : Rest (p .variables) sizes (opened p 2 (p .actions + 1)) (beforeAll cs blank) =
-      sound (p .variables) sizes cs (opened p 2 (p .actions + 1)) (open-inv (p .variables) sizes p 2 (p .actions + 1) (i .core) (i .nFew) (i .sFew) (omega (arith, i .actions))) (omega arith) t′ in
+    sound (p .variables) sizes cs (opened p 2 (p .actions + 1)) (open-inv (p .variables) sizes p 2 (p .actions + 1) (i .core) (i .nFew) (i .sFew) (omega (arith, i .actions))) (omega arith) t′ in
     declared (p .variables) sizes p (before Action (beforeAll cs blank)) (i .nFew) (i .sFew) (R .variables) (R .modes) (omega (arith, R .few))
-      (act-of (p .variables) sizes p 1 (p .actions + 1) (beforeAll cs blank .current) (R .current), R .actions) (R .goal)
+    (act-of (p .variables) sizes p 1 (p .actions + 1) (beforeAll cs blank .current) (R .current), R .actions) (R .goal)
 sound₀ (Condition v r k ∷ cs) p sizes i (w, g, t) = absurd (omega (arith, i .section, leb→le 2 (p .section) (yes w)))
 sound₀ (ModeCondition m x ∷ cs) p sizes i (w, g, t) = absurd (omega (arith, i .section, leb→le 2 (p .section) (yes w)))
 sound₀ (ModeEffect m x ∷ cs) p sizes i (w, g, t) = absurd (early p (i .section) w)
@@ -406,9 +577,9 @@ sound₀ (Quotient v y k ∷ cs) p sizes i (w, g, t) = absurd (early p (i .secti
 sound₀ (Residue v y k ∷ cs) p sizes i (w, g, t) = absurd (early p (i .section) w)
 sound₀ (Goal ∷ cs) p sizes i (w, g, t) =
     let R : Rest (p .variables) sizes (opened p 3 (p .actions)) (beforeAll cs blank) =
-      sound (p .variables) sizes cs (opened p 3 (p .actions)) (open-inv (p .variables) sizes p 3 (p .actions) (i .core) (i .nFew) (i .sFew) (omega (arith, i .actions))) (omega arith) t in
+    sound (p .variables) sizes cs (opened p 3 (p .actions)) (open-inv (p .variables) sizes p 3 (p .actions) (i .core) (i .nFew) (i .sFew) (omega (arith, i .actions))) (omega arith) t in
     declared (p .variables) sizes p (before Goal (beforeAll cs blank)) (i .nFew) (i .sFew) (R .variables) (R .modes) (omega (arith, R .few)) (R .actions)
-      (conds-of (p .variables) sizes p 2 (p .actions) (beforeAll cs blank .current) (R .current))
+    (conds-of (p .variables) sizes p 2 (p .actions) (beforeAll cs blank .current) (R .current))
 sound₀ (End ∷ cs) p sizes i (w, g, t) = absurd (subst Goes (sym g) tt)
 sound₀ (Refused number ∷ cs) p sizes i (w, g, t) = absurd (clash (sym w))
 
@@ -419,13 +590,14 @@ length-each f (x ∷ xs) = ap suc (length-each f xs)
 -- the commands of an accepted source file give a task that keeps to the rules
 pub sourced : (cs : List Command) → Trail l begin cs → SourceTaskOk (sourceTaskOf (draftOf cs))
 sourced cs t = record {
-    variablesFew = omega (arith, D .variablesFew);
-    variablesIn = D .variablesIn;
-    modesFew = omega (arith, D .modesFew, length-keys (d .modes));
-    modesIn = D .modesIn;
-    actionsFew = omega (arith, D .few, length-each sourceActionOf (d .actions));
-    actionsOk = subst (λ (m : ℕ). All (SourceActionOk m (sizesOf (d .modes))) (each sourceActionOf (d .actions))) e (D .actions);
-    goal = subst (λ (m : ℕ). ConditionsOk l m (sizesOf (d .modes)) (d .goal .modeConditions) (d .goal .conditions)) e (D .goal) }
+  variablesFew = omega (arith, D .variablesFew);
+  variablesIn = D .variablesIn;
+  modesFew = omega (arith, D .modesFew, length-keys (d .modes));
+  modesIn = D .modesIn;
+  actionsFew = omega (arith, D .few, length-each sourceActionOf (d .actions));
+  actionsOk = subst (λ (m : ℕ). All (SourceActionOk m (sizesOf (d .modes))) (each sourceActionOf (d .actions))) e (D .actions);
+  goal = subst (λ (m : ℕ). ConditionsOk l m (sizesOf (d .modes)) (d .goal .modeConditions) (d .goal .conditions)) e (D .goal);
+}
   where
     d : Draft
     d = beforeAll cs blank

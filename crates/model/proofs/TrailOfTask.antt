@@ -91,7 +91,7 @@ modes-run n (m ∷ ms) sizes p c s f ((h, g), hs) more k =
     pass p (Mode (m .0) (m .1)) (modeCommands ms more) refl (eq-eqb (p .section) 0 s)
     (lt-leb 8 (p .modes) (omega (arith, f, c .mods)), (lt-leb (m .0) (m .1) h, (le-ltb 8192 (m .0) g, tt)))
     (modes-run n ms (sizes ++ (m .0 ∷ [])) (withMode p (m .0)) (core-mode n sizes p (m .0) (omega (arith, f)) c) s (omega (arith, f, length-append sizes (m .0 ∷ []))) hs more
-      (λ q d a b. k q (subst (λ (z : List ℕ). Core n z q) (append-assoc sizes (m .0 ∷ []) (keys ms)) d) a b))
+    (λ q d a b. k q (subst (λ (z : List ℕ). Core n z q) (append-assoc sizes (m .0 ∷ []) (keys ms)) d) a b))
 
 -- ---- in an action or the goal
 declared : {n v : ℕ} {sizes : List ℕ} {p : ReadingState} → Core n sizes p → v < n → noVariable p v ≡ false
@@ -163,7 +163,7 @@ module _ (n : ℕ) (sizes : List ℕ) where
       pass p (ModeEffect (e .0) (e .1)) (modeEffectCommands es more) refl (eq-eqb (p .section) 2 s)
       (g₁, (g₂, (lt-leb 1 (getD (p .modesSet) (e .0) 0) (omega (arith, f)), tt)))
       (effects-run es (withModeEffect p (e .0)) (record { variables = c .variables; mods = c .mods; lengths = c .lengths; sized = c .sized }) s z (length-set (p .modesSet) (e .0) 1 ∙ m) hs as₁
-        (free-set (p .modesSet) (e .0) (omega (arith, h .0, z, m)) (keys es) a fs) more k)
+      (free-set (p .modesSet) (e .0) (omega (arith, h .0, z, m)) (keys es) a fs) more k)
 
   adds-run : (es : List (ℕ × ℤ)) (p : ReadingState) → Core n sizes p → p .section ≡ 2 → n ≤ 64 → length (p .variablesSeen) ≡ 64 → p .numericEffects + length es ≤ 16
       → All (λ (e : ℕ × ℤ). (e .0 < n) × (1 ≤ natAbs (e .1)) × (natAbs (e .1) ≤ 1_000_000_000)) es → Distinct (keys es) → Free (p .variablesSeen) (keys es) → (more : List Command)
@@ -175,7 +175,7 @@ module _ (n : ℕ) (sizes : List ℕ) where
       pass p (Add (e .0) (bitsOf 4 (e .1))) (additionCommands es more) refl (eq-eqb (p .section) 2 s)
       (lt-leb 16 (p .numericEffects) (omega (arith, w)), (declared c h₁, (not-zero, (in-range (e .1) h₃, (lt-leb 1 (getD (p .variablesSeen) (e .0) 0) (omega (arith, f)), tt)))))
       (adds-run es (withAdd p (e .0)) (record { variables = c .variables; mods = c .mods; lengths = c .lengths; sized = c .sized }) s z (length-set (p .variablesSeen) (e .0) 1 ∙ m) (omega (arith, w)) hs as₁
-        (free-set (p .variablesSeen) (e .0) (omega (arith, h₁, z, m)) (keys es) a fs) more k)
+      (free-set (p .variablesSeen) (e .0) (omega (arith, h₁, z, m)) (keys es) a fs) more k)
     where
       not-zero : eqb (natAbs (constant (bitsOf 4 (e .1)))) 0 ≡ false
       not-zero = rw (const-back (e .1) h₃) (ne-eqb (natAbs (e .1)) 0 (λ q. omega (arith, h₂, q)))
@@ -193,7 +193,7 @@ module _ (n : ℕ) (sizes : List ℕ) where
       (λ q₁ c₁ s₁ n₁ k₁ f₁ m₁ e₁. compares-run (a .conditions) q₁ c₁ (omega (arith, s₁)) (omega (arith, k₁, h .conditionsOk .conditionsFew)) (h .conditionsOk .conditionsIn) _
       (λ q₂ c₂ s₂ n₂ f₂ m₂ e₂. effects-run (a .modeEffects) q₂ c₂ (s₂ ∙ s₁) z₂ (ap length (m₂ ∙ m₁)) (h .modeEffectsIn) (h .modeEffectsOnce) (subst (λ (x : List ℕ). Free x (keys (a .modeEffects))) (sym (m₂ ∙ m₁)) (free-zero 8 (keys (a .modeEffects)))) _
       (λ q₃ c₃ s₃ n₃ f₃ e₃. adds-run (a .additions) q₃ c₃ s₃ z₁ (ap length (e₃ ∙ e₂ ∙ e₁)) (omega (arith, f₃, f₂, f₁, h .additionsFew)) (h .additionsIn) (h .additionsOnce)
-          (subst (λ (x : List ℕ). Free x (keys (a .additions))) (sym (e₃ ∙ e₂ ∙ e₁)) (free-zero 64 (keys (a .additions)))) _
+      (subst (λ (x : List ℕ). Free x (keys (a .additions))) (sym (e₃ ∙ e₂ ∙ e₁)) (free-zero 64 (keys (a .additions)))) _
       (λ q₄ c₄ s₄ n₄. acts-run acts q₄ c₄ (omega (arith, s₄)) z₁ z₂ (omega (arith, w, n₄, n₃, n₂, n₁)) hs more k)))))
 
   goal-run : (gp : List (ℕ × ℕ)) (gc : List (NumericCondition ℕ)) (p : ReadingState) → Core n sizes p → p .section ≤ 2 → ConditionsOk l n sizes gp gc → Trail l p (Goal ∷ modeConditionCommands gp (conditionCommands gc []))
@@ -213,9 +213,9 @@ pub trail : (r : RestrictedTask) → RestrictedTaskOk r → Trail l begin (fileC
 trail r F =
     starts-run (r .starts) begin refl (omega (arith, F .startsFew)) (F .startsIn) _
     (λ q₁ s₁ v₁ m₁ a₁ z₁. modes-run (length (r .starts)) (r .modes) [] q₁
-      (record { variables = v₁ ∙ omega arith; mods = m₁; lengths = ap length z₁; sized = λ j. ap (λ (x : List ℕ). naturalAt x j) z₁ ∙ zeros 8 j }) s₁ (omega (arith, F .modesFew)) (F .modesIn) _
+    (record { variables = v₁ ∙ omega arith; mods = m₁; lengths = ap length z₁; sized = λ j. ap (λ (x : List ℕ). naturalAt x j) z₁ ∙ zeros 8 j }) s₁ (omega (arith, F .modesFew)) (F .modesIn) _
     (λ q₂ c₂ s₂ a₂. acts-run (length (r .starts)) (sizesOf (r .modes)) (r .actions) q₂ c₂ (omega (arith, s₂)) (F .startsFew) (omega (arith, F .modesFew, length-keys (r .modes)))
-      (omega (arith, a₂, a₁, F .actionsFew)) (F .actionsOk) _
+    (omega (arith, a₂, a₁, F .actionsFew)) (F .actionsOk) _
     (λ q₃ c₃ s₃. goal-run (length (r .starts)) (sizesOf (r .modes)) (r .goalModes) (r .goalConditions) q₃ c₃ s₃ (F .goal))))
   where
     zeros : (m j : ℕ) → naturalAt (replicate m 0) j ≡ 0

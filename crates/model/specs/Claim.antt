@@ -21,7 +21,6 @@ RoundTrip first second plan =
 pub record PlansPair (file lowered : List ℕ) : Type 0 where
   -- the restricted reader accepts the lowered file
   pub reads : (r : RestrictedTask) × (readRestricted lowered ≡ given r)
-
   -- A valid source plan, of n steps and with end state s, whose price c is at most 1,000,000: expanding gives a restricted plan; judging it
   -- against R answers c steps and the end state s with helpers at rest; projecting it gives the plan back, as a round trip too
   pub forth : (plan : List ℕ) → Bytes plan → (n : ℕ) (s : State) → judgeSource file plan ≡ given (n, s) → (c : ℕ) → pricePlan file plan ≡ given c → c ≤ 1_000_000
@@ -29,7 +28,6 @@ pub record PlansPair (file lowered : List ℕ) : Type 0 where
       × (judgeRestricted lowered restricted ≡ given (c, helpersAtRest s))
       × (projectBytes file restricted ≡ given plan)
       × RoundTrip (expandBytes file plan) (projectBytes file) plan
-
   -- A valid restricted plan, of c steps and with end state x, whoever wrote it: projecting gives a source plan; judging it against T answers
   -- an end state s of which x is the one with helpers at rest; its price is c; expanding it gives the plan back, as a round trip too
   pub back : (restricted : List ℕ) → Bytes restricted → (c : ℕ) (x : State) → judgeRestricted lowered restricted ≡ given (c, x)

@@ -65,55 +65,155 @@ noVariables = replicate (restrictedLimits .variables) 0
 -- before the first command
 abbrev pub begin : ReadingState
 begin = record {
-  section = inDeclarations; variables = 0; modes = 0; actions = 0; conditions = 0; modeConditions = 0; numericEffects = 0; terms = 0;
-  sizes = noModes; modesSet = noModes; variablesSeen = noVariables }
+  section = inDeclarations;
+  variables = 0;
+  modes = 0;
+  actions = 0;
+  conditions = 0;
+  modeConditions = 0;
+  numericEffects = 0;
+  terms = 0;
+  sizes = noModes;
+  modesSet = noModes;
+  variablesSeen = noVariables;
+}
 
 -- an action or the goal begins: nothing is counted in it yet
 abbrev pub opened : ReadingState → ℕ → ℕ → ReadingState
 opened p section actions = record {
-  section = section; variables = p .variables; modes = p .modes; actions = actions; conditions = 0; modeConditions = 0; numericEffects = 0; terms = 0;
-  sizes = p .sizes; modesSet = noModes; variablesSeen = noVariables }
+  section = section;
+  variables = p .variables;
+  modes = p .modes;
+  actions = actions;
+  conditions = 0;
+  modeConditions = 0;
+  numericEffects = 0;
+  terms = 0;
+  sizes = p .sizes;
+  modesSet = noModes;
+  variablesSeen = noVariables;
+}
 
 abbrev pub withVariable : ReadingState → ReadingState
 withVariable p = record {
-  section = p .section; variables = p .variables + 1; modes = p .modes; actions = p .actions; conditions = p .conditions; modeConditions = p .modeConditions; numericEffects = p .numericEffects; terms = 0;
-  sizes = p .sizes; modesSet = p .modesSet; variablesSeen = p .variablesSeen }
+  section = p .section;
+  variables = p .variables + 1;
+  modes = p .modes;
+  actions = p .actions;
+  conditions = p .conditions;
+  modeConditions = p .modeConditions;
+  numericEffects = p .numericEffects;
+  terms = 0;
+  sizes = p .sizes;
+  modesSet = p .modesSet;
+  variablesSeen = p .variablesSeen;
+}
 
 abbrev pub withMode : ReadingState → ℕ → ReadingState
 withMode p size = record {
-  section = p .section; variables = p .variables; modes = p .modes + 1; actions = p .actions; conditions = p .conditions; modeConditions = p .modeConditions; numericEffects = p .numericEffects; terms = 0;
-  sizes = set (p .sizes) (p .modes) size; modesSet = p .modesSet; variablesSeen = p .variablesSeen }
+  section = p .section;
+  variables = p .variables;
+  modes = p .modes + 1;
+  actions = p .actions;
+  conditions = p .conditions;
+  modeConditions = p .modeConditions;
+  numericEffects = p .numericEffects;
+  terms = 0;
+  sizes = set (p .sizes) (p .modes) size;
+  modesSet = p .modesSet;
+  variablesSeen = p .variablesSeen;
+}
 
 abbrev pub withCondition : ReadingState → ReadingState
 withCondition p = record {
-  section = p .section; variables = p .variables; modes = p .modes; actions = p .actions; conditions = p .conditions + 1; modeConditions = p .modeConditions; numericEffects = p .numericEffects; terms = 0;
-  sizes = p .sizes; modesSet = p .modesSet; variablesSeen = p .variablesSeen }
+  section = p .section;
+  variables = p .variables;
+  modes = p .modes;
+  actions = p .actions;
+  conditions = p .conditions + 1;
+  modeConditions = p .modeConditions;
+  numericEffects = p .numericEffects;
+  terms = 0;
+  sizes = p .sizes;
+  modesSet = p .modesSet;
+  variablesSeen = p .variablesSeen;
+}
 
 abbrev pub withModeCondition : ReadingState → ReadingState
 withModeCondition p = record {
-  section = p .section; variables = p .variables; modes = p .modes; actions = p .actions; conditions = p .conditions; modeConditions = p .modeConditions + 1; numericEffects = p .numericEffects; terms = 0;
-  sizes = p .sizes; modesSet = p .modesSet; variablesSeen = p .variablesSeen }
+  section = p .section;
+  variables = p .variables;
+  modes = p .modes;
+  actions = p .actions;
+  conditions = p .conditions;
+  modeConditions = p .modeConditions + 1;
+  numericEffects = p .numericEffects;
+  terms = 0;
+  sizes = p .sizes;
+  modesSet = p .modesSet;
+  variablesSeen = p .variablesSeen;
+}
 
 -- an effect on mode m
 abbrev pub withModeEffect : ReadingState → ℕ → ReadingState
 withModeEffect p m = record {
-  section = p .section; variables = p .variables; modes = p .modes; actions = p .actions; conditions = p .conditions; modeConditions = p .modeConditions; numericEffects = p .numericEffects; terms = 0;
-  sizes = p .sizes; modesSet = set (p .modesSet) m 1; variablesSeen = p .variablesSeen }
+  section = p .section;
+  variables = p .variables;
+  modes = p .modes;
+  actions = p .actions;
+  conditions = p .conditions;
+  modeConditions = p .modeConditions;
+  numericEffects = p .numericEffects;
+  terms = 0;
+  sizes = p .sizes;
+  modesSet = set (p .modesSet) m 1;
+  variablesSeen = p .variablesSeen;
+}
 
 -- a numeric effect, after which `terms` is as given
 abbrev pub withNumericEffect : ReadingState → ℕ → ReadingState
 withNumericEffect p terms = record {
-  section = p .section; variables = p .variables; modes = p .modes; actions = p .actions; conditions = p .conditions; modeConditions = p .modeConditions; numericEffects = p .numericEffects + 1; terms = terms;
-  sizes = p .sizes; modesSet = p .modesSet; variablesSeen = p .variablesSeen }
+  section = p .section;
+  variables = p .variables;
+  modes = p .modes;
+  actions = p .actions;
+  conditions = p .conditions;
+  modeConditions = p .modeConditions;
+  numericEffects = p .numericEffects + 1;
+  terms = terms;
+  sizes = p .sizes;
+  modesSet = p .modesSet;
+  variablesSeen = p .variablesSeen;
+}
 
 -- a + on variable v
 abbrev pub withAdd : ReadingState → ℕ → ReadingState
 withAdd p v = record {
-  section = p .section; variables = p .variables; modes = p .modes; actions = p .actions; conditions = p .conditions; modeConditions = p .modeConditions; numericEffects = p .numericEffects + 1; terms = 0;
-  sizes = p .sizes; modesSet = p .modesSet; variablesSeen = set (p .variablesSeen) v 1 }
+  section = p .section;
+  variables = p .variables;
+  modes = p .modes;
+  actions = p .actions;
+  conditions = p .conditions;
+  modeConditions = p .modeConditions;
+  numericEffects = p .numericEffects + 1;
+  terms = 0;
+  sizes = p .sizes;
+  modesSet = p .modesSet;
+  variablesSeen = set (p .variablesSeen) v 1;
+}
 
 -- a T on variable v
 abbrev pub withTerm : ReadingState → ℕ → ReadingState
 withTerm p v = record {
-  section = p .section; variables = p .variables; modes = p .modes; actions = p .actions; conditions = p .conditions; modeConditions = p .modeConditions; numericEffects = p .numericEffects; terms = p .terms + 1;
-  sizes = p .sizes; modesSet = p .modesSet; variablesSeen = set (p .variablesSeen) v 1 }
+  section = p .section;
+  variables = p .variables;
+  modes = p .modes;
+  actions = p .actions;
+  conditions = p .conditions;
+  modeConditions = p .modeConditions;
+  numericEffects = p .numericEffects;
+  terms = p .terms + 1;
+  sizes = p .sizes;
+  modesSet = p .modesSet;
+  variablesSeen = set (p .variablesSeen) v 1;
+}
