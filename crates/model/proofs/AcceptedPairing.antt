@@ -12,22 +12,23 @@ use lib.ListN.{length, length-append, List·getD-append}
 use lib.Dec.{T, eqb, eqb→eq, eqb-refl}
 use lib.IntN.{ℤ, pos, negsuc, negℤ, natAbs}
 use Rattle.integers.specs.All.{All}
+use Rattle.integers.specs.Division.{unitLess, sign}
 use Rattle.model.specs.Systems.{guarded}
 use Rattle.model.specs.Walks.{Pairing}
 use Rattle.model.specs.Tasks.{NumericCondition, SourceAction, Effect, noEffect, addEffect, linearEffect, quotientEffect, residueEffect, State, RestrictedAction}
-use Rattle.model.specs.Stages.{Name, source, helperA, helperB, hold, usesLeft, NamedAction, Stage, opposite, firstStage, stagesActions, divide, empty, clear, move, drainTerms, stagesOf, openingAdditions, lowerActions, opening, sourceNumber, stageCount}
+use Rattle.model.specs.Stages.{Name, source, helperA, helperB, NamedAction, Stage, opposite, firstStage, stagesActions, drainTerms, stagesOf, openingAdditions, lowerActions, opening, sourceNumber, stageCount, hold, usesLeft, divide, empty, clear, move}
 use Rattle.model.specs.Expansion.{sameName, additionTo, stageStepsFrom, priceFrom}
-use Rattle.integers.specs.Division.{unitLess, sign}
 use Rattle.model.specs.Steps.{naturalAt, integerAt, soundSource, soundRestricted, sourceStep, restrictedStep}
 use Rattle.model.specs.Lowering.{numberOfName, numberedAdditions, numberedAll, loweredActions, helpersAtRest}
-use Rattle.model.specs.InTask.{NameIn, MeasureIn, ActionIn, SourceGoal, LoweredGoal}
+use Rattle.model.specs.InTask.{NameIn, ActionIn, SourceGoal, LoweredGoal}
 use Rattle.model.specs.NamedSystems.{byName}
+use Rattle.model.specs.TaskOk.{ValuesIn, ConditionIn}
 use Rattle.model.proofs.StageWalk.{all-app, all-map}
 use Rattle.model.proofs.Outcomes.{Good}
 use Rattle.model.proofs.Arrays.{OnceV, get-back}
 use Rattle.model.proofs.NumberedPairing.{RowIn, lower-in}
-use Rattle.model.proofs.Figure.{lookZ, OnceZ, AddsIn}
-use Rattle.model.proofs.GuardedPairing.{Below, SetsIn, demand-3}
+use Rattle.model.proofs.StepBounds.{lookZ, OnceZ, AddsIn, Below}
+use Rattle.model.proofs.GuardedPairing.{demand-3}
 
 -- ---- numbers tell variables apart
 eqb-no : (a b : ℕ) → (a ≡ b → ⊥) → eqb a b ≡ false
@@ -196,19 +197,19 @@ lower-next lo hi (a ∷ acts) s h = (
 )
 
 -- ---- mode values
-lower-sets : (sizes : List ℕ) (lo hi : ℕ → ℤ) (s : ℕ) (acts : List SourceAction) → All (λ (a : SourceAction). SetsIn sizes (a .modeEffects)) acts → All (λ (r : NamedAction). SetsIn sizes (r .modeEffects)) (lowerActions lo hi s acts)
+lower-sets : (sizes : List ℕ) (lo hi : ℕ → ℤ) (s : ℕ) (acts : List SourceAction) → All (λ (a : SourceAction). ValuesIn sizes (a .modeEffects)) acts → All (λ (r : NamedAction). ValuesIn sizes (r .modeEffects)) (lowerActions lo hi s acts)
 lower-sets sizes lo hi s [] h = tt
 lower-sets sizes lo hi s (a ∷ acts) (h, hs) = (
   h,
-  all-app (λ (r : NamedAction). SetsIn sizes (r .modeEffects)) (stagesActions s (stagesOf lo hi (a .effect))) (lowerActions lo hi (s + length (stagesOf lo hi (a .effect))) acts)
+  all-app (λ (r : NamedAction). ValuesIn sizes (r .modeEffects)) (stagesActions s (stagesOf lo hi (a .effect))) (lowerActions lo hi (s + length (stagesOf lo hi (a .effect))) acts)
       (none-set s (stagesOf lo hi (a .effect))) (lower-sets sizes lo hi (s + length (stagesOf lo hi (a .effect))) acts hs),
 )
   where
-    none-set : (s : ℕ) (ds : List Stage) → All (λ (r : NamedAction). SetsIn sizes (r .modeEffects)) (stagesActions s ds)
+    none-set : (s : ℕ) (ds : List Stage) → All (λ (r : NamedAction). ValuesIn sizes (r .modeEffects)) (stagesActions s ds)
     none-set s [] = tt
     none-set s (d ∷ ds) = (tt, (tt, (tt, none-set (suc s) ds)))
 
-pub sets-more : (sizes : List ℕ) (z : ℕ) (es : List (ℕ × ℕ)) → SetsIn sizes es → SetsIn (sizes ++ (z ∷ [])) es
+pub sets-more : (sizes : List ℕ) (z : ℕ) (es : List (ℕ × ℕ)) → ValuesIn sizes es → ValuesIn (sizes ++ (z ∷ [])) es
 sets-more sizes z [] h = tt
 sets-more sizes z (e ∷ es) (h, hs) =
     ((omega (arith, h .0, length-append sizes (z ∷ [])), subst (λ (x : ℕ). e .1 < x) (sym (List·getD-append sizes (z ∷ []) 0 (e .0) (h .0))) (h .1)), sets-more sizes z es hs)
@@ -216,8 +217,8 @@ sets-more sizes z (e ∷ es) (h, hs) =
 pub at-end : (sizes : List ℕ) (z m : ℕ) → length sizes ≡ m → naturalAt (sizes ++ (z ∷ [])) m ≡ z
 at-end sizes z m e = ap (naturalAt (sizes ++ (z ∷ []))) (sym e ∙ sym (add-zero (length sizes))) ∙ get-back sizes (z ∷ []) 0 0
 
-rows-sets : (n m : ℕ) (sizes : List ℕ) (z : ℕ) → length sizes ≡ m → (R : List NamedAction) → All (λ (r : NamedAction). SetsIn sizes (r .modeEffects)) R → All (λ (r : NamedAction). r .nextControl < z) R
-    → All (λ (a : RestrictedAction). SetsIn (sizes ++ (z ∷ [])) (a .modeEffects)) (numberedAll n m R)
+rows-sets : (n m : ℕ) (sizes : List ℕ) (z : ℕ) → length sizes ≡ m → (R : List NamedAction) → All (λ (r : NamedAction). ValuesIn sizes (r .modeEffects)) R → All (λ (r : NamedAction). r .nextControl < z) R
+    → All (λ (a : RestrictedAction). ValuesIn (sizes ++ (z ∷ [])) (a .modeEffects)) (numberedAll n m R)
 rows-sets n m sizes z e [] h k = tt
 rows-sets n m sizes z e (r ∷ R) (h, hs) (k, ks) = (
   all-app (λ (x : ℕ × ℕ). (x .0 < length (sizes ++ (z ∷ []))) × (x .1 < naturalAt (sizes ++ (z ∷ [])) (x .0))) (r .modeEffects) (cond (eqb (r .control) (r .nextControl)) [] ((m, r .nextControl) ∷ []))
@@ -225,7 +226,7 @@ rows-sets n m sizes z e (r ∷ R) (h, hs) (k, ks) = (
   rows-sets n m sizes z e R hs ks,
 )
   where
-    go : (b : Bool) → SetsIn (sizes ++ (z ∷ [])) (cond b [] ((m, r .nextControl) ∷ []))
+    go : (b : Bool) → ValuesIn (sizes ++ (z ∷ [])) (cond b [] ((m, r .nextControl) ∷ []))
     go true = tt
     go false = ((omega (arith, e, length-append sizes (z ∷ [])), subst (λ (x : ℕ). r .nextControl < x) (sym (at-end sizes z m e)) k), tt)
 
@@ -249,10 +250,10 @@ below-after (s ∷ sizes) (x ∷ l) z e p h (suc j) q = below-after sizes l z (o
 pub record Accepted (n m : ℕ) (lo hi : ℕ → ℤ) (acts : List SourceAction) (sizes : List ℕ) (gp : List (ℕ × ℕ)) (gc : List (NumericCondition ℕ)) (x : State) : Type 0 where
   pub actionsIn : All (ActionIn n m) acts
   pub constants : All (λ (a : SourceAction). EffUpTo 1_000_000_000 (a .effect)) acts
-  pub sets : All (λ (a : SourceAction). SetsIn sizes (a .modeEffects)) acts
+  pub sets : All (λ (a : SourceAction). ValuesIn sizes (a .modeEffects)) acts
   pub sizesLong : length sizes ≡ m
   pub goalP : All (λ (p : ℕ × ℕ). p .0 < m) gp
-  pub goalC : All (λ (c : NumericCondition ℕ). MeasureIn (λ (i : ℕ). i < n) (c .measured)) gc
+  pub goalC : All (ConditionIn n) gc
   pub valsLong : length (x .values) ≡ n
   pub modesLong : length (x .modes) ≡ m
   pub good : Good lo hi (byName x)
@@ -264,13 +265,13 @@ pub plans-pair-off-for-accepted : (n m : ℕ) (lo hi : ℕ → ℤ) (acts : List
     → Pairing (guarded (soundSource lo hi sizes) (sourceStep lo hi acts)) (guarded (soundRestricted (sizes ++ (suc (stageCount lo hi acts) ∷ []))) (restrictedStep (loweredActions n m lo hi acts))) helpersAtRest (opening lo hi acts) (sourceNumber lo hi acts)
     (stageStepsFrom lo hi acts) (priceFrom acts) X₀ (SourceGoal gp gc) (LoweredGoal m gp gc) 1_000_000
 plans-pair-off-for-accepted n m lo hi acts sizes gp gc X₀ A =
-    demand-3 n m lo hi acts (A .actionsIn) sizes (A .sizesLong) (A .sets) (sizes ++ (z ∷ [])) (length-append sizes (z ∷ []) ∙ omega (arith, A .sizesLong))
+    demand-3 n m lo hi acts (A .actionsIn) sizes (A .sizesLong) (A .sets) (sizes ++ (z ∷ []))
     (rows-adds n m 1_000_000_000 (lowerActions lo hi 1 acts) (lower-in n m lo hi acts 1 (A .actionsIn)) (lower-upTo 1_000_000_000 (omega arith) lo hi 1 acts (A .constants)))
     (rows-sets n m sizes z (A .sizesLong) (lowerActions lo hi 1 acts) (lower-sets sizes lo hi 1 acts (A .sets))
     (all-map (λ (r : NamedAction). r .nextControl < 1 + stageCount lo hi acts) (λ (r : NamedAction). r .nextControl < z) (λ r q. omega arith) (lowerActions lo hi 1 acts) (lower-next lo hi acts 1 (omega arith))))
     gp gc (A .goalP) (A .goalC) X₀ (A .valsLong, A .modesLong, A .good, A .below) (
       length-append (X₀ .values) (pos 0 ∷ pos 0 ∷ []) ∙ omega (arith, A .valsLong),
-      length-append (X₀ .modes) (0 ∷ []) ∙ omega (arith, A .modesLong),
+      length-append (X₀ .modes) (0 ∷ []) ∙ omega (arith, A .modesLong, A .sizesLong, length-append sizes (z ∷ [])),
       zeros-after (λ x. natAbs x ≤ 1_000_000_000 + 1_000_000_000 * 0) (omega arith) (X₀ .values) (λ j. omega (arith, A .starts j)),
       below-after sizes (X₀ .modes) z (A .sizesLong ∙ sym (A .modesLong)) (omega arith) (A .below),
     )

@@ -2,7 +2,6 @@
 -- Assumes nothing.
 use mathlib.Core.Path.{_≡_, refl, sym, ap, _∙_, subst}
 use Prim.Native.Nat.{ℕ, zero, suc, _+_, _≤_, _<_}
-use native.Mathlib.Omega.{arith}
 use mathlib.Core.Bool.{cond, Bool, true, false}
 use mathlib.Core.List.{List, [], _∷_}
 use lib.ListN.{length, drop, getD}
@@ -11,14 +10,14 @@ use Rattle.commands.specs.Table.{rowAt, rowOf, sizeOfByte, sizeOfRow}
 use Rattle.commands.specs.declared.Command.{Command}
 use Rattle.commands.specs.declared.Command.the-variants.{Variable, Start, Mode, Action, Condition, ModeCondition, ModeEffect, Add, Linear, Term, Quotient, Residue, Goal, End, Refused}
 use Rattle.commands.specs.Reading.{commandAt, readRow}
+use Rattle.commands.specs.Encoding.{byteOf}
 use Rattle.model.specs.Limits.{Limits}
 use Rattle.model.specs.ReadingState.{ReadingState, Taken, Progress, Going, Ended, Stopped, begin, stop, rule}
 use Rattle.model.specs.Rules.{allowed, testsOf, nextOf, onwards, ruleOf, takeOf}
 use Rattle.model.specs.Reading.{Verdict, Accepted, Rejected, afterCommand, refusedAt, verdictFrom, verdictOf, gather, commandsFrom, commandsOf}
-use Rattle.commands.specs.Encoding.{byteOf}
 use Rattle.model.specs.Trail.{Trail, endState}
 use Rattle.model.proofs.Walk.{row-byte, row-no}
-use Rattle.model.proofs.SourceOk.{over}
+use Rattle.model.proofs.ReadingLaws.{over, not-zero}
 
 -- ---- the command that is read has the byte that stands there
 abbrev pub Known : Command → Type 0
@@ -76,11 +75,7 @@ known-row s k = step (eqb (length s) 0) (leb 14 (rowOf (getD s 0 0))) (leb (size
         → Known (cond x (Refused 2) (cond y (Refused 1) (cond z (readRow s (rowOf (getD s 0 0))) (Refused 2)))) → commandAt s ≡ cond x (Refused 2) (cond y (Refused 1) (cond z (readRow s (rowOf (getD s 0 0))) (Refused 2))) → Seen s
     step true y z e₁ e₂ e₃ k e = absurd k
     step false true z e₁ e₂ e₃ k e = absurd k
-    step false false true e₁ e₂ e₃ k e = record { there = some₁ (length s) e₁; few = over 14 (rowOf (getD s 0 0)) e₂; whole = lib.Dec.leb→le (sizeOfRow (rowOf (getD s 0 0))) (length s) (subst T (sym e₃) tt); is = e }
-      where
-        some₁ : (a : ℕ) → eqb a 0 ≡ false → 1 ≤ a
-        some₁ zero e = absurd (subst (λ (b : Bool). T (mathlib.Core.Bool.not b)) (sym e) tt)
-        some₁ (suc a) e = omega arith
+    step false false true e₁ e₂ e₃ k e = record { there = not-zero (length s) e₁; few = over 14 (rowOf (getD s 0 0)) e₂; whole = lib.Dec.leb→le (sizeOfRow (rowOf (getD s 0 0))) (length s) (subst T (sym e₃) tt); is = e }
     step false false false e₁ e₂ e₃ k e = absurd k
 
 pub code-at : (s : List ℕ) → Known (commandAt s) → byteOf (commandAt s) ≡ getD s 0 0

@@ -5,44 +5,38 @@ use Prim.Native.Nat.{ℕ, zero, suc, _+_, _-_, _≤_, _<_}
 use native.Mathlib.Omega.{arith}
 use native.Mathlib.Nat.{add-zero}
 use mathlib.Core.Bool.{cond, Bool, true, false}
-use mathlib.Core.Option.{Option, some, Option·none-ne-some}
+use mathlib.Core.Option.{some, Option·none-ne-some}
 use lib.IntN.{ℤ}
 use mathlib.Core.List.{List, [], _∷_, _++_, append-assoc}
 use lib.ListN.{length, length-append, take, drop, getD, getElem?}
 use lib.Seq.{take-append-seam, drop-append-seam}
-use lib.Dec.{T, eqb, leb→le}
+use lib.Dec.{eqb, leb→le}
 use borrow.Author.Tests.{ne-eqb}
 use Rattle.integers.specs.All.{All}
-use Rattle.model.specs.Tasks.{NumericCondition, RestrictedAction, RestrictedTask}
-use Rattle.model.proofs.Pairing.{unsome}
 use Rattle.integers.specs.Numbers.{bitsOf, Bytes}
 use Rattle.commands.specs.Table.{sizeOfByte}
 use Rattle.commands.specs.declared.Command.{Command}
 use Rattle.commands.specs.declared.Command.the-variants.{Variable, Start, Mode, Action, Condition, ModeCondition, ModeEffect, Add, Linear, Term, Quotient, Residue, Goal, End, Refused}
+use Rattle.commands.specs.Encoding.{byteOf, encode, encodeAll}
+use Rattle.integers.specs.Relation.{relationNumber}
+use Rattle.model.specs.Tasks.{NumericCondition, RestrictedAction, RestrictedTask}
 use Rattle.model.specs.Limits.{Limits, restrictedLimits}
 use Rattle.model.specs.ReadingState.{ReadingState, Taken, Progress, Going, Ended, Stopped, begin, goOn}
 use Rattle.model.specs.Rules.{testsOf, nextOf, onwards, ruleOf}
 use Rattle.model.specs.Reading.{Verdict, Accepted, Rejected, verdictOf, commandsOf}
 use Rattle.model.specs.Decoding.{Part, emptyPart, Draft, blank, inFront, before, beforeAll, draftOf}
-use Rattle.commands.specs.Encoding.{byteOf, encode, encodeAll}
-use Rattle.integers.specs.Relation.{relationNumber}
-use Rattle.model.specs.Lowering.{variableOf, startCommands, modeCommands, modeConditionCommands, conditionCommands, modeEffectCommands, additionCommands, actionCommands, actionsCommands, fileCommands, encodeFile}
-use Rattle.model.specs.RestrictedOk.{RestrictedTaskOk}
+use Rattle.model.specs.Lowering.{startCommands, modeCommands, modeConditionCommands, conditionCommands, modeEffectCommands, additionCommands, actionCommands, actionsCommands, fileCommands, encodeFile, variableOf}
+use Rattle.model.specs.TaskOk.{RestrictedTaskOk}
 use Rattle.model.specs.Trail.{Trail, endState}
 use Rattle.model.specs.ActionBytes.{edges, edgeOf, actionPart, commandsIn, decodeAction}
+use Rattle.model.proofs.Pairing.{unsome}
 use Rattle.model.proofs.CommandBytes.{Ok, command-encode, drop-encode}
 use Rattle.model.proofs.Walk.{count}
-use Rattle.model.proofs.SourceOk.{rule-none}
+use Rattle.model.proofs.ReadingLaws.{clash, holds, rule-none}
 use Rattle.model.proofs.AcceptedTrail.{Is, trail-of}
 use Rattle.model.proofs.FileBytes.{file-is}
 use Rattle.model.proofs.TrailOfTask.{trail}
 use Rattle.model.proofs.ReadsBack.{file-ok}
-
-clash : true ≡ false → ⊥
-clash e = subst T e tt
-
-yes : {b : Bool} → b ≡ true → T b
-yes e = subst T (sym e) tt
 
 -- ---- A and G among commands
 abbrev edge : Command → Bool
@@ -80,7 +74,7 @@ no-edge l [] p s t = tt
 no-edge l (Variable x y w ∷ cs) p s (a, g, t) = (refl, no-edge l cs (nextOf p (Variable x y w)) s (next l p (Variable x y w) cs refl g t))
 no-edge l (Start x ∷ cs) p s (a, g, t) = (refl, no-edge l cs (nextOf p (Start x)) s (next l p (Start x) cs refl g t))
 no-edge l (Mode x y ∷ cs) p s (a, g, t) = (refl, no-edge l cs (nextOf p (Mode x y)) s (next l p (Mode x y) cs refl g t))
-no-edge l (Action ∷ cs) p s (a, g, t) = absurd (omega (arith, s, leb→le (p .section) 2 (yes a)))
+no-edge l (Action ∷ cs) p s (a, g, t) = absurd (omega (arith, s, leb→le (p .section) 2 (holds a)))
 no-edge l (Condition x y w ∷ cs) p s (a, g, t) = (refl, no-edge l cs (nextOf p (Condition x y w)) s (next l p (Condition x y w) cs refl g t))
 no-edge l (ModeCondition x y ∷ cs) p s (a, g, t) = (refl, no-edge l cs (nextOf p (ModeCondition x y)) s (next l p (ModeCondition x y) cs refl g t))
 no-edge l (ModeEffect x y ∷ cs) p s (a, g, t) = (refl, no-edge l cs (nextOf p (ModeEffect x y)) s (next l p (ModeEffect x y) cs refl g t))
@@ -89,7 +83,7 @@ no-edge l (Linear x y ∷ cs) p s (a, g, t) = (refl, no-edge l cs (nextOf p (Lin
 no-edge l (Term x y ∷ cs) p s (a, g, t) = (refl, no-edge l cs (nextOf p (Term x y)) s (next l p (Term x y) cs refl g t))
 no-edge l (Quotient x y w ∷ cs) p s (a, g, t) = (refl, no-edge l cs (nextOf p (Quotient x y w)) s (next l p (Quotient x y w) cs refl g t))
 no-edge l (Residue x y w ∷ cs) p s (a, g, t) = (refl, no-edge l cs (nextOf p (Residue x y w)) s (next l p (Residue x y w) cs refl g t))
-no-edge l (Goal ∷ cs) p s (a, g, t) = absurd (omega (arith, s, leb→le (p .section) 2 (yes a)))
+no-edge l (Goal ∷ cs) p s (a, g, t) = absurd (omega (arith, s, leb→le (p .section) 2 (holds a)))
 no-edge l (End ∷ cs) p s (a, g, t) = absurd (subst Goes (sym g) tt)
 no-edge l (Refused number ∷ cs) p s (a, g, t) = absurd (clash (sym a))
 

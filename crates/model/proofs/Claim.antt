@@ -9,31 +9,28 @@ use mathlib.Core.Option.{Option, some}
 use mathlib.Core.List.{List, [], _∷_, _++_}
 use lib.ListN.{length}
 use lib.Dec.{T}
-use Rattle.model.specs.Systems.{runPlan, totalPrice, guarded}
 use Rattle.integers.specs.All.{All}
+use Rattle.integers.specs.Numbers.{Bytes}
+use Rattle.lists.specs.Answer.{Answer, given, then, lent}
+use Rattle.model.specs.Systems.{runPlan, totalPrice, guarded}
 use Rattle.model.specs.Walks.{Pairing}
 use Rattle.model.specs.Steps.{conditionsHold, modesHold, integerAt, naturalAt, restrictedStep, soundSource, soundRestricted, sizesOf, lowerBounds, upperBounds, sourceStart, stepSource, sourceGoalHolds, restrictedGoalHolds}
-use Rattle.model.specs.Tasks.{State, SourceTask, RestrictedTask}
 use Rattle.model.specs.Stages.{opening, sourceNumber, stageCount}
+use Rattle.model.specs.Tasks.{State, SourceTask, RestrictedTask}
 use Rattle.model.specs.Lowering.{helpersAtRest, lowerTask, lowerFile}
 use Rattle.model.specs.Expansion.{stageStepsFrom, priceFrom, expandTask, projectTask}
 use Rattle.model.specs.InTask.{SourceGoal, LoweredGoal}
-use Rattle.model.proofs.StageWalk.{both-in, both-out}
-use Rattle.model.proofs.AcceptedPairing.{plans-pair-off-for-accepted}
-use Rattle.model.specs.Decoding.{each, readSource, readRestricted, onVerdict, sourceTaskOf, draftOf}
-use Rattle.lists.specs.Answer.{Answer, given, then, lent}
-use Rattle.model.specs.Limits.{sourceLimits}
-use Rattle.model.specs.Reading.{Verdict, Accepted, Rejected, verdictOf, commandsOf}
-use Rattle.model.specs.SourceOk.{SourceTaskOk}
+use Rattle.model.specs.Decoding.{each, readSource, readRestricted}
+use Rattle.model.specs.TaskOk.{SourceTaskOk}
 use Rattle.model.specs.Plans.{planBytes, readPlan}
 use Rattle.model.specs.Judging.{judge, judgeSourceTask, judgeRestrictedTask, priceTask, judgeSource, judgeRestricted, pricePlan, lowerBytes, expandBytes, projectBytes}
-use Rattle.integers.specs.Numbers.{Bytes}
 use Rattle.model.specs.Claim.{PlansPair, RoundTrip}
+use Rattle.model.proofs.StageWalk.{both-in, both-out}
+use Rattle.model.proofs.AcceptedPairing.{plans-pair-off-for-accepted}
 use Rattle.model.proofs.ReadsBack.{reads-back}
-use Rattle.model.proofs.SourceOk.{sourced}
+use Rattle.model.proofs.AcceptedOk.{accepted-source-ok}
 use Rattle.model.proofs.LoweredOk.{accepted, formed, sizesR}
-use Rattle.model.proofs.AcceptedTrail.{Is, trail-of}
-use Rattle.model.proofs.Answers.{Gives, given-injective, then-gives, written-at-the-front}
+use Rattle.model.proofs.Answers.{given-injective, then-gives, written-at-the-front}
 use Rattle.model.proofs.JudgedPlans.{judged, judges, run-count, priced, capped, plan-reads-back, plan-read, source-step-counts, restricted-step-counts, keep-few, few-all}
 
 -- a call's result, written into any output, is handed to the second call, which gives the first plan
@@ -44,14 +41,7 @@ each-app : (f : ℕ × ℕ → ℕ) (xs ys : List (ℕ × ℕ)) → each f (xs +
 each-app f [] ys = refl
 each-app f (x ∷ xs) ys = ap (λ (z : List ℕ). f x ∷ z) (each-app f xs ys)
 
--- ---- an accepted source file
-source-is : (file : List ℕ) (t : SourceTask) → readSource file ≡ given t → SourceTaskOk t
-source-is file t e = go (verdictOf sourceLimits file) refl e
-  where
-    go : (v : Verdict) → verdictOf sourceLimits file ≡ v → onVerdict v (sourceTaskOf (draftOf (commandsOf sourceLimits file))) ≡ given t → SourceTaskOk t
-    go (Accepted a b c) q e = subst SourceTaskOk (given-injective e) (sourced (commandsOf sourceLimits file) (trail-of sourceLimits file (subst Is (sym q) tt) .0))
-    go (Rejected n w) q e = absurd (subst Gives (sym e) tt)
-
+-- ---- the calls on an accepted source file
 module _ (t : SourceTask) (S : SourceTaskOk t) where
   abbrev z : ℕ
   z = suc (stageCount (lowerBounds t) (upperBounds t) (t .actions))
@@ -189,7 +179,7 @@ module _ (t : SourceTask) (S : SourceTaskOk t) where
 pub plans-pair : (file lowered : List ℕ) → lowerBytes file ≡ given lowered → PlansPair file lowered
 plans-pair file lowered l =
     let (t, e, w) = then-gives (readSource file) (λ t. given (lowerFile t)) lowered l in
-    go t e (source-is file t e) (given-injective w)
+    go t e (accepted-source-ok file t e) (given-injective w)
   where
     go : (t : SourceTask) → readSource file ≡ given t → SourceTaskOk t → lowerFile t ≡ lowered → PlansPair file lowered
     go t e S w = subst (PlansPair file) w (record { reads = (lowerTask t, reads-back (lowerTask t) (formed t S)); forth = forth t S file e; back = back t S file e })

@@ -1,101 +1,96 @@
--- No restricted plan of at most 1,000,000 steps takes a value past 2,000,000,000,000,000: the test of that figure changes no such run.
+-- No plan within the length limit takes a restricted variable past 2,000,000,000,000,000: the tests that the judges make of every state change no run of an accepted task
+-- from its start.
 -- Assumes nothing.
-use mathlib.Core.Path.{_≡_, refl, sym, ap, ap₂, _∙_, subst}
-use Prim.Native.Nat.{ℕ, suc, _+_, _*_, _≤_, _<_}
+use mathlib.Core.Path.{_≡_, refl, sym, ap, _∙_}
+use Prim.Native.Nat.{ℕ, zero, suc, _+_, _*_, _≤_, _<_}
 use native.Mathlib.Omega.{arith}
-use mathlib.Core.Bool.{_&&_, Bool, true, false, cond}
-use mathlib.Core.Option.{Option, none, some}
+use mathlib.Core.Bool.{Bool, false, cond}
+use mathlib.Core.Option.{none, some}
 use mathlib.Core.List.{List, [], _∷_}
-use lib.ListN.{length, length-set, getElem?, set}
-use lib.Dec.{T, eqb, eqb→eq, leb, le→leb}
-use lib.IntN.{ℤ, pos, negsuc, natAbs, _+ℤ_}
-use Rattle.model.specs.Systems.{runPlan, guarded}
+use lib.ListN.{length}
+use lib.Dec.{eqb}
+use lib.IntN.{ℤ, natAbs}
 use Rattle.integers.specs.All.{All}
-use Rattle.model.specs.Expansion.{addTo}
-use Rattle.model.specs.Steps.{valuesWithin, integerAt, addAll, appliesRestricted, applyRestricted, tryRestricted, restrictedStep}
-use Rattle.model.specs.Tasks.{State, RestrictedAction}
-use Rattle.model.proofs.Pairing.{bind-inv}
-use Rattle.integers.proofs.Parts.{up, down, sum-parts}
-use Rattle.model.proofs.StageWalk.{given-inv, all-get}
-use Rattle.model.proofs.Arrays.{get-set}
-use Rattle.model.proofs.Follow.{guard-run}
+use Rattle.lists.specs.Answer.{given}
+use Rattle.model.specs.Systems.{runPlan}
+use Rattle.model.specs.Steps.{integerAt, sourceStep, restrictedStep, soundSource, soundRestricted, lowerBounds, upperBounds, sourceStart, sizesOf, stepSource, stepRestricted, restrictedStart}
+use Rattle.model.specs.Tasks.{State, RestrictedAction, SourceTask, RestrictedTask}
+use Rattle.model.specs.Limits.{restrictedLimits}
+use Rattle.model.specs.Decoding.{readSource, readRestricted}
+use Rattle.model.specs.TaskOk.{Distinct, keys, ValuesIn, InRange, AmountOk, RestrictedActionOk, RestrictedTaskOk}
+use Rattle.model.proofs.StageWalk.{all-map}
+use Rattle.model.proofs.Follow.{guard-run, run-keeps}
+use Rattle.model.proofs.Guards.{guard-any}
+use Rattle.model.proofs.StepBounds.{lookZ, OnceZ, AddsIn, WithinAfter, within-is-sound, step-within}
+use Rattle.model.proofs.GuardedPairing.{WithinBounds, within-bounds-is-sound, step-within-bounds}
+use Rattle.model.proofs.AcceptedPairing.{Accepted}
+use Rattle.model.proofs.ReadingLaws.{length-each, length-keys}
+use Rattle.model.proofs.LoweredOk.{accepted, modes-below}
+use Rattle.model.proofs.AcceptedOk.{accepted-source-ok, accepted-restricted-ok}
 
-abbrev pub lookZ : List (ℕ × ℤ) → ℕ → Option ℤ
-lookZ [] i = none
-lookZ (e ∷ es) i = cond (eqb (e .0) i) (some (e .1)) (lookZ es i)
+-- ---- what a restricted task that keeps to the rules has
+not-among : (k : ℕ) (es : List (ℕ × ℤ)) → All (λ (j : ℕ). eqb j k ≡ false) (keys es) → lookZ es k ≡ none
+not-among k [] h = refl
+not-among k (e ∷ es) (h, hs) = ap (λ (b : Bool). cond b (some (e .1)) (lookZ es k)) h ∙ not-among k es hs
 
-abbrev pub OnceZ : List (ℕ × ℤ) → Type 0
-OnceZ [] = Unit {0}
-OnceZ (e ∷ es) = (lookZ es (e .0) ≡ none) × OnceZ es
+each-once : (es : List (ℕ × ℤ)) → Distinct (keys es) → OnceZ es
+each-once [] h = tt
+each-once (e ∷ es) (h, hs) = (not-among (e .0) es h, each-once es hs)
 
--- an element after an action's additions
-pub add-at : (es : List (ℕ × ℤ)) (n : ℕ) (l : List ℤ) → length l ≡ n → All (λ (e : ℕ × ℤ). e .0 < n) es → OnceZ es → (i : ℕ) → integerAt (addAll es l) i ≡ addTo (lookZ es i) (integerAt l i)
-add-at [] n l h j o i = refl
-add-at (e ∷ es) n l h (j, js) (o, os) i = add-at es n (set l (e .0) (integerAt l (e .0) +ℤ e .1)) (length-set l (e .0) (integerAt l (e .0) +ℤ e .1) ∙ h) js os i
-    ∙ ap (addTo (lookZ es i)) (get-set l (e .0) i (integerAt l (e .0) +ℤ e .1) (pos 0) (omega (arith, h, j))) ∙ pick (eqb (e .0) i) refl
+values-in : (zs : List ℤ) → All (InRange restrictedLimits) zs → (j : ℕ) → natAbs (integerAt zs j) ≤ 1_000_000_000 + 1_000_000_000 * 0
+values-in [] h j = omega arith
+values-in (z ∷ zs) (h, hs) zero = omega (arith, h)
+values-in (z ∷ zs) (h, hs) (suc j) = values-in zs hs j
+
+all-values : (B : ℕ) (zs : List ℤ) → ((j : ℕ) → natAbs (integerAt zs j) ≤ B) → All (λ (z : ℤ). natAbs z ≤ B) zs
+all-values B [] h = tt
+all-values B (z ∷ zs) h = (h 0, all-values B zs (λ j. h (suc j)))
+
+module _ (r : RestrictedTask) (F : RestrictedTaskOk r) where
+  abbrev Within : ℕ → State → Type 0
+  Within = WithinAfter (length (r .starts)) (sizesOf (r .modes))
+
+  start-within : Within 0 (restrictedStart r)
+  start-within = (refl, length-each (λ (m : ℕ × ℕ). m .1) (r .modes) ∙ sym (length-keys (r .modes)), values-in (r .starts) (F .startsIn), modes-below restrictedLimits (r .modes) (F .modesIn))
+
+  steps-within : (i : ℕ) (x y : State) (k : ℕ) → Within i x → restrictedStep (r .actions) x k ≡ some y → Within (suc i) y
+  steps-within = step-within (length (r .starts)) (sizesOf (r .modes)) (r .actions)
+      (all-map (RestrictedActionOk restrictedLimits (length (r .starts)) (sizesOf (r .modes))) (AddsIn (length (r .starts)) 1_000_000_000) adds (r .actions) (F .actionsOk))
+      (all-map (RestrictedActionOk restrictedLimits (length (r .starts)) (sizesOf (r .modes))) (λ (a : RestrictedAction). ValuesIn (sizesOf (r .modes)) (a .modeEffects)) (λ a h. h .modeEffectsIn) (r .actions) (F .actionsOk))
+    where
+      adds : (a : RestrictedAction) → RestrictedActionOk restrictedLimits (length (r .starts)) (sizesOf (r .modes)) a → AddsIn (length (r .starts)) 1_000_000_000 a
+      adds a h = record {
+        inside = all-map (AmountOk restrictedLimits (length (r .starts))) (λ (e : ℕ × ℤ). e .0 < length (r .starts)) (λ e q. q .0) (a .additions) (h .additionsIn);
+        once = each-once (a .additions) (h .additionsOnce);
+        upTo = all-map (AmountOk restrictedLimits (length (r .starts))) (λ (e : ℕ × ℤ). natAbs (e .1) ≤ 1_000_000_000) (λ e q. q .1 .1) (a .additions) (h .additionsIn);
+      }
+
+-- THE FIGURE: the steps of a plan within the length limit, from the start of an accepted restricted task, go as they would without the test of the figure and of the modes' sizes
+pub no-plan-passes-the-figure : (file : List ℕ) (r : RestrictedTask) → readRestricted file ≡ given r → (q : List ℕ) → length q ≤ 1_000_000
+    → runPlan (stepRestricted r) q (restrictedStart r) ≡ runPlan (restrictedStep (r .actions)) q (restrictedStart r)
+no-plan-passes-the-figure file r e q h = let F : RestrictedTaskOk r = accepted-restricted-ok file r e in
+    guard-run (restrictedStep (r .actions)) (soundRestricted (sizesOf (r .modes))) (Within r F) 1_000_000 (steps-within r F) (within-is-sound (length (r .starts)) (sizesOf (r .modes))) q 0 (restrictedStart r) (omega (arith, h)) (start-within r F)
+
+-- the same of the values: every state that such a plan leads to has them within the figure, with no test made. Any beginning of such a plan is one, so this is every state on the way
+pub values-stay-within-the-figure : (file : List ℕ) (r : RestrictedTask) → readRestricted file ≡ given r → (q : List ℕ) → length q ≤ 1_000_000
+    → (x : State) → runPlan (restrictedStep (r .actions)) q (restrictedStart r) ≡ some x → All (λ (z : ℤ). natAbs z ≤ 2_000_000_000_000_000) (x .values)
+values-stay-within-the-figure file r e q h x w = let F : RestrictedTaskOk r = accepted-restricted-ok file r e in
+    let (_, _, v, _) = run-keeps (restrictedStep (r .actions)) (Within r F) (steps-within r F) q 0 (restrictedStart r) x (start-within r F) w in
+    all-values 2_000_000_000_000_000 (x .values) (λ j. omega (arith, h, v j))
+
+-- the steps of any plan from the start of an accepted source task go as they would with no test but that of the effect's result: all values stay within their bounds, all modes below their sizes
+pub no-source-plan-leaves-its-bounds : (file : List ℕ) (t : SourceTask) → readSource file ≡ given t → (p : List ℕ)
+    → runPlan (stepSource t) p (sourceStart t) ≡ runPlan (sourceStep (lowerBounds t) (upperBounds t) (t .actions)) p (sourceStart t)
+no-source-plan-leaves-its-bounds file t e p =
+    guard-any (soundSource (lowerBounds t) (upperBounds t) (sizesOf (t .modes))) (sourceStep (lowerBounds t) (upperBounds t) (t .actions)) (WithinBounds n m (lowerBounds t) (upperBounds t) (sizesOf (t .modes)))
+    (step-within-bounds n m (lowerBounds t) (upperBounds t) (t .actions) (A .actionsIn) (sizesOf (t .modes)) (A .sizesLong) (A .sets)) (within-bounds-is-sound n m (lowerBounds t) (upperBounds t) (sizesOf (t .modes)))
+    p (sourceStart t) (A .valsLong, A .modesLong, A .good, A .below)
   where
-    pick : (b : Bool) → eqb (e .0) i ≡ b → addTo (lookZ es i) (cond b (integerAt l (e .0) +ℤ e .1) (integerAt l i)) ≡ addTo (cond b (some (e .1)) (lookZ es i)) (integerAt l i)
-    pick true q = let s : e .0 ≡ i = eqb→eq (e .0) i (subst T (sym q) tt) in
-        ap (λ (r : Option ℤ). addTo r (integerAt l (e .0) +ℤ e .1)) (ap (lookZ es) (sym s) ∙ o) ∙ ap (λ (k : ℕ). integerAt l k +ℤ e .1) s
-    pick false q = refl
+    n : ℕ
+    n = length (t .variables)
 
-pub abs-sum : (a b : ℤ) → natAbs (a +ℤ b) ≤ natAbs a + natAbs b
-abs-sum a b = go (a +ℤ b) refl (abs-pn a) (abs-pn b)
-  where
-    abs-pn : (z : ℤ) → natAbs z ≡ up z + down z
-    abs-pn (pos n) = omega arith
-    abs-pn (negsuc n) = omega arith
+    m : ℕ
+    m = length (t .modes)
 
-    go : (s : ℤ) → a +ℤ b ≡ s → natAbs a ≡ up a + down a → natAbs b ≡ up b + down b → natAbs s ≤ natAbs a + natAbs b
-    go (pos n) e p q = omega (arith, sum-parts a b, ap up e, ap down e)
-    go (negsuc n) e p q = omega (arith, sum-parts a b, ap up e, ap down e)
-
-pub look-small : (C : ℕ) (es : List (ℕ × ℤ)) → All (λ (e : ℕ × ℤ). natAbs (e .1) ≤ C) es → (B : ℕ) (z : ℤ) (i : ℕ) → natAbs z ≤ B → natAbs (addTo (lookZ es i) z) ≤ B + C
-look-small C [] h B z i l = omega arith
-look-small C (e ∷ es) (h, hs) B z i l = go (eqb (e .0) i) (look-small C es hs B z i l)
-  where
-    go : (b : Bool) → natAbs (addTo (lookZ es i) z) ≤ B + C → natAbs (addTo (cond b (some (e .1)) (lookZ es i)) z) ≤ B + C
-    go true k = omega (arith, abs-sum z (e .1))
-    go false k = k
-
-pub true-of : (b : Bool) → T b → b ≡ true
-true-of true t = refl
-true-of false t = absurd t
-
-pub small-all : (F : ℕ) (l : List ℤ) → ((i : ℕ) → natAbs (integerAt l i) ≤ F) → valuesWithin F l ≡ true
-small-all F [] h = refl
-small-all F (z ∷ l) h = ap₂ _&&_ (true-of (leb (natAbs z) F) (le→leb (natAbs z) F (h 0))) (small-all F l (λ i. h (suc i)))
-
--- what the reader has seen to: variables declared, none twice, constants up to C
-pub record AddsIn (n C : ℕ) (a : RestrictedAction) : Type 0 where
-  pub inside : All (λ (e : ℕ × ℤ). e .0 < n) (a .additions)
-  pub once : OnceZ (a .additions)
-  pub upTo : All (λ (e : ℕ × ℤ). natAbs (e .1) ≤ C) (a .additions)
-
-pub add-length : (es : List (ℕ × ℤ)) (l : List ℤ) → length (addAll es l) ≡ length l
-add-length [] l = refl
-add-length (e ∷ es) l = add-length es (set l (e .0) (integerAt l (e .0) +ℤ e .1)) ∙ length-set l (e .0) (integerAt l (e .0) +ℤ e .1)
-
-abbrev figure : State → Bool
-figure x = valuesWithin 2_000_000_000_000_000 (x .values)
-
-pub never-past : (n : ℕ) (R : List RestrictedAction) → All (AddsIn n 1_000_000_000) R → (q : List ℕ) (x : State) → length (x .values) ≡ n
-    → ((i : ℕ) → natAbs (integerAt (x .values) i) ≤ 1_000_000_000) → length q ≤ 1_000_000 → runPlan (guarded figure (restrictedStep R)) q x ≡ runPlan (restrictedStep R) q x
-never-past n R h q x e s l = guard-run (restrictedStep R) figure Inv 1_000_000 up fine q 0 x (omega arith) (e, λ i. omega (arith, s i))
-  where
-    Inv : ℕ → State → Type 0
-    Inv i y = (length (y .values) ≡ n) × ((j : ℕ) → natAbs (integerAt (y .values) j) ≤ 1_000_000_000 + 1_000_000_000 * i)
-
-    up : (i : ℕ) (y z : State) (k : ℕ) → Inv i y → restrictedStep R y k ≡ some z → Inv (suc i) z
-    up i y z k (len, b) r = let (a, e₁, e₂) = bind-inv (getElem? R k) (tryRestricted y) z r in
-        go a (all-get (AddsIn n 1_000_000_000) R k a h e₁) (given-inv (appliesRestricted a y) (applyRestricted a y) z e₂ .1)
-      where
-        go : (a : RestrictedAction) → AddsIn n 1_000_000_000 a → applyRestricted a y ≡ z → Inv (suc i) z
-        go a A e = subst (Inv (suc i)) e (
-          add-length (a .additions) (y .values) ∙ len,
-          λ j. subst (λ (w : ℤ). natAbs w ≤ 1_000_000_000 + 1_000_000_000 * suc i) (sym (add-at (a .additions) n (y .values) len (A .inside) (A .once) j))
-              (omega (arith, look-small 1_000_000_000 (a .additions) (A .upTo) (1_000_000_000 + 1_000_000_000 * i) (integerAt (y .values) j) j (b j))),
-        )
-
-    fine : (i : ℕ) (y : State) → i ≤ 1_000_000 → Inv i y → figure y ≡ true
-    fine i y l (len, b) = small-all 2_000_000_000_000_000 (y .values) (λ j. omega (arith, b j))
+    A : Accepted (length (t .variables)) (length (t .modes)) (lowerBounds t) (upperBounds t) (t .actions) (sizesOf (t .modes)) (t .goalModes) (t .goalConditions) (sourceStart t)
+    A = accepted t (accepted-source-ok file t e)

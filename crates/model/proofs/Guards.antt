@@ -10,6 +10,7 @@ use lib.ListN.{length}
 use Rattle.model.specs.Systems.{bind, orEmpty, orZero, runPlan, keep, expandFrom, totalPrice, guarded}
 use Rattle.model.specs.Walks.{Pairing}
 use Rattle.model.proofs.Follow.{guard-run}
+use Rattle.model.proofs.NamedPairing.{GoalR, GoalS}
 
 module _ {S : Type 0} (ok : S → Bool) (step : S → ℕ → Option S) (Inv : S → Type 0) (up : (x y : S) (k : ℕ) → Inv x → step x k ≡ some y → Inv y) (fine : (x : S) → Inv x → ok x ≡ true) where
   guard-step : (x : S) (k : ℕ) → Inv x → guarded ok step x k ≡ step x k
@@ -19,7 +20,7 @@ module _ {S : Type 0} (ok : S → Bool) (step : S → ℕ → Option S) (Inv : S
       go none e = refl
       go (some y) e = rw (fine x v, fine y (up x y k v e)) refl
 
-  guard-any : (q : List ℕ) (x : S) → Inv x → runPlan (guarded ok step) q x ≡ runPlan step q x
+  pub guard-any : (q : List ℕ) (x : S) → Inv x → runPlan (guarded ok step) q x ≡ runPlan step q x
   guard-any q x v = guard-run step ok (λ i. Inv) (length q) (λ i. up) (λ i y l. fine y) q 0 x (omega arith) v
 
   guard-expand : (opn : ℕ → ℕ) (tail : S → ℕ → List ℕ) (p : List ℕ) (x : S) → Inv x → expandFrom (guarded ok step) opn tail p x ≡ expandFrom step opn tail p x

@@ -1,3 +1,4 @@
+pub mod AcceptedOk
 pub mod AcceptedPairing
 pub mod AcceptedTrail
 pub mod Actions
@@ -5,6 +6,7 @@ pub mod Answers
 pub mod Arrays
 pub mod Claim
 pub mod CommandBytes
+pub mod CommandsOk
 pub mod Figure
 pub mod FileBytes
 pub mod Follow
@@ -18,10 +20,11 @@ pub mod NumberedPairing
 pub mod Operational
 pub mod Outcomes
 pub mod Pairing
+pub mod ReadingLaws
 pub mod ReadsBack
-pub mod SourceOk
 pub mod StageValues
 pub mod StageWalk
+pub mod StepBounds
 pub mod TrailOfTask
 pub mod Walk
 pub mod Worked

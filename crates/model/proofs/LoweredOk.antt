@@ -4,7 +4,7 @@ use mathlib.Core.Path.{_≡_, refl, sym, ap, _∙_, subst}
 use Prim.Native.Nat.{ℕ, zero, suc, _+_, _*_, _≤_, _<_}
 use native.Mathlib.Omega.{arith}
 use mathlib.Core.Bool.{Bool, true, false, cond}
-use mathlib.Core.Option.{Option, none, some, Option·none-ne-some}
+use mathlib.Core.Option.{none, some, Option·none-ne-some}
 use mathlib.Core.List.{List, [], _∷_, _++_}
 use lib.ListN.{length, length-append}
 use lib.Dec.{T, eqb}
@@ -12,26 +12,25 @@ use lib.Signed.{leZ, ltZ}
 use lib.IntN.{ℤ, pos, negsuc, negℤ, natAbs, _-ℤ_}
 use borrow.Author.Tests.{ne-eqb}
 use Rattle.integers.specs.All.{All}
-use Rattle.model.specs.Tasks.{Measured, variable, weightedSum, NumericCondition, SourceAction, Effect, noEffect, addEffect, linearEffect, quotientEffect, residueEffect, SourceTask, SourceVariable}
 use Rattle.integers.specs.Relation.{below, atMost, atLeast}
-use Rattle.model.specs.Stages.{Name, source, helperA, helperB, NamedAction, leftOver, Stage, opposite, stageActions, firstStage, stagesActions, countActions, drain, refill, divide, empty, clear, move, drainTerms, stagesOf, openingAdditions, onSourceVariables, addedBound, openingAction, lowerActions, stageCount, when}
 use Rattle.integers.specs.Division.{unitLess}
+use Rattle.integers.specs.Parts.{up, down}
+use Rattle.integers.proofs.Parts.{ints}
+use Rattle.model.specs.Tasks.{NumericCondition, SourceAction, Effect, noEffect, addEffect, linearEffect, quotientEffect, residueEffect, SourceTask, SourceVariable, Measured, variable, weightedSum}
+use Rattle.model.specs.Stages.{Name, source, helperA, helperB, NamedAction, Stage, opposite, stageActions, firstStage, stagesActions, drain, refill, divide, empty, clear, move, drainTerms, stagesOf, openingAdditions, onSourceVariables, addedBound, openingAction, lowerActions, stageCount, when, leftOver, countActions}
 use Rattle.model.specs.NamedSystems.{modeEffectOn}
 use Rattle.model.specs.Steps.{integerAt, naturalAt, sizesOf, lowerBounds, upperBounds, sourceStart}
-use Rattle.model.specs.Lowering.{numberedMeasure, numberedConditions, numberedAdditions, numbered, numberedAll, lowerTask}
-use Rattle.model.specs.InTask.{NameIn, MeasureIn, Once, EffectIn, ActionIn}
-use Rattle.integers.proofs.Parts.{up, down, ints}
-use Rattle.model.proofs.StageWalk.{all-app, body-length}
-use Rattle.model.proofs.MacroPlace.{rows-length}
-use Rattle.model.proofs.NumberedPairing.{RowIn, lower-in}
-use Rattle.model.proofs.Figure.{lookZ, OnceZ, abs-sum}
-use Rattle.model.proofs.AcceptedPairing.{Accepted, EffUpTo, sets-more, at-end, num-room, num-once, abs-neg, sign-upTo}
-use Rattle.model.specs.Limits.{restrictedLimits}
+use Rattle.model.specs.Lowering.{numberedConditions, numberedAdditions, numbered, numberedAll, lowerTask, numberedMeasure}
+use Rattle.model.specs.InTask.{NameIn, Once, EffectIn, ActionIn, MeasureIn}
+use Rattle.model.specs.Limits.{Limits, sourceLimits, restrictedLimits}
 use Rattle.model.specs.Decoding.{each}
-use Rattle.model.specs.RestrictedOk.{Distinct, keys, ValuesIn, ConditionsOk, RestrictedActionOk, RestrictedTaskOk}
-use Rattle.model.specs.SourceOk.{Factor, EffectOk, SourceActionOk, SourceVariableOk, SourceTaskOk}
-use Rattle.model.proofs.TrailOfTask.{length-keys}
-use Rattle.model.proofs.SourceOk.{length-each}
+use Rattle.model.specs.TaskOk.{Distinct, keys, ValuesIn, InRange, Factor, AmountOk, ModeOk, ConditionIn, ConditionOk, ConditionsOk, EffectOk, SourceActionOk, SourceVariableOk, SourceTaskOk, RestrictedActionOk, RestrictedTaskOk}
+use Rattle.model.proofs.StageWalk.{all-app, all-map, body-length}
+use Rattle.model.proofs.NumberedPairing.{RowIn, lower-in}
+use Rattle.model.proofs.StepBounds.{lookZ, OnceZ, abs-sum}
+use Rattle.model.proofs.AcceptedPairing.{Accepted, EffUpTo, sets-more, at-end, num-room, num-once, abs-neg, sign-upTo}
+use Rattle.model.proofs.ReadingLaws.{length-each, length-keys}
+use Rattle.model.proofs.MacroPlace.{rows-length}
 
 -- ---- numbers that stand apart, and lists that name each number once
 apart-none : (k : ℕ) (es : List (ℕ × ℕ)) → All (λ (j : ℕ). eqb j k ≡ false) (keys es) → modeEffectOn es k ≡ none
@@ -68,16 +67,16 @@ record RowOk (sizes : List ℕ) (z : ℕ) (r : NamedAction) : Type 0 where
   modeConditionsFew : length (r .modeConditions) ≤ 8
   modeConditionsIn : ValuesIn sizes (r .modeConditions)
   conditionsFew : length (r .conditions) ≤ 9
-  csUp : All (λ (c : NumericCondition Name). natAbs (c .constant) ≤ 1_000_000_000) (r .conditions)
+  csUp : All (λ (c : NumericCondition Name). InRange restrictedLimits (c .constant)) (r .conditions)
   modeEffectsIn : ValuesIn sizes (r .modeEffects)
   esApart : Distinct (keys (r .modeEffects))
   additionsFew : length (r .additions) ≤ 3
-  addsUp : All (λ (e : Name × ℤ). (1 ≤ natAbs (e .1)) × (natAbs (e .1) ≤ 1_000_000_000)) (r .additions)
+  addsUp : All (λ (e : Name × ℤ). Factor restrictedLimits (e .1)) (r .additions)
   control : r .control < z
   nextControl : r .nextControl < z
 
-all-cond : (n : ℕ) (cs : List (NumericCondition Name)) → All (λ (c : NumericCondition Name). MeasureIn (NameIn n) (c .measured)) cs → All (λ (c : NumericCondition Name). natAbs (c .constant) ≤ 1_000_000_000) cs
-    → All (λ (c : NumericCondition ℕ). MeasureIn (λ (i : ℕ). i < n + 2) (c .measured) × (natAbs (c .constant) ≤ 1_000_000_000)) (numberedConditions n cs)
+all-cond : (n : ℕ) (cs : List (NumericCondition Name)) → All (λ (c : NumericCondition Name). MeasureIn (NameIn n) (c .measured)) cs → All (λ (c : NumericCondition Name). InRange restrictedLimits (c .constant)) cs
+    → All (ConditionOk restrictedLimits (n + 2)) (numberedConditions n cs)
 all-cond n [] i h = tt
 all-cond n (c ∷ cs) (i, is) (h, hs) = ((lhs (c .measured) i, h), all-cond n cs is hs)
   where
@@ -85,10 +84,10 @@ all-cond n (c ∷ cs) (i, is) (h, hs) = ((lhs (c .measured) i, h), all-cond n cs
     lhs (variable w) i = num-room n w i
     lhs (weightedSum ts) i = absurd i
 
-all-add : (n : ℕ) (es : List (Name × ℤ)) → All (λ (e : Name × ℤ). NameIn n (e .0)) es → All (λ (e : Name × ℤ). (1 ≤ natAbs (e .1)) × (natAbs (e .1) ≤ 1_000_000_000)) es
-    → All (λ (e : ℕ × ℤ). (e .0 < n + 2) × (1 ≤ natAbs (e .1)) × (natAbs (e .1) ≤ 1_000_000_000)) (numberedAdditions n es)
+all-add : (n : ℕ) (es : List (Name × ℤ)) → All (λ (e : Name × ℤ). NameIn n (e .0)) es → All (λ (e : Name × ℤ). Factor restrictedLimits (e .1)) es
+    → All (AmountOk restrictedLimits (n + 2)) (numberedAdditions n es)
 all-add n [] i h = tt
-all-add n (e ∷ es) (i, is) (h, hs) = ((num-room n (e .0) i, h .0, h .1), all-add n es is hs)
+all-add n (e ∷ es) (i, is) (h, hs) = ((num-room n (e .0) i, h), all-add n es is hs)
 
 length-numC : (n : ℕ) (cs : List (NumericCondition Name)) → length (numberedConditions n cs) ≡ length cs
 length-numC n [] = refl
@@ -142,17 +141,17 @@ module _ (n m : ℕ) (sizes : List ℕ) (z : ℕ) (sm : length sizes ≡ m) wher
 record StageOk (d : Stage) : Type 0 where
   highUp : leftOver (d .kind) ≤ 10_000
   xFew : length (d .turnConditions) ≤ 2
-  xUp : All (λ (c : NumericCondition Name). natAbs (c .constant) ≤ 1_000_000_000) (d .turnConditions)
+  xUp : All (λ (c : NumericCondition Name). InRange restrictedLimits (c .constant)) (d .turnConditions)
   aFew : length (d .additions) ≤ 3
-  aUp : All (λ (e : Name × ℤ). (1 ≤ natAbs (e .1)) × (natAbs (e .1) ≤ 1_000_000_000)) (d .additions)
+  aUp : All (λ (e : Name × ℤ). Factor restrictedLimits (e .1)) (d .additions)
   tFew : length (d .turnAdditions) ≤ 3
-  tUp : All (λ (e : Name × ℤ). (1 ≤ natAbs (e .1)) × (natAbs (e .1) ≤ 1_000_000_000)) (d .turnAdditions)
+  tUp : All (λ (e : Name × ℤ). Factor restrictedLimits (e .1)) (d .turnAdditions)
 
 opposite-length : (es : List (Name × ℤ)) → length (opposite es) ≡ length es
 opposite-length [] = refl
 opposite-length (e ∷ es) = ap suc (opposite-length es)
 
-opposite-ok : (es : List (Name × ℤ)) → All (λ (e : Name × ℤ). (1 ≤ natAbs (e .1)) × (natAbs (e .1) ≤ 1_000_000_000)) es → All (λ (e : Name × ℤ). (1 ≤ natAbs (e .1)) × (natAbs (e .1) ≤ 1_000_000_000)) (opposite es)
+opposite-ok : (es : List (Name × ℤ)) → All (λ (e : Name × ℤ). Factor restrictedLimits (e .1)) es → All (λ (e : Name × ℤ). Factor restrictedLimits (e .1)) (opposite es)
 opposite-ok [] h = tt
 opposite-ok (e ∷ es) (h, hs) = ((omega (arith, h .0, abs-neg (e .1)), omega (arith, h .1, abs-neg (e .1))), opposite-ok es hs)
 
@@ -196,7 +195,7 @@ rows-ok sizes z o (d ∷ ds) s h (a, as₁) = all-app (RowOk sizes z) (stageActi
 )
     (rows-ok sizes z o ds (suc s) (omega (arith, h)) as₁)
 
-factor-less : (c : ℤ) → Factor c → suc (unitLess c) ≡ natAbs c
+factor-less : (c : ℤ) → Factor sourceLimits c → suc (unitLess c) ≡ natAbs c
 factor-less (pos zero) h = absurd (omega (arith, h .0))
 factor-less (pos (suc n)) h = refl
 factor-less (negsuc n) h = refl
@@ -208,13 +207,13 @@ module _ (lo hi : ℕ → ℤ) (loUp : (j : ℕ) → natAbs (lo j) ≤ 10_000) (
   one : One
   one = (omega arith, omega arith)
 
-  drain-ok : (t : ℕ) (w : ℤ) → Factor w → StageOk (drain t w)
+  drain-ok : (t : ℕ) (w : ℤ) → Factor sourceLimits w → StageOk (drain t w)
   drain-ok t w h = record { highUp = omega arith; xFew = omega arith; xUp = tt; aFew = omega arith; aUp = (one, ((h .0, omega (arith, h .1)), (one, tt))); tFew = omega arith; tUp = tt }
 
   refill-ok : (t : ℕ) → StageOk (refill t)
   refill-ok t = record { highUp = omega arith; xFew = omega arith; xUp = tt; aFew = omega arith; aUp = (one, (one, tt)); tFew = omega arith; tUp = tt }
 
-  divide-ok : (c : ℤ) → Factor c → StageOk (divide c)
+  divide-ok : (c : ℤ) → Factor sourceLimits c → StageOk (divide c)
   divide-ok c h = record {
     highUp = omega (arith, h .1, factor-less c h);
     xFew = omega arith;
@@ -234,18 +233,18 @@ module _ (lo hi : ℕ → ℤ) (loUp : (j : ℕ) → natAbs (lo j) ≤ 10_000) (
   move-ok : (t : ℕ) (f : Name) → StageOk (move t f (lo t) (hi t))
   move-ok t f = record { highUp = omega arith; xFew = omega arith; xUp = (omega (arith, loUp t), (omega (arith, hiUp t), tt)); aFew = omega arith; aUp = (one, (one, tt)); tFew = omega arith; tUp = tt }
 
-  stages-ok : (n : ℕ) (e : Effect) → EffectOk n e → All StageOk (stagesOf lo hi e)
+  stages-ok : (n : ℕ) (e : Effect) → EffectOk sourceLimits n e → All StageOk (stagesOf lo hi e)
   stages-ok n noEffect h = tt
   stages-ok n (addEffect t c) h = tt
   stages-ok n (linearEffect t w ts) (h, k, f, (i, a)) = go ts i
     where
-      go : (ts : List (ℕ × ℤ)) → All (λ (e : ℕ × ℤ). (e .0 < n) × Factor (e .1)) ts → All StageOk (drainTerms ts (stagesOf lo hi (linearEffect t w [])))
+      go : (ts : List (ℕ × ℤ)) → All (AmountOk sourceLimits n) ts → All StageOk (drainTerms ts (stagesOf lo hi (linearEffect t w [])))
       go [] i = (clear-ok t, (move-ok t helperA, tt))
       go (p ∷ ts) (i, is) = (drain-ok (p .0) (p .1) (i .1), (refill-ok (p .0), go ts is))
   stages-ok n (quotientEffect t y c) (h, k, f) = (drain-ok y (pos 1) (omega arith, omega arith), (refill-ok y, (divide-ok c f, (empty-ok helperA, (clear-ok t, (move-ok t helperB, tt))))))
   stages-ok n (residueEffect t y c) (h, k, f) = (drain-ok y (pos 1) (omega arith, omega arith), (refill-ok y, (divide-ok c f, (empty-ok helperB, (clear-ok t, (move-ok t helperA, tt))))))
 
-  stages-few : (n : ℕ) (e : Effect) → EffectOk n e → length (stagesOf lo hi e) ≤ 10
+  stages-few : (n : ℕ) (e : Effect) → EffectOk sourceLimits n e → length (stagesOf lo hi e) ≤ 10
   stages-few n noEffect h = omega arith
   stages-few n (addEffect t c) h = omega arith
   stages-few n (linearEffect t w ts) (h, k, f, i) = omega (arith, f, count ts)
@@ -259,7 +258,7 @@ module _ (lo hi : ℕ → ℤ) (loUp : (j : ℕ) → natAbs (lo j) ≤ 10_000) (
   abs-diff : (a b : ℤ) → natAbs (a -ℤ b) ≤ natAbs a + natAbs b
   abs-diff a b = omega (arith, abs-sum a (negℤ b), abs-neg b)
 
-  lift-ok : (n : ℕ) (cs : List (NumericCondition ℕ)) → All (λ (c : NumericCondition ℕ). MeasureIn (λ (i : ℕ). i < n) (c .measured) × (natAbs (c .constant) ≤ 10_000)) cs → All (λ (c : NumericCondition Name). natAbs (c .constant) ≤ 1_000_000_000) (onSourceVariables cs)
+  lift-ok : (n : ℕ) (cs : List (NumericCondition ℕ)) → All (ConditionOk sourceLimits n) cs → All (λ (c : NumericCondition Name). InRange restrictedLimits (c .constant)) (onSourceVariables cs)
   lift-ok n [] h = tt
   lift-ok n (c ∷ cs) (h, hs) = (omega (arith, h .1), lift-ok n cs hs)
 
@@ -274,7 +273,7 @@ module _ (lo hi : ℕ → ℤ) (loUp : (j : ℕ) → natAbs (lo j) ≤ 10_000) (
   bound-few (quotientEffect t y c) = omega arith
   bound-few (residueEffect t y c) = omega arith
 
-  bound-ok : (n : ℕ) (e : Effect) → EffectOk n e → All (λ (c : NumericCondition Name). natAbs (c .constant) ≤ 1_000_000_000) (addedBound lo hi e)
+  bound-ok : (n : ℕ) (e : Effect) → EffectOk sourceLimits n e → All (λ (c : NumericCondition Name). InRange restrictedLimits (c .constant)) (addedBound lo hi e)
   bound-ok n noEffect h = tt
   bound-ok n (addEffect t c) h = (go (ltZ (pos 0) c), tt)
     where
@@ -294,7 +293,7 @@ module _ (lo hi : ℕ → ℤ) (loUp : (j : ℕ) → natAbs (lo j) ≤ 10_000) (
   start-few (quotientEffect t y c) = omega arith
   start-few (residueEffect t y c) = omega arith
 
-  start-ok : (n : ℕ) (e : Effect) → EffectOk n e → All (λ (e : Name × ℤ). (1 ≤ natAbs (e .1)) × (natAbs (e .1) ≤ 1_000_000_000)) (openingAdditions e)
+  start-ok : (n : ℕ) (e : Effect) → EffectOk sourceLimits n e → All (λ (e : Name × ℤ). Factor restrictedLimits (e .1)) (openingAdditions e)
   start-ok n noEffect h = tt
   start-ok n (addEffect t c) h = ((h .1 .0, omega (arith, h .1 .1)), tt)
   start-ok n (linearEffect t (pos zero) ts) h = tt
@@ -304,12 +303,12 @@ module _ (lo hi : ℕ → ℤ) (loUp : (j : ℕ) → natAbs (lo j) ≤ 10_000) (
   start-ok n (residueEffect t y c) h = tt
 
   module _ (n : ℕ) (sizes : List ℕ) where
-    first-ok : (z s : ℕ) (a : SourceAction) → 1 ≤ z → s + length (stagesOf lo hi (a .effect)) ≤ z → SourceActionOk n sizes a → RowOk sizes z (openingAction lo hi s a)
+    first-ok : (z s : ℕ) (a : SourceAction) → 1 ≤ z → s + length (stagesOf lo hi (a .effect)) ≤ z → SourceActionOk sourceLimits n sizes a → RowOk sizes z (openingAction lo hi s a)
     first-ok z s a o h k = record {
       modeConditionsFew = k .conditionsOk .modeConditionsFew;
       modeConditionsIn = k .conditionsOk .modeConditionsIn;
       conditionsFew = omega (arith, k .conditionsOk .conditionsFew, length-append (onSourceVariables (a .conditions)) (addedBound lo hi (a .effect)), length-lift (a .conditions), bound-few (a .effect));
-      csUp = all-app (λ (c : NumericCondition Name). natAbs (c .constant) ≤ 1_000_000_000) (onSourceVariables (a .conditions)) (addedBound lo hi (a .effect)) (lift-ok n (a .conditions) (k .conditionsOk .conditionsIn)) (bound-ok n (a .effect) (k .effectOk));
+      csUp = all-app (λ (c : NumericCondition Name). InRange restrictedLimits (c .constant)) (onSourceVariables (a .conditions)) (addedBound lo hi (a .effect)) (lift-ok n (a .conditions) (k .conditionsOk .conditionsIn)) (bound-ok n (a .effect) (k .effectOk));
       modeEffectsIn = k .modeEffectsIn;
       esApart = k .modeEffectsOnce;
       additionsFew = start-few (a .effect);
@@ -318,7 +317,7 @@ module _ (lo hi : ℕ → ℤ) (loUp : (j : ℕ) → natAbs (lo j) ≤ 10_000) (
       nextControl = entry-lt s (stagesOf lo hi (a .effect)) z o h;
     }
 
-    lower-ok : (z : ℕ) → 1 ≤ z → (acts : List SourceAction) (s : ℕ) → s + stageCount lo hi acts ≤ z → All (SourceActionOk n sizes) acts → All (RowOk sizes z) (lowerActions lo hi s acts)
+    lower-ok : (z : ℕ) → 1 ≤ z → (acts : List SourceAction) (s : ℕ) → s + stageCount lo hi acts ≤ z → All (SourceActionOk sourceLimits n sizes) acts → All (RowOk sizes z) (lowerActions lo hi s acts)
     lower-ok z o [] s h k = tt
     lower-ok z o (a ∷ acts) s h (k, ks) = (
       first-ok z s a o (omega (arith, h)) k,
@@ -327,7 +326,7 @@ module _ (lo hi : ℕ → ℤ) (loUp : (j : ℕ) → natAbs (lo j) ≤ 10_000) (
           (lower-ok z o acts (s + length (stagesOf lo hi (a .effect))) (omega (arith, h)) ks),
     )
 
-    stages-count : (acts : List SourceAction) → All (SourceActionOk n sizes) acts → stageCount lo hi acts ≤ 10 * length acts
+    stages-count : (acts : List SourceAction) → All (SourceActionOk sourceLimits n sizes) acts → stageCount lo hi acts ≤ 10 * length acts
     stages-count [] h = omega arith
     stages-count (a ∷ acts) (h, hs) = omega (arith, stages-few n (a .effect) (h .effectOk), stages-count acts hs)
 
@@ -335,7 +334,7 @@ module _ (lo hi : ℕ → ℤ) (loUp : (j : ℕ) → natAbs (lo j) ≤ 10_000) (
     widths-few [] = refl
     widths-few (d ∷ ds) = omega (arith, body-length 0 d, widths-few ds)
 
-    lower-length : (acts : List SourceAction) (s : ℕ) → All (SourceActionOk n sizes) acts → length (lowerActions lo hi s acts) ≤ 31 * length acts
+    lower-length : (acts : List SourceAction) (s : ℕ) → All (SourceActionOk sourceLimits n sizes) acts → length (lowerActions lo hi s acts) ≤ 31 * length acts
     lower-length [] s h = omega arith
     lower-length (a ∷ acts) s (h, hs) = omega (
       arith,
@@ -358,36 +357,44 @@ firsts : (sizes : List ℕ) (ps : List (ℕ × ℕ)) → ValuesIn sizes ps → D
 firsts sizes [] h = tt
 firsts sizes (p ∷ ps) (h, hs) = (h .0, firsts sizes ps hs)
 
-cond-vars : (n C : ℕ) (cs : List (NumericCondition ℕ)) → All (λ (c : NumericCondition ℕ). MeasureIn (λ (i : ℕ). i < n) (c .measured) × (natAbs (c .constant) ≤ C)) cs → All (λ (c : NumericCondition ℕ). MeasureIn (λ (i : ℕ). i < n) (c .measured)) cs
-cond-vars n C [] h = tt
-cond-vars n C (c ∷ cs) (h, hs) = (h .0, cond-vars n C cs hs)
+cond-vars : (n : ℕ) (cs : List (NumericCondition ℕ)) → All (ConditionOk sourceLimits n) cs → All (ConditionIn n) cs
+cond-vars n [] h = tt
+cond-vars n (c ∷ cs) (h, hs) = (h .0, cond-vars n cs hs)
 
-eff-in : (n : ℕ) (e : Effect) → EffectOk n e → EffectIn n e
+-- with the two helpers behind them, a task's variables are declared as before
+with-helpers : (n : ℕ) (c : NumericCondition ℕ) → ConditionIn n c → ConditionIn (n + 2) c
+with-helpers n c h = measured (c .measured) h
+  where
+    measured : (l : Measured ℕ) → MeasureIn (λ (i : ℕ). i < n) l → MeasureIn (λ (i : ℕ). i < n + 2) l
+    measured (variable i) h = omega (arith, h)
+    measured (weightedSum ts) h = absurd h
+
+eff-in : (n : ℕ) (e : Effect) → EffectOk sourceLimits n e → EffectIn n e
 eff-in n noEffect h = tt
 eff-in n (addEffect t c) h = h .0
 eff-in n (linearEffect t w ts) (h, k, f, (i, a)) = (h, go ts i)
   where
-    go : (ts : List (ℕ × ℤ)) → All (λ (e : ℕ × ℤ). (e .0 < n) × Factor (e .1)) ts → All (λ (p : ℕ × ℤ). p .0 < n) ts
+    go : (ts : List (ℕ × ℤ)) → All (AmountOk sourceLimits n) ts → All (λ (p : ℕ × ℤ). p .0 < n) ts
     go [] i = tt
     go (p ∷ ts) (i, is) = (i .0, go ts is)
 eff-in n (quotientEffect t y c) (h, k, f) = (h, k)
 eff-in n (residueEffect t y c) (h, k, f) = (h, k)
 
-eff-up : (n : ℕ) (e : Effect) → EffectOk n e → EffUpTo 1_000_000_000 e
+eff-up : (n : ℕ) (e : Effect) → EffectOk sourceLimits n e → EffUpTo 1_000_000_000 e
 eff-up n noEffect h = tt
 eff-up n (addEffect t c) h = omega (arith, h .1 .1)
 eff-up n (linearEffect t w ts) (h, k, f, (i, a)) = (omega (arith, k), go ts i)
   where
-    go : (ts : List (ℕ × ℤ)) → All (λ (e : ℕ × ℤ). (e .0 < n) × Factor (e .1)) ts → All (λ (p : ℕ × ℤ). natAbs (p .1) ≤ 1_000_000_000) ts
+    go : (ts : List (ℕ × ℤ)) → All (AmountOk sourceLimits n) ts → All (λ (p : ℕ × ℤ). natAbs (p .1) ≤ 1_000_000_000) ts
     go [] i = tt
     go (p ∷ ts) (i, is) = (omega (arith, i .1 .1), go ts is)
 eff-up n (quotientEffect t y c) (h, k, f) = omega (arith, factor-less c f, f .1)
 eff-up n (residueEffect t y c) (h, k, f) = omega (arith, factor-less c f, f .1)
 
-act-in : (n : ℕ) (sizes : List ℕ) (a : SourceAction) → SourceActionOk n sizes a → ActionIn n (length sizes) a
+act-in : (n : ℕ) (sizes : List ℕ) (a : SourceAction) → SourceActionOk sourceLimits n sizes a → ActionIn n (length sizes) a
 act-in n sizes a k = record {
   modeConditionsIn = firsts sizes (a .modeConditions) (k .conditionsOk .modeConditionsIn);
-  conditionsIn = cond-vars n 10_000 (a .conditions) (k .conditionsOk .conditionsIn);
+  conditionsIn = cond-vars n (a .conditions) (k .conditionsOk .conditionsIn);
   modeEffectsIn = firsts sizes (a .modeEffects) (k .modeEffectsIn);
   modeEffectsOnce = apart-once (a .modeEffects) (k .modeEffectsOnce);
   effectIn = eff-in n (a .effect) (k .effectOk);
@@ -405,39 +412,35 @@ between C a z b h k p q = go z (abs-pn a) (abs-pn b) h k
     go (pos n) e f h k = omega (ints, e, f, h, k, p, q)
     go (negsuc n) e f h k = omega (ints, e, f, h, k, p, q)
 
-lower-up : (vs : List SourceVariable) → All SourceVariableOk vs → (j : ℕ) → natAbs (integerAt (each (λ (b : SourceVariable). b .lower) vs) j) ≤ 10_000
+lower-up : (vs : List SourceVariable) → All (SourceVariableOk sourceLimits) vs → (j : ℕ) → natAbs (integerAt (each (λ (b : SourceVariable). b .lower) vs) j) ≤ 10_000
 lower-up [] h j = omega arith
 lower-up (b ∷ vs) (h, hs) zero = h .0
 lower-up (b ∷ vs) (h, hs) (suc j) = lower-up vs hs j
 
-upper-up : (vs : List SourceVariable) → All SourceVariableOk vs → (j : ℕ) → natAbs (integerAt (each (λ (b : SourceVariable). b .upper) vs) j) ≤ 10_000
+upper-up : (vs : List SourceVariable) → All (SourceVariableOk sourceLimits) vs → (j : ℕ) → natAbs (integerAt (each (λ (b : SourceVariable). b .upper) vs) j) ≤ 10_000
 upper-up [] h j = omega arith
 upper-up (b ∷ vs) (h, hs) zero = h .1
 upper-up (b ∷ vs) (h, hs) (suc j) = upper-up vs hs j
 
-start-in : (b : SourceVariable) → SourceVariableOk b → natAbs (b .start) ≤ 1_000_000_000
+start-in : (b : SourceVariable) → SourceVariableOk sourceLimits b → natAbs (b .start) ≤ 1_000_000_000
 start-in b h = omega (arith, between 10_000 (b .lower) (b .start) (b .upper) (h .2) (h .3) (h .0) (h .1))
 
-start-up : (vs : List SourceVariable) → All SourceVariableOk vs → (j : ℕ) → natAbs (integerAt (each (λ (b : SourceVariable). b .start) vs) j) ≤ 1_000_000_000
+start-up : (vs : List SourceVariable) → All (SourceVariableOk sourceLimits) vs → (j : ℕ) → natAbs (integerAt (each (λ (b : SourceVariable). b .start) vs) j) ≤ 1_000_000_000
 start-up [] h j = omega arith
 start-up (b ∷ vs) (h, hs) zero = start-in b h
 start-up (b ∷ vs) (h, hs) (suc j) = start-up vs hs j
 
-start-good : (vs : List SourceVariable) → All SourceVariableOk vs → (j : ℕ)
+start-good : (vs : List SourceVariable) → All (SourceVariableOk sourceLimits) vs → (j : ℕ)
     → T (leZ (integerAt (each (λ (b : SourceVariable). b .lower) vs) j) (integerAt (each (λ (b : SourceVariable). b .start) vs) j)) × T (leZ (integerAt (each (λ (b : SourceVariable). b .start) vs) j) (integerAt (each (λ (b : SourceVariable). b .upper) vs) j))
 start-good [] h j = (tt, tt)
 start-good (b ∷ vs) (h, hs) zero = (h .2, h .3)
 start-good (b ∷ vs) (h, hs) (suc j) = start-good vs hs j
 
-modes-below : (ms : List (ℕ × ℕ)) (C : ℕ) → All (λ (m : ℕ × ℕ). (m .1 < m .0) × (m .0 ≤ C)) ms → (j : ℕ) → j < length (each (λ (m : ℕ × ℕ). m .1) ms)
+pub modes-below : (l : Limits) (ms : List (ℕ × ℕ)) → All (ModeOk l) ms → (j : ℕ) → j < length (each (λ (m : ℕ × ℕ). m .1) ms)
     → naturalAt (each (λ (m : ℕ × ℕ). m .1) ms) j < naturalAt (sizesOf ms) j
-modes-below [] C h j q = absurd (omega (arith, q))
-modes-below (m ∷ ms) C (h, hs) zero q = h .0
-modes-below (m ∷ ms) C (h, hs) (suc j) q = modes-below ms C hs j (omega (arith, q))
-
-all-to : {A : Type 0} (up Q : A → Type 0) → ((a : A) → up a → Q a) → (xs : List A) → All up xs → All Q xs
-all-to up Q f [] h = tt
-all-to up Q f (x ∷ xs) (h, hs) = (f x h, all-to up Q f xs hs)
+modes-below l [] h j q = absurd (omega (arith, q))
+modes-below l (m ∷ ms) (h, hs) zero q = h .0
+modes-below l (m ∷ ms) (h, hs) (suc j) q = modes-below l ms hs j (omega (arith, q))
 
 -- THE SOURCE: acceptance is all that the pairing asks
 module _ (t : SourceTask) (S : SourceTaskOk t) where
@@ -447,16 +450,16 @@ module _ (t : SourceTask) (S : SourceTaskOk t) where
   pub accepted : Accepted (length (t .variables)) (length (t .modes)) (lowerBounds t) (upperBounds t) (t .actions) (sizesOf (t .modes)) (t .goalModes) (t .goalConditions) (sourceStart t)
   accepted = record {
     actionsIn = subst (λ (m : ℕ). All (ActionIn (length (t .variables)) m) (t .actions)) long
-        (all-to (SourceActionOk (length (t .variables)) (sizesOf (t .modes))) (ActionIn (length (t .variables)) (length (sizesOf (t .modes)))) (act-in (length (t .variables)) (sizesOf (t .modes))) (t .actions) (S .actionsOk));
-    constants = all-to (SourceActionOk (length (t .variables)) (sizesOf (t .modes))) (λ (a : SourceAction). EffUpTo 1_000_000_000 (a .effect)) (λ a k. eff-up (length (t .variables)) (a .effect) (k .effectOk)) (t .actions) (S .actionsOk);
-    sets = all-to (SourceActionOk (length (t .variables)) (sizesOf (t .modes))) (λ (a : SourceAction). ValuesIn (sizesOf (t .modes)) (a .modeEffects)) (λ a k. k .modeEffectsIn) (t .actions) (S .actionsOk);
+        (all-map (SourceActionOk sourceLimits (length (t .variables)) (sizesOf (t .modes))) (ActionIn (length (t .variables)) (length (sizesOf (t .modes)))) (act-in (length (t .variables)) (sizesOf (t .modes))) (t .actions) (S .actionsOk));
+    constants = all-map (SourceActionOk sourceLimits (length (t .variables)) (sizesOf (t .modes))) (λ (a : SourceAction). EffUpTo 1_000_000_000 (a .effect)) (λ a k. eff-up (length (t .variables)) (a .effect) (k .effectOk)) (t .actions) (S .actionsOk);
+    sets = all-map (SourceActionOk sourceLimits (length (t .variables)) (sizesOf (t .modes))) (λ (a : SourceAction). ValuesIn (sizesOf (t .modes)) (a .modeEffects)) (λ a k. k .modeEffectsIn) (t .actions) (S .actionsOk);
     sizesLong = long;
     goalP = subst (λ (m : ℕ). All (λ (p : ℕ × ℕ). p .0 < m) (t .goalModes)) long (firsts (sizesOf (t .modes)) (t .goalModes) (S .goal .modeConditionsIn));
-    goalC = cond-vars (length (t .variables)) 10_000 (t .goalConditions) (S .goal .conditionsIn);
+    goalC = cond-vars (length (t .variables)) (t .goalConditions) (S .goal .conditionsIn);
     valsLong = length-each (λ (b : SourceVariable). b .start) (t .variables);
     modesLong = length-each (λ (m : ℕ × ℕ). m .1) (t .modes);
     good = start-good (t .variables) (S .variablesIn);
-    below = modes-below (t .modes) 16 (S .modesIn);
+    below = modes-below sourceLimits (t .modes) (S .modesIn);
     starts = start-up (t .variables) (S .variablesIn);
   }
 
@@ -465,7 +468,7 @@ keys-app : (xs ys : List (ℕ × ℕ)) → keys (xs ++ ys) ≡ keys xs ++ keys y
 keys-app [] ys = refl
 keys-app (x ∷ xs) ys = ap (λ (z : List ℕ). x .0 ∷ z) (keys-app xs ys)
 
-starts-in : (vs : List SourceVariable) → All SourceVariableOk vs → All (λ (z : ℤ). natAbs z ≤ 1_000_000_000) (each (λ (b : SourceVariable). b .start) vs ++ (pos 0 ∷ pos 0 ∷ []))
+starts-in : (vs : List SourceVariable) → All (SourceVariableOk sourceLimits) vs → All (InRange restrictedLimits) (each (λ (b : SourceVariable). b .start) vs ++ (pos 0 ∷ pos 0 ∷ []))
 starts-in [] h = (omega arith, (omega arith, tt))
 starts-in (b ∷ vs) (h, hs) = (start-in b h, starts-in vs hs)
 
@@ -489,21 +492,17 @@ module _ (t : SourceTask) (S : SourceTaskOk t) where
     modeConditionsFew = omega (arith, S .goal .modeConditionsFew, length-append (t .goalModes) ((length (t .modes), 0) ∷ []));
     modeConditionsIn = values-more (sizesOf (t .modes)) (suc (stageCount (lowerBounds t) (upperBounds t) (t .actions))) (length (t .modes)) 0 (length-keys (t .modes)) (omega arith) (t .goalModes) (S .goal .modeConditionsIn);
     conditionsFew = omega (arith, S .goal .conditionsFew);
-    conditionsIn = all-to (λ (c : NumericCondition ℕ). MeasureIn (λ (i : ℕ). i < length (t .variables)) (c .measured) × (natAbs (c .constant) ≤ 10_000))
-        (λ (c : NumericCondition ℕ). MeasureIn (λ (i : ℕ). i < length (t .variables) + 2) (c .measured) × (natAbs (c .constant) ≤ 1_000_000_000)) (λ c h. (lhs (c .measured) (h .0), omega (arith, h .1))) (t .goalConditions) (S .goal .conditionsIn);
+    conditionsIn = all-map (ConditionOk sourceLimits (length (t .variables))) (ConditionOk restrictedLimits (length (t .variables) + 2))
+        (λ c h. (with-helpers (length (t .variables)) c (h .0), omega (arith, h .1))) (t .goalConditions) (S .goal .conditionsIn);
   }
-    where
-      lhs : (l : Measured ℕ) → MeasureIn (λ (i : ℕ). i < length (t .variables)) l → MeasureIn (λ (i : ℕ). i < length (t .variables) + 2) l
-      lhs (variable i) h = omega (arith, h)
-      lhs (weightedSum ts) h = absurd h
 
   pub formed : RestrictedTaskOk (lowerTask t)
   formed = record {
     startsFew = omega (arith, nStarts, S .variablesFew);
     startsIn = starts-in (t .variables) (S .variablesIn);
     modesFew = omega (arith, length-append (t .modes) ((suc (stageCount (lowerBounds t) (upperBounds t) (t .actions)), 0) ∷ []), S .modesFew);
-    modesIn = all-app (λ (m : ℕ × ℕ). (m .1 < m .0) × (m .0 ≤ 8192)) (t .modes) ((suc (stageCount (lowerBounds t) (upperBounds t) (t .actions)), 0) ∷ [])
-        (all-to (λ (m : ℕ × ℕ). (m .1 < m .0) × (m .0 ≤ 16)) (λ (m : ℕ × ℕ). (m .1 < m .0) × (m .0 ≤ 8192)) (λ m h. (h .0, omega (arith, h .1))) (t .modes) (S .modesIn))
+    modesIn = all-app (ModeOk restrictedLimits) (t .modes) ((suc (stageCount (lowerBounds t) (upperBounds t) (t .actions)), 0) ∷ [])
+        (all-map (ModeOk sourceLimits) (ModeOk restrictedLimits) (λ m h. (h .0, omega (arith, h .1))) (t .modes) (S .modesIn))
         ((omega arith, omega (arith, stage-few)), tt);
     actionsFew = omega (
       arith,

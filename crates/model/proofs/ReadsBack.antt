@@ -1,34 +1,36 @@
 -- What is read of a well-formed restricted task's file is the task.
 -- Assumes nothing.
-use mathlib.Core.Bool.{cond}
 use mathlib.Core.Path.{_≡_, refl, ap, ap₂, _∙_}
 use Prim.Native.Nat.{ℕ, zero, suc, _^_, _≤_, _<_}
 use native.Mathlib.Omega.{arith}
 use mathlib.Core.List.{List, [], _∷_, _++_, append-nil}
 use lib.ListN.{length}
-use lib.IntN.{ℤ, natAbs}
+use lib.IntN.{ℤ}
 use Rattle.integers.specs.All.{All}
-use Rattle.model.specs.Tasks.{Measured, variable, weightedSum, NumericCondition, Effect, noEffect, addEffect, RestrictedAction, RestrictedTask}
 use Rattle.integers.specs.Relation.{Relation, below, atMost, atLeast, above, relationOf, relationNumber}
-use Rattle.model.specs.Steps.{naturalAt, sizesOf}
-use Rattle.model.specs.InTask.{MeasureIn}
 use Rattle.integers.specs.Numbers.{bitsOf}
 use Rattle.commands.specs.declared.Command.{Command}
 use Rattle.commands.specs.declared.Command.the-variants.{Action, Condition, Add, Goal, End}
-use Rattle.model.specs.Limits.{restrictedLimits}
-use Rattle.model.specs.Reading.{Verdict, commandsOf}
-use Rattle.model.specs.Decoding.{Part, emptyPart, Draft, blank, withCurrent, before, beforeAll, draftOf, restrictedActionOf, each, restrictedTaskOf, onVerdict, readRestricted}
 use Rattle.lists.specs.Answer.{given}
 use Rattle.commands.specs.Encoding.{encode, encodeAll}
-use Rattle.model.specs.Lowering.{variableOf, startCommands, modeCommands, modeConditionCommands, conditionCommands, modeEffectCommands, additionCommands, actionCommands, actionsCommands, fileCommands, encodeFile}
-use Rattle.model.specs.RestrictedOk.{ValuesIn, ConditionsOk, RestrictedActionOk, RestrictedTaskOk}
+use Rattle.model.specs.Tasks.{NumericCondition, Effect, noEffect, addEffect, RestrictedAction, RestrictedTask, Measured, variable, weightedSum}
+use Rattle.model.specs.Steps.{naturalAt, sizesOf}
+use Rattle.model.specs.Limits.{restrictedLimits}
+use Rattle.model.specs.Rules.{constant}
+use Rattle.model.specs.Reading.{Verdict, commandsOf}
+use Rattle.model.specs.Decoding.{Part, emptyPart, Draft, blank, withCurrent, before, beforeAll, draftOf, restrictedActionOf, each, restrictedTaskOf, onVerdict, readRestricted}
+use Rattle.model.specs.Lowering.{startCommands, modeCommands, modeConditionCommands, conditionCommands, modeEffectCommands, additionCommands, actionCommands, actionsCommands, fileCommands, encodeFile, variableOf}
+use Rattle.model.specs.TaskOk.{ValuesIn, InRange, AmountOk, ModeOk, ConditionOk, ConditionsOk, RestrictedActionOk, RestrictedTaskOk}
+use Rattle.model.specs.InTask.{MeasureIn}
 use Rattle.model.proofs.CommandBytes.{Ok, twos-fits}
 use Rattle.model.proofs.Walk.{accepts, commands-back}
-use Rattle.model.proofs.TrailOfTask.{const-back, var-in, trail, length-keys}
+use Rattle.model.proofs.StageWalk.{all-map}
+use Rattle.model.proofs.ReadingLaws.{length-keys}
+use Rattle.model.proofs.TrailOfTask.{const-back, trail, var-in}
 
 -- ---- the operands fit their widths
 abbrev Small : ℤ → Type 0
-Small z = natAbs z ≤ 1_000_000_000
+Small z = InRange restrictedLimits z
 
 fit : (z : ℤ) → Small z → bitsOf 4 z < 256 ^ 4
 fit z h = twos-fits 4 z (omega (arith, h))
@@ -40,11 +42,11 @@ starts-ok : (zs : List ℤ) (more : List Command) → All Small zs → Oks more 
 starts-ok [] more h o = o
 starts-ok (z ∷ zs) more (h, hs) o = (fit z h, starts-ok zs more hs o)
 
-modes-ok : (ms : List (ℕ × ℕ)) (more : List Command) → All (λ (m : ℕ × ℕ). (m .1 < m .0) × (m .0 ≤ 8192)) ms → Oks more → Oks (modeCommands ms more)
+modes-ok : (ms : List (ℕ × ℕ)) (more : List Command) → All (ModeOk restrictedLimits) ms → Oks more → Oks (modeCommands ms more)
 modes-ok [] more h o = o
 modes-ok (m ∷ ms) more ((h, g), hs) o = ((omega (arith, g), omega (arith, g, h)), modes-ok ms more hs o)
 
-size-few : (ms : List (ℕ × ℕ)) → All (λ (m : ℕ × ℕ). (m .1 < m .0) × (m .0 ≤ 8192)) ms → (j : ℕ) → naturalAt (sizesOf ms) j ≤ 8192
+size-few : (ms : List (ℕ × ℕ)) → All (ModeOk restrictedLimits) ms → (j : ℕ) → naturalAt (sizesOf ms) j ≤ 8192
 size-few [] h j = omega arith
 size-few (m ∷ ms) (h, hs) zero = h .1
 size-few (m ∷ ms) (h, hs) (suc j) = size-few ms hs j
@@ -67,13 +69,13 @@ module _ (n : ℕ) (n-few : n ≤ 64) (sizes : List ℕ) (m-few : length sizes �
   rel-fits atLeast = omega arith
   rel-fits above = omega arith
 
-  compares-ok : (cs : List (NumericCondition ℕ)) (more : List Command) → All (λ (c : NumericCondition ℕ). MeasureIn (λ (i : ℕ). i < n) (c .measured) × Small (c .constant)) cs → Oks more → Oks (conditionCommands cs more)
+  compares-ok : (cs : List (NumericCondition ℕ)) (more : List Command) → All (ConditionOk restrictedLimits n) cs → Oks more → Oks (conditionCommands cs more)
   compares-ok [] more h o = o
   compares-ok (c ∷ cs) more ((h, g), hs) o = ((omega (arith, var-in n (c .measured) h, n-few), rel-fits (c .relation), fit (c .constant) g), compares-ok cs more hs o)
 
-  adds-ok : (es : List (ℕ × ℤ)) (more : List Command) → All (λ (e : ℕ × ℤ). (e .0 < n) × (1 ≤ natAbs (e .1)) × Small (e .1)) es → Oks more → Oks (additionCommands es more)
+  adds-ok : (es : List (ℕ × ℤ)) (more : List Command) → All (AmountOk restrictedLimits n) es → Oks more → Oks (additionCommands es more)
   adds-ok [] more h o = o
-  adds-ok (e ∷ es) more ((h, k, g), hs) o = ((omega (arith, h, n-few), fit (e .1) g), adds-ok es more hs o)
+  adds-ok (e ∷ es) more ((h, (k, g)), hs) o = ((omega (arith, h, n-few), fit (e .1) g), adds-ok es more hs o)
 
   acts-ok : (acts : List RestrictedAction) (more : List Command) → All (RestrictedActionOk restrictedLimits n sizes) acts → Oks more → Oks (actionsCommands acts more)
   acts-ok [] more h o = o
@@ -187,19 +189,15 @@ goal-back n gp gc h =
     ap (before Goal) (places-back gp _ blank ∙ ap (inside (putPs gp)) (compares-back n gc [] blank h))
     ∙ λ i. goalDraft (append-nil gp i) (append-nil gc i)
 
-all-to : {A : Type 0} (P Q : A → Type 0) → ((a : A) → P a → Q a) → (xs : List A) → All P xs → All Q xs
-all-to P Q f [] h = tt
-all-to P Q f (x ∷ xs) (h, hs) = (f x h, all-to P Q f xs hs)
-
 again : (acts : List RestrictedAction) → each restrictedActionOf (each partOf acts ++ []) ≡ acts
 again [] = refl
 again (a ∷ acts) = ap (λ (z : List RestrictedAction). a ∷ z) (again acts)
 
 module _ (r : RestrictedTask) (F : RestrictedTaskOk r) where
   smalls : All (Smalls (length (r .starts))) (r .actions)
-  smalls = all-to (RestrictedActionOk restrictedLimits (length (r .starts)) (sizesOf (r .modes))) (Smalls (length (r .starts))) (λ a h. (
+  smalls = all-map (RestrictedActionOk restrictedLimits (length (r .starts)) (sizesOf (r .modes))) (Smalls (length (r .starts))) (λ a h. (
     h .conditionsOk .conditionsIn,
-    all-to (λ (e : ℕ × ℤ). (e .0 < length (r .starts)) × (1 ≤ natAbs (e .1)) × Small (e .1)) (λ (e : ℕ × ℤ). Small (e .1)) (λ c q. q .2) (a .additions) (h .additionsIn),
+    all-map (AmountOk restrictedLimits (length (r .starts))) (λ (e : ℕ × ℤ). Small (e .1)) (λ c q. q .1 .1) (a .additions) (h .additionsIn),
   )) (r .actions) (F .actionsOk)
 
   pub draft-back : draftOf (fileCommands r) ≡ putStarts (r .starts) (putModes (r .modes) (putActs (each partOf (r .actions)) (goalDraft (r .goalModes) (r .goalConditions))))

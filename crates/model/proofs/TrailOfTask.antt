@@ -1,57 +1,50 @@
 -- The file of a well-formed restricted task is accepted.
 -- Assumes nothing.
-use mathlib.Core.Path.{_≡_, refl, sym, ap, ap₂, _∙_, subst}
-use Prim.Native.Nat.{ℕ, zero, suc, _+_, _≤_, _<_}
+use mathlib.Core.Path.{_≡_, refl, sym, ap, _∙_, subst}
+use Prim.Native.Nat.{ℕ, _+_, _≤_, _<_}
 use native.Mathlib.Omega.{arith}
 use native.Mathlib.Nat.{add-zero}
-use mathlib.Core.Bool.{Bool, true, false, cond}
+use mathlib.Core.Bool.{true, false}
 use mathlib.Core.List.{List, [], _∷_, _++_, append-assoc, append-nil}
-use lib.ListN.{length, length-append, length-set, getD, set, replicate}
-use lib.Dec.{T, eqb, eqb·zero-suc, eqb·suc-zero, eqb·suc-suc}
+use lib.ListN.{length, length-append, length-set, getD}
+use lib.Dec.{eqb}
 use lib.IntN.{ℤ, natAbs}
 use borrow.Author.Tests.{le-ltb, le-leb, lt-leb, ne-eqb, eq-eqb}
 use Rattle.integers.specs.All.{All}
-use Rattle.model.specs.Tasks.{Measured, variable, weightedSum, NumericCondition, RestrictedAction, RestrictedTask}
 use Rattle.integers.specs.Relation.{Relation, below, atMost, atLeast, above, relationNumber}
-use Rattle.model.specs.Steps.{naturalAt, sizesOf}
-use Rattle.model.specs.InTask.{MeasureIn}
-use Rattle.model.proofs.Arrays.{get-set}
 use Rattle.integers.specs.Numbers.{bitsOf}
 use Rattle.commands.specs.declared.Command.{Command}
 use Rattle.commands.specs.declared.Command.the-variants.{Start, Mode, Action, Condition, ModeCondition, ModeEffect, Add, Goal}
-use Rattle.model.specs.Limits.{Limits, restrictedLimits}
-use Rattle.model.specs.ReadingState.{ReadingState, Taken, begin, rule, goOn, opened, withVariable, withMode, withCondition, withModeCondition, withModeEffect, withAdd}
-use Rattle.model.specs.Rules.{allowed, testsOf, nextOf, onwards, ruleOf, constant, outside, noVariable, noMode, notBelowSize}
 use Rattle.commands.specs.Encoding.{byteOf}
-use Rattle.model.specs.Lowering.{variableOf, startCommands, modeCommands, modeConditionCommands, conditionCommands, modeEffectCommands, additionCommands, actionsCommands, fileCommands}
+use Rattle.model.specs.Tasks.{NumericCondition, RestrictedAction, RestrictedTask, Measured, variable, weightedSum}
+use Rattle.model.specs.Steps.{naturalAt, sizesOf}
+use Rattle.model.specs.Limits.{Limits, restrictedLimits}
+use Rattle.model.specs.ReadingState.{ReadingState, Taken, begin, goOn, opened, withVariable, withMode, withCondition, withModeCondition, withModeEffect, withAdd}
+use Rattle.model.specs.Rules.{allowed, testsOf, nextOf, onwards, ruleOf, constant, outside, noVariable, noMode, notBelowSize}
+use Rattle.model.specs.Lowering.{startCommands, modeCommands, modeConditionCommands, conditionCommands, modeEffectCommands, additionCommands, actionsCommands, fileCommands, variableOf}
 use Rattle.model.specs.Trail.{Trail}
-use Rattle.model.specs.RestrictedOk.{Distinct, keys, ValuesIn, ConditionsOk, RestrictedActionOk, RestrictedTaskOk}
+use Rattle.model.specs.TaskOk.{Distinct, keys, ValuesIn, InRange, AmountOk, ModeOk, ConditionOk, ConditionsOk, RestrictedActionOk, RestrictedTaskOk}
+use Rattle.model.specs.InTask.{MeasureIn}
 use Rattle.model.proofs.CommandBytes.{untwos-twos}
+use Rattle.model.proofs.ReadingLaws.{Off, rule-go, Core, core-mode, Free, free-set, free-zero, zeros, length-keys}
 
 abbrev l : Limits
 l = restrictedLimits
 
--- ---- a rule none of whose tests holds goes on
-abbrev pub Off : List (Bool × ℕ) → Type 0
-Off ts = All (λ (t : Bool × ℕ). t .0 ≡ false) ts
-
-pub rule-go : (p : ReadingState) (ts : List (Bool × ℕ)) (q : Taken) → Off ts → rule p ts q ≡ q
-rule-go p [] q o = refl
-rule-go p (t ∷ ts) q (o, os) = rw o (rule-go p ts q os)
-
+-- ---- a command none of whose tests holds
 pass : (p : ReadingState) (c : Command) (cs : List Command) → onwards c (nextOf p c) ≡ goOn (nextOf p c) → allowed l p (byteOf c) ≡ true → Off (testsOf l p c)
     → Trail l (nextOf p c) cs → Trail l p (c ∷ cs)
 pass p c cs e a o t = let h : ruleOf l p c ≡ goOn (nextOf p c) = rule-go p (testsOf l p c) (onwards c (nextOf p c)) o ∙ e in
     (a, ap (λ (x : Taken). x .progress) h, subst (λ (x : Taken). Trail l (x .state) cs) (sym h) t)
 
-pub const-back : (z : ℤ) → natAbs z ≤ 1_000_000_000 → constant (bitsOf 4 z) ≡ z
+pub const-back : (z : ℤ) → InRange l z → constant (bitsOf 4 z) ≡ z
 const-back z h = untwos-twos 4 z (omega (arith, h))
 
-in-range : (z : ℤ) → natAbs z ≤ 1_000_000_000 → outside l (constant (bitsOf 4 z)) ≡ false
+in-range : (z : ℤ) → InRange l z → outside l (constant (bitsOf 4 z)) ≡ false
 in-range z h = rw (const-back z h) (le-ltb 1_000_000_000 (natAbs z) h)
 
 -- ---- declarations
-starts-run : (zs : List ℤ) (p : ReadingState) → p .section ≡ 0 → p .variables + length zs ≤ 64 → All (λ (z : ℤ). natAbs z ≤ 1_000_000_000) zs → (more : List Command)
+starts-run : (zs : List ℤ) (p : ReadingState) → p .section ≡ 0 → p .variables + length zs ≤ 64 → All (InRange l) zs → (more : List Command)
     → ((q : ReadingState) → q .section ≡ 0 → q .variables ≡ p .variables + length zs → q .modes ≡ p .modes → q .actions ≡ p .actions → q .sizes ≡ p .sizes → Trail l q more)
     → Trail l p (startCommands zs more)
 unfolding testsOf nextOf
@@ -61,28 +54,7 @@ starts-run (z ∷ zs) p s f (h, hs) more k =
     (lt-leb 64 (p .variables) (omega (arith, f)), (in-range z h, tt))
     (starts-run zs (withVariable p) s (omega (arith, f)) hs more (λ q a b c d e. k q a (omega (arith, b)) c d e))
 
--- the sizes that the state has: of the modes declared so far
-pub record Core (n : ℕ) (sizes : List ℕ) (p : ReadingState) : Type 0 where
-  pub variables : p .variables ≡ n
-  pub mods : p .modes ≡ length sizes
-  pub lengths : length (p .sizes) ≡ 8
-  pub sized : (j : ℕ) → naturalAt (p .sizes) j ≡ naturalAt sizes j
-
-get-snoc : (known : List ℕ) (z j : ℕ) → naturalAt (known ++ (z ∷ [])) j ≡ cond (eqb (length known) j) z (naturalAt known j)
-get-snoc [] z zero = refl
-get-snoc [] z (suc j) = rw (eqb·zero-suc j) refl
-get-snoc (x ∷ known) z zero = rw (eqb·suc-zero (length known)) refl
-get-snoc (x ∷ known) z (suc j) = rw (eqb·suc-suc (length known) j) (get-snoc known z j)
-
-pub core-mode : (n : ℕ) (sizes : List ℕ) (p : ReadingState) (z : ℕ) → length sizes < 8 → Core n sizes p → Core n (sizes ++ (z ∷ [])) (withMode p z)
-core-mode n sizes p z h c = record {
-  variables = c .variables;
-  mods = ap (λ (k : ℕ). k + 1) (c .mods) ∙ sym (length-append sizes (z ∷ []));
-  lengths = length-set (p .sizes) (p .modes) z ∙ c .lengths;
-  sized = λ j. get-set (p .sizes) (p .modes) j z 0 (omega (arith, h, c .mods, c .lengths)) ∙ ap₂ (λ (m x : ℕ). cond (eqb m j) z x) (c .mods) (c .sized j) ∙ sym (get-snoc sizes z j);
-}
-
-modes-run : (n : ℕ) (ms : List (ℕ × ℕ)) (sizes : List ℕ) (p : ReadingState) → Core n sizes p → p .section ≡ 0 → length sizes + length ms ≤ 8 → All (λ (m : ℕ × ℕ). (m .1 < m .0) × (m .0 ≤ 8192)) ms
+modes-run : (n : ℕ) (ms : List (ℕ × ℕ)) (sizes : List ℕ) (p : ReadingState) → Core n sizes p → p .section ≡ 0 → length sizes + length ms ≤ 8 → All (ModeOk l) ms
     → (more : List Command) → ((q : ReadingState) → Core n (sizes ++ keys ms) q → q .section ≡ 0 → q .actions ≡ p .actions → Trail l q more)
     → Trail l p (modeCommands ms more)
 unfolding testsOf nextOf
@@ -94,8 +66,8 @@ modes-run n (m ∷ ms) sizes p c s f ((h, g), hs) more k =
     (λ q d a b. k q (subst (λ (z : List ℕ). Core n z q) (append-assoc sizes (m .0 ∷ []) (keys ms)) d) a b))
 
 -- ---- in an action or the goal
-declared : {n v : ℕ} {sizes : List ℕ} {p : ReadingState} → Core n sizes p → v < n → noVariable p v ≡ false
-declared {n} {v} {sizes} {p} c h = lt-leb (p .variables) v (omega (arith, h, c .variables))
+declared : {n v : ℕ} {sizes : List ℕ} (p : ReadingState) → Core n sizes p → v < n → noVariable p v ≡ false
+declared {n} {v} {sizes} p c h = lt-leb (p .variables) v (omega (arith, h, c .variables))
 
 pub var-in : (n : ℕ) (l : Measured ℕ) → MeasureIn (λ (i : ℕ). i < n) l → variableOf l < n
 var-in n (variable i) h = h
@@ -113,7 +85,7 @@ module _ (n : ℕ) (sizes : List ℕ) where
   places-run (e ∷ ps) p c s f (h, hs) more k = let (g₁, g₂) = mode-there p c e h in
       pass p (ModeCondition (e .0) (e .1)) (modeConditionCommands ps more) refl (le-leb 2 (p .section) s)
       (lt-leb 16 (p .modeConditions) (omega (arith, f)), (g₁, (g₂, tt)))
-      (places-run ps (withModeCondition p) (record { variables = c .variables; mods = c .mods; lengths = c .lengths; sized = c .sized }) s (omega (arith, f)) hs more k)
+      (places-run ps (withModeCondition p) c s (omega (arith, f)) hs more k)
 
   rel-few : (r : Relation) → relationNumber r ≤ 3
   rel-few below = omega arith
@@ -121,38 +93,15 @@ module _ (n : ℕ) (sizes : List ℕ) where
   rel-few atLeast = omega arith
   rel-few above = omega arith
 
-  compares-run : (cs : List (NumericCondition ℕ)) (p : ReadingState) → Core n sizes p → 2 ≤ p .section → p .conditions + length cs ≤ 24 → All (λ (c : NumericCondition ℕ). MeasureIn (λ (i : ℕ). i < n) (c .measured) × (natAbs (c .constant) ≤ 1_000_000_000)) cs → (more : List Command)
+  compares-run : (cs : List (NumericCondition ℕ)) (p : ReadingState) → Core n sizes p → 2 ≤ p .section → p .conditions + length cs ≤ 24 → All (ConditionOk l n) cs → (more : List Command)
       → ((q : ReadingState) → Core n sizes q → q .section ≡ p .section → q .actions ≡ p .actions → q .numericEffects ≡ p .numericEffects → q .modesSet ≡ p .modesSet → q .variablesSeen ≡ p .variablesSeen → Trail l q more)
       → Trail l p (conditionCommands cs more)
   unfolding testsOf nextOf
   compares-run [] p c s f h more k = k p c refl refl refl refl refl
   compares-run (x ∷ cs) p c s f ((h, g), hs) more k =
       pass p (Condition (variableOf (x .measured)) (relationNumber (x .relation)) (bitsOf 4 (x .constant))) (conditionCommands cs more) refl (le-leb 2 (p .section) s)
-      (lt-leb 24 (p .conditions) (omega (arith, f)), (declared c (var-in n (x .measured) h), (le-ltb 3 (relationNumber (x .relation)) (rel-few (x .relation)), (in-range (x .constant) g, tt))))
-      (compares-run cs (withCondition p) (record { variables = c .variables; mods = c .mods; lengths = c .lengths; sized = c .sized }) s (omega (arith, f)) hs more k)
-
-  -- ---- marks: a number that is not among those marked stays unmarked
-  abbrev Free : List ℕ → List ℕ → Type 0
-  Free marks ks = All (λ (j : ℕ). getD marks j 0 ≡ 0) ks
-
-  free-set : (marks : List ℕ) (k : ℕ) → k < length marks → (ks : List ℕ) → All (λ (j : ℕ). eqb j k ≡ false) ks → Free marks ks → Free (set marks k 1) ks
-  free-set marks k h [] a f = tt
-  free-set marks k h (j ∷ ks) (a, as₁) (f, fs) = (get-set marks k j 1 0 h ∙ ap (λ (b : Bool). cond b 1 (getD marks j 0)) (flip k j a) ∙ f, free-set marks k h ks as₁ fs)
-    where
-      flip : (k j : ℕ) → eqb j k ≡ false → eqb k j ≡ false
-      flip k j e = ne-eqb k j (λ (h : k ≡ j). clash (sym (eq-eqb j k (sym h)) ∙ e))
-        where
-          clash : true ≡ false → ⊥
-          clash e = subst T e tt
-
-  free-zero : (m : ℕ) (ks : List ℕ) → Free (replicate m 0) ks
-  free-zero m [] = tt
-  free-zero m (k ∷ ks) = (zeros m k, free-zero m ks)
-    where
-      zeros : (m k : ℕ) → naturalAt (replicate m 0) k ≡ 0
-      zeros zero k = refl
-      zeros (suc m) zero = refl
-      zeros (suc m) (suc k) = zeros m k
+      (lt-leb 24 (p .conditions) (omega (arith, f)), (declared p c (var-in n (x .measured) h), (le-ltb 3 (relationNumber (x .relation)) (rel-few (x .relation)), (in-range (x .constant) g, tt))))
+      (compares-run cs (withCondition p) c s (omega (arith, f)) hs more k)
 
   effects-run : (es : List (ℕ × ℕ)) (p : ReadingState) → Core n sizes p → p .section ≡ 2 → length sizes ≤ 8 → length (p .modesSet) ≡ 8 → ValuesIn sizes es → Distinct (keys es) → Free (p .modesSet) (keys es) → (more : List Command)
       → ((q : ReadingState) → Core n sizes q → q .section ≡ 2 → q .actions ≡ p .actions → q .numericEffects ≡ p .numericEffects → q .variablesSeen ≡ p .variablesSeen → Trail l q more)
@@ -162,19 +111,19 @@ module _ (n : ℕ) (sizes : List ℕ) where
   effects-run (e ∷ es) p c s z m (h, hs) (a, as₁) (f, fs) more k = let (g₁, g₂) = mode-there p c e h in
       pass p (ModeEffect (e .0) (e .1)) (modeEffectCommands es more) refl (eq-eqb (p .section) 2 s)
       (g₁, (g₂, (lt-leb 1 (getD (p .modesSet) (e .0) 0) (omega (arith, f)), tt)))
-      (effects-run es (withModeEffect p (e .0)) (record { variables = c .variables; mods = c .mods; lengths = c .lengths; sized = c .sized }) s z (length-set (p .modesSet) (e .0) 1 ∙ m) hs as₁
+      (effects-run es (withModeEffect p (e .0)) c s z (length-set (p .modesSet) (e .0) 1 ∙ m) hs as₁
       (free-set (p .modesSet) (e .0) (omega (arith, h .0, z, m)) (keys es) a fs) more k)
 
   adds-run : (es : List (ℕ × ℤ)) (p : ReadingState) → Core n sizes p → p .section ≡ 2 → n ≤ 64 → length (p .variablesSeen) ≡ 64 → p .numericEffects + length es ≤ 16
-      → All (λ (e : ℕ × ℤ). (e .0 < n) × (1 ≤ natAbs (e .1)) × (natAbs (e .1) ≤ 1_000_000_000)) es → Distinct (keys es) → Free (p .variablesSeen) (keys es) → (more : List Command)
+      → All (AmountOk l n) es → Distinct (keys es) → Free (p .variablesSeen) (keys es) → (more : List Command)
       → ((q : ReadingState) → Core n sizes q → q .section ≡ 2 → q .actions ≡ p .actions → Trail l q more)
       → Trail l p (additionCommands es more)
   unfolding testsOf nextOf
   adds-run [] p c s z m w h a f more k = k p c s refl
-  adds-run (e ∷ es) p c s z m w ((h₁, h₂, h₃), hs) (a, as₁) (f, fs) more k =
+  adds-run (e ∷ es) p c s z m w ((h₁, (h₂, h₃)), hs) (a, as₁) (f, fs) more k =
       pass p (Add (e .0) (bitsOf 4 (e .1))) (additionCommands es more) refl (eq-eqb (p .section) 2 s)
-      (lt-leb 16 (p .numericEffects) (omega (arith, w)), (declared c h₁, (not-zero, (in-range (e .1) h₃, (lt-leb 1 (getD (p .variablesSeen) (e .0) 0) (omega (arith, f)), tt)))))
-      (adds-run es (withAdd p (e .0)) (record { variables = c .variables; mods = c .mods; lengths = c .lengths; sized = c .sized }) s z (length-set (p .variablesSeen) (e .0) 1 ∙ m) (omega (arith, w)) hs as₁
+      (lt-leb 16 (p .numericEffects) (omega (arith, w)), (declared p c h₁, (not-zero, (in-range (e .1) h₃, (lt-leb 1 (getD (p .variablesSeen) (e .0) 0) (omega (arith, f)), tt)))))
+      (adds-run es (withAdd p (e .0)) c s z (length-set (p .variablesSeen) (e .0) 1 ∙ m) (omega (arith, w)) hs as₁
       (free-set (p .variablesSeen) (e .0) (omega (arith, h₁, z, m)) (keys es) a fs) more k)
     where
       not-zero : eqb (natAbs (constant (bitsOf 4 (e .1)))) 0 ≡ false
@@ -189,7 +138,7 @@ module _ (n : ℕ) (sizes : List ℕ) where
   acts-run (a ∷ acts) p c s z₁ z₂ w (h, hs) more k =
       pass p Action (modeConditionCommands (a .modeConditions) (conditionCommands (a .conditions) (modeEffectCommands (a .modeEffects) (additionCommands (a .additions) (actionsCommands acts more))))) refl (le-leb (p .section) 2 s)
       (lt-leb 16_384 (p .actions) (omega (arith, w)), tt)
-      (places-run (a .modeConditions) (opened p 2 (p .actions + 1)) (record { variables = c .variables; mods = c .mods; lengths = c .lengths; sized = c .sized }) (omega arith) (omega (arith, h .conditionsOk .modeConditionsFew)) (h .conditionsOk .modeConditionsIn) _
+      (places-run (a .modeConditions) (opened p 2 (p .actions + 1)) c (omega arith) (omega (arith, h .conditionsOk .modeConditionsFew)) (h .conditionsOk .modeConditionsIn) _
       (λ q₁ c₁ s₁ n₁ k₁ f₁ m₁ e₁. compares-run (a .conditions) q₁ c₁ (omega (arith, s₁)) (omega (arith, k₁, h .conditionsOk .conditionsFew)) (h .conditionsOk .conditionsIn) _
       (λ q₂ c₂ s₂ n₂ f₂ m₂ e₂. effects-run (a .modeEffects) q₂ c₂ (s₂ ∙ s₁) z₂ (ap length (m₂ ∙ m₁)) (h .modeEffectsIn) (h .modeEffectsOnce) (subst (λ (x : List ℕ). Free x (keys (a .modeEffects))) (sym (m₂ ∙ m₁)) (free-zero 8 (keys (a .modeEffects)))) _
       (λ q₃ c₃ s₃ n₃ f₃ e₃. adds-run (a .additions) q₃ c₃ s₃ z₁ (ap length (e₃ ∙ e₂ ∙ e₁)) (omega (arith, f₃, f₂, f₁, h .additionsFew)) (h .additionsIn) (h .additionsOnce)
@@ -200,13 +149,9 @@ module _ (n : ℕ) (sizes : List ℕ) where
   unfolding testsOf nextOf
   goal-run gp gc p c s h =
       pass p Goal (modeConditionCommands gp (conditionCommands gc [])) refl (le-leb (p .section) 2 s) tt
-      (places-run gp (opened p 3 (p .actions)) (record { variables = c .variables; mods = c .mods; lengths = c .lengths; sized = c .sized }) (omega arith) (omega (arith, h .modeConditionsFew)) (h .modeConditionsIn) _
+      (places-run gp (opened p 3 (p .actions)) c (omega arith) (omega (arith, h .modeConditionsFew)) (h .modeConditionsIn) _
       (λ q₁ c₁ s₁ n₁ k₁ f₁ m₁ e₁. compares-run gc q₁ c₁ (omega (arith, s₁)) (omega (arith, k₁, h .conditionsFew)) (h .conditionsIn) []
       (λ q₂ c₂ s₂ n₂ f₂ m₂ e₂. s₂ ∙ s₁)))
-
-pub length-keys : {A : Type 0} (es : List (ℕ × A)) → length (keys es) ≡ length es
-length-keys [] = refl
-length-keys (e ∷ es) = ap suc (length-keys es)
 
 -- the commands of a well-formed task may follow one another
 pub trail : (r : RestrictedTask) → RestrictedTaskOk r → Trail l begin (fileCommands r)
@@ -217,8 +162,3 @@ trail r F =
     (λ q₂ c₂ s₂ a₂. acts-run (length (r .starts)) (sizesOf (r .modes)) (r .actions) q₂ c₂ (omega (arith, s₂)) (F .startsFew) (omega (arith, F .modesFew, length-keys (r .modes)))
     (omega (arith, a₂, a₁, F .actionsFew)) (F .actionsOk) _
     (λ q₃ c₃ s₃. goal-run (length (r .starts)) (sizesOf (r .modes)) (r .goalModes) (r .goalConditions) q₃ c₃ s₃ (F .goal))))
-  where
-    zeros : (m j : ℕ) → naturalAt (replicate m 0) j ≡ 0
-    zeros zero j = refl
-    zeros (suc m) zero = refl
-    zeros (suc m) (suc j) = zeros m j

@@ -11,12 +11,11 @@ pub mod NamedSystems
 pub mod Plans
 pub mod Reading
 pub mod ReadingState
-pub mod RestrictedOk
 pub mod Rules
-pub mod SourceOk
 pub mod Stages
 pub mod Steps
 pub mod Systems
+pub mod TaskOk
 pub mod Tasks
 pub mod Trail
 pub mod Walks

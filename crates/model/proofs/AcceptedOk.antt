@@ -1,0 +1,348 @@
+-- An accepted file's task keeps to every rule of its kind: one law over the limits, by induction over the file's commands, and what it gives for each kind.
+-- Assumes nothing.
+use mathlib.Core.Path.{_≡_, refl, sym, ap, _∙_, subst}
+use Prim.Native.Nat.{ℕ, _+_, _≤_, _<_}
+use native.Mathlib.Omega.{arith}
+use mathlib.Core.Bool.{Bool, true, false, cond, not}
+use mathlib.Core.List.{List, [], _∷_, _++_, append-assoc, append-nil}
+use lib.ListN.{length, length-append}
+use lib.Dec.{T, eqb, eqb→eq, leb→le}
+use lib.Signed.{leZ}
+use lib.IntN.{ℤ, natAbs}
+use Rattle.integers.specs.All.{All}
+use Rattle.commands.specs.declared.Command.{Command}
+use Rattle.commands.specs.declared.Command.the-variants.{Variable, Start, Mode, Action, Condition, ModeCondition, ModeEffect, Add, Linear, Term, Quotient, Residue, Goal, End, Refused}
+use Rattle.lists.specs.Answer.{given}
+use Rattle.model.specs.Limits.{Limits, sourceLimits, restrictedLimits}
+use Rattle.model.specs.ReadingState.{ReadingState, Taken, Going, begin, goOn, opened, withVariable, withMode}
+use Rattle.model.specs.Rules.{testsOf, nextOf, onwards, ruleOf, constant}
+use Rattle.model.specs.Reading.{Verdict, Accepted, Rejected, verdictOf, commandsOf}
+use Rattle.model.specs.Trail.{Trail}
+use Rattle.model.specs.Decoding.{Part, Draft, blank, before, beforeAll, draftOf, sourceActionOf, restrictedActionOf, each, sourceTaskOf, restrictedTaskOf, onVerdict, readSource, readRestricted}
+use Rattle.model.specs.Tasks.{SourceVariable, SourceTask, RestrictedTask}
+use Rattle.model.specs.TaskOk.{keys, InRange, ModeOk, ConditionsOk, SourceVariableOk, SourceActionOk, SourceTaskOk, RestrictedActionOk, RestrictedTaskOk}
+use Rattle.model.specs.Steps.{sizesOf}
+use Rattle.model.proofs.ReadingLaws.{clash, holds, over, up-to, Off, Goes, rule-none, Core, core-mode, zeros, length-each, length-keys}
+use Rattle.model.proofs.CommandsOk.{PartOk, PartFrom, Counted, opened-counted, nothing-follows, conditions-whole, part-whole, condition-carries, mode-condition-carries, mode-effect-carries, add-carries, linear-carries, term-carries, quotient-carries, residue-carries}
+use Rattle.model.proofs.AcceptedTrail.{Is, trail-of}
+
+-- what the commands of an accepted file make, in a task with n variables and modes of the sizes: V declares variables in a source file, U in a restricted one
+pub record DraftOk (l : Limits) (n : ℕ) (sizes : List ℕ) (d : Draft) : Type 0 where
+  pub variablesFew : n ≤ l .variables
+  pub variablesIn : All (SourceVariableOk l) (d .variables)
+  pub startsIn : All (InRange l) (d .starts)
+  pub noVariables : l .restricted ≡ true → d .variables ≡ []
+  pub noStarts : l .restricted ≡ false → d .starts ≡ []
+  pub modesFew : length sizes ≤ l .modes
+  pub modesIn : All (ModeOk l) (d .modes)
+  pub actionsFew : length (d .actions) ≤ l .actions
+  pub actionsOk : All (PartOk l n sizes) (d .actions)
+  pub goal : ConditionsOk l n sizes (d .goal .modeConditions) (d .goal .conditions)
+
+abbrev pub variableCount : Draft → ℕ
+variableCount d = length (d .variables) + length (d .starts)
+
+-- ---- bytes that stand in files of one kind
+source-only : (r b : Bool) → cond r false b ≡ true → (r ≡ false) × (b ≡ true)
+source-only true b e = absurd (clash (sym e))
+source-only false b e = (refl, e)
+
+restricted-only : (r b : Bool) → cond r b false ≡ true → (r ≡ true) × (b ≡ true)
+restricted-only true b e = (refl, e)
+restricted-only false b e = absurd (clash (sym e))
+
+is-equal : (a b : ℕ) → eqb a b ≡ true → a ≡ b
+is-equal a b e = eqb→eq a b (holds e)
+
+not-not : (a : Bool) → not a ≡ false → T a
+not-not true e = tt
+not-not false e = absurd (clash e)
+
+-- from the first A or G on, `count` actions before: nothing is declared, and what is made is within the limits
+record OthersOk (l : Limits) (n : ℕ) (sizes : List ℕ) (count : ℕ) (vs : List SourceVariable) (zs : List ℤ) (ms : List (ℕ × ℕ)) (acts : List Part) (goal : Part) : Type 0 where
+  noVariables : vs ≡ []
+  noStarts : zs ≡ []
+  noModes : ms ≡ []
+  actionsFew : count + length acts ≤ l .actions
+  actionsOk : All (PartOk l n sizes) acts
+  goalOk : ConditionsOk l n sizes (goal .modeConditions) (goal .conditions)
+
+abbrev RestOk : Limits → ℕ → List ℕ → ReadingState → Draft → Type 0
+RestOk l n sizes p d = OthersOk l n sizes (p .actions) (d .variables) (d .starts) (d .modes) (d .actions) (d .goal) × PartFrom l n sizes p (d .current)
+
+module _ (l : Limits) (variables-64 : l .variables ≤ 64) (modes-8 : l .modes ≤ 8) where
+  -- a command that goes on: its tests, and the state after it
+  onward : (p : ReadingState) (c : Command) (cs : List Command) → onwards c (nextOf p c) ≡ goOn (nextOf p c) → ruleOf l p c .progress ≡ Going → Trail l (ruleOf l p c .state) cs → Off (testsOf l p c) × Trail l (nextOf p c) cs
+  onward p c cs n g t = let (o, e) = rule-none p (testsOf l p c) (onwards c (nextOf p c)) g in (o, subst (λ (x : Taken). Trail l (x .state) cs) (e ∙ n) t)
+
+  -- ---- from the first A or G on
+  module _ (n : ℕ) (sizes : List ℕ) (n-few : n ≤ 64) (m-few : length sizes ≤ 8) where
+    rest-ok : (cs : List Command) (p : ReadingState) → Counted l n sizes p → 2 ≤ p .section → Trail l p cs → RestOk l n sizes p (beforeAll cs blank)
+    unfolding testsOf nextOf
+    rest-ok [] p i s t = (
+      record { noVariables = refl; noStarts = refl; noModes = refl; actionsFew = omega (arith, i .actions); actionsOk = tt; goalOk = record { modeConditionsFew = omega arith; modeConditionsIn = tt; conditionsFew = omega arith; conditionsIn = tt } },
+      nothing-follows l n sizes p i,
+    )
+    rest-ok (Variable a b c ∷ cs) p i s (w, g, t) = absurd (omega (arith, s, is-equal (p .section) 0 (source-only (l .restricted) (eqb (p .section) 0) w .1)))
+    rest-ok (Start a ∷ cs) p i s (w, g, t) = absurd (omega (arith, s, is-equal (p .section) 0 (restricted-only (l .restricted) (eqb (p .section) 0) w .1)))
+    rest-ok (Mode z x ∷ cs) p i s (w, g, t) = absurd (omega (arith, s, is-equal (p .section) 0 w))
+    rest-ok (Action ∷ cs) p i s (w, g, t) =
+        let (o, t′) = onward p Action cs refl g t in
+        let h : p .actions < l .actions = over (l .actions) (p .actions) (o .0) in
+        let (r, c) = rest-ok cs (opened p 2 (p .actions + 1)) (opened-counted l n sizes p 2 (p .actions + 1) (i .core) (omega (arith, h))) (omega arith) t′ in (
+          record { noVariables = r .noVariables; noStarts = r .noStarts; noModes = r .noModes; actionsFew = omega (arith, r .actionsFew); actionsOk = (part-whole l n sizes p 2 (p .actions + 1) (beforeAll cs blank .current) c, r .actionsOk); goalOk = r .goalOk },
+          nothing-follows l n sizes p i,
+        )
+    rest-ok (Condition v r k ∷ cs) p i s (w, g, t) =
+        let (o, t′) = onward p (Condition v r k) cs refl g t in
+        let (j, f) = condition-carries l n sizes p v r k i o in
+        let (others, c) = rest-ok cs (nextOf p (Condition v r k)) j s t′ in (others, f (beforeAll cs blank .current) c)
+    rest-ok (ModeCondition m x ∷ cs) p i s (w, g, t) =
+        let (o, t′) = onward p (ModeCondition m x) cs refl g t in
+        let (j, f) = mode-condition-carries l n sizes p m x i o in
+        let (others, c) = rest-ok cs (nextOf p (ModeCondition m x)) j s t′ in (others, f (beforeAll cs blank .current) c)
+    rest-ok (ModeEffect m x ∷ cs) p i s (w, g, t) =
+        let (o, t′) = onward p (ModeEffect m x) cs refl g t in
+        let (j, f) = mode-effect-carries l n sizes m-few p m x i o in
+        let (others, c) = rest-ok cs (nextOf p (ModeEffect m x)) j s t′ in (others, f (beforeAll cs blank .current) c)
+    rest-ok (Add v k ∷ cs) p i s (w, g, t) =
+        let (o, t′) = onward p (Add v k) cs refl g t in
+        let (j, f) = add-carries l n sizes n-few p v k i o in
+        let (others, c) = rest-ok cs (nextOf p (Add v k)) j s t′ in (others, f (beforeAll cs blank .current) c)
+    rest-ok (Linear v k ∷ cs) p i s (w, g, t) =
+        let (o, t′) = onward p (Linear v k) cs refl g t in
+        let (j, f) = linear-carries l n sizes p v k i (source-only (l .restricted) (eqb (p .section) 2) w .0) o in
+        let (others, c) = rest-ok cs (nextOf p (Linear v k)) j s t′ in (others, f (beforeAll cs blank .current) c)
+    rest-ok (Term v k ∷ cs) p i s (w, g, t) =
+        let (o, t′) = onward p (Term v k) cs refl g t in
+        let (j, f) = term-carries l n sizes n-few p v k i (leb→le 1 (p .terms) (holds w)) o in
+        let (others, c) = rest-ok cs (nextOf p (Term v k)) j s t′ in (others, f (beforeAll cs blank .current) c)
+    rest-ok (Quotient v y k ∷ cs) p i s (w, g, t) =
+        let (o, t′) = onward p (Quotient v y k) cs refl g t in
+        let (j, f) = quotient-carries l n sizes p v y k i (source-only (l .restricted) (eqb (p .section) 2) w .0) o in
+        let (others, c) = rest-ok cs (nextOf p (Quotient v y k)) j s t′ in (others, f (beforeAll cs blank .current) c)
+    rest-ok (Residue v y k ∷ cs) p i s (w, g, t) =
+        let (o, t′) = onward p (Residue v y k) cs refl g t in
+        let (j, f) = residue-carries l n sizes p v y k i (source-only (l .restricted) (eqb (p .section) 2) w .0) o in
+        let (others, c) = rest-ok cs (nextOf p (Residue v y k)) j s t′ in (others, f (beforeAll cs blank .current) c)
+    rest-ok (Goal ∷ cs) p i s (w, g, t) =
+        let (r, c) = rest-ok cs (opened p 3 (p .actions)) (opened-counted l n sizes p 3 (p .actions) (i .core) (i .actions)) (omega arith) t in (
+          record { noVariables = r .noVariables; noStarts = r .noStarts; noModes = r .noModes; actionsFew = r .actionsFew; actionsOk = r .actionsOk; goalOk = conditions-whole l n sizes p 3 (p .actions) (beforeAll cs blank .current) c },
+          nothing-follows l n sizes p i,
+        )
+    rest-ok (End ∷ cs) p i s (w, g, t) = absurd (subst Goes (sym g) tt)
+    rest-ok (Refused number ∷ cs) p i s (w, g, t) = absurd (clash (sym w))
+
+  -- ---- declarations
+  -- what holds of every state up to the first A or G, with modes of the sizes known
+  record Declaring (known : List ℕ) (p : ReadingState) : Type 0 where
+    core : Core (p .variables) known p
+    section : p .section ≡ 0
+    terms : p .terms ≡ 0
+    actions : p .actions ≡ 0
+    variablesFew : p .variables ≤ l .variables
+    modesFew : length known ≤ l .modes
+
+  -- the task's variables and modes are those known and those that follow
+  record FromHere (count : ℕ) (known : List ℕ) (d : Draft) : Type 0 where
+    n : ℕ
+    sizes : List ℕ
+    variables : n ≡ count + variableCount d
+    modes : sizes ≡ known ++ keys (d .modes)
+    draft : DraftOk l n sizes d
+
+  -- an A or G ends the declarations
+  none-follow : (p : ReadingState) (known : List ℕ) (d : Draft) → Declaring known p → d .variables ≡ [] → d .starts ≡ [] → d .modes ≡ [] → length (d .actions) ≤ l .actions → All (PartOk l (p .variables) known) (d .actions)
+      → ConditionsOk l (p .variables) known (d .goal .modeConditions) (d .goal .conditions) → FromHere (p .variables) known d
+  none-follow p known d i v z m few acts goal = record {
+    n = p .variables;
+    sizes = known;
+    variables = omega (arith, ap length v, ap length z);
+    modes = sym (append-nil known) ∙ ap (λ (ms : List (ℕ × ℕ)). known ++ keys ms) (sym m);
+    draft = record {
+      variablesFew = i .variablesFew;
+      variablesIn = subst (All (SourceVariableOk l)) (sym v) tt;
+      startsIn = subst (All (InRange l)) (sym z) tt;
+      noVariables = λ r. v;
+      noStarts = λ r. z;
+      modesFew = i .modesFew;
+      modesIn = subst (All (ModeOk l)) (sym m) tt;
+      actionsFew = few;
+      actionsOk = acts;
+      goal = goal;
+    };
+  }
+
+  declaring : {known : List ℕ} {p : ReadingState} → Declaring known p → p .variables < l .variables → Declaring known (withVariable p)
+  declaring {known} {p} i h = record {
+    core = record { variables = refl; mods = i .core .mods; lengths = i .core .lengths; sized = i .core .sized };
+    section = i .section;
+    terms = refl;
+    actions = i .actions;
+    variablesFew = omega (arith, h);
+    modesFew = i .modesFew;
+  }
+
+  from-here : (cs : List Command) (p : ReadingState) (known : List ℕ) → Declaring known p → Trail l p cs → FromHere (p .variables) known (beforeAll cs blank)
+  unfolding testsOf nextOf
+  from-here [] p known i t = absurd (omega (arith, i .section, t))
+  from-here (Variable a b c ∷ cs) p known i (w, g, t) =
+      let (o, t′) = onward p (Variable a b c) cs refl g t in
+      let F : FromHere (p .variables + 1) known (beforeAll cs blank) = from-here cs (withVariable p) known (declaring i (over (l .variables) (p .variables) (o .0))) t′ in
+      let D : DraftOk l (F .n) (F .sizes) (beforeAll cs blank) = F .draft in
+      let s : l .restricted ≡ false = source-only (l .restricted) (eqb (p .section) 0) w .0 in
+      record {
+        n = F .n;
+        sizes = F .sizes;
+        variables = omega (arith, F .variables);
+        modes = F .modes;
+        draft = record {
+          variablesFew = D .variablesFew;
+          variablesIn = ((up-to (l .constant) (natAbs (constant a)) (o .1 .0), up-to (l .constant) (natAbs (constant b)) (o .1 .1 .0), not-not (leZ (constant a) (constant c)) (o .1 .1 .1 .1 .0), not-not (leZ (constant c) (constant b)) (o .1 .1 .1 .1 .1 .0)), D .variablesIn);
+          startsIn = D .startsIn;
+          noVariables = λ r. absurd (clash (sym r ∙ s));
+          noStarts = D .noStarts;
+          modesFew = D .modesFew;
+          modesIn = D .modesIn;
+          actionsFew = D .actionsFew;
+          actionsOk = D .actionsOk;
+          goal = D .goal;
+        };
+      }
+  from-here (Start a ∷ cs) p known i (w, g, t) =
+      let (o, t′) = onward p (Start a) cs refl g t in
+      let F : FromHere (p .variables + 1) known (beforeAll cs blank) = from-here cs (withVariable p) known (declaring i (over (l .variables) (p .variables) (o .0))) t′ in
+      let D : DraftOk l (F .n) (F .sizes) (beforeAll cs blank) = F .draft in
+      let s : l .restricted ≡ true = restricted-only (l .restricted) (eqb (p .section) 0) w .0 in
+      record {
+        n = F .n;
+        sizes = F .sizes;
+        variables = omega (arith, F .variables);
+        modes = F .modes;
+        draft = record {
+          variablesFew = D .variablesFew;
+          variablesIn = D .variablesIn;
+          startsIn = (up-to (l .constant) (natAbs (constant a)) (o .1 .0), D .startsIn);
+          noVariables = D .noVariables;
+          noStarts = λ r. absurd (clash (sym s ∙ r));
+          modesFew = D .modesFew;
+          modesIn = D .modesIn;
+          actionsFew = D .actionsFew;
+          actionsOk = D .actionsOk;
+          goal = D .goal;
+        };
+      }
+  from-here (Mode z x ∷ cs) p known i (w, g, t) =
+      let (o, t′) = onward p (Mode z x) cs refl g t in
+      let h : length known < l .modes = omega (arith, over (l .modes) (p .modes) (o .0), i .core .mods) in
+      let F : FromHere (p .variables) (known ++ (z ∷ [])) (beforeAll cs blank) = from-here cs (withMode p z) (known ++ (z ∷ [])) (record {
+        core = core-mode (p .variables) known p z (omega (arith, h, modes-8)) (i .core);
+        section = i .section;
+        terms = refl;
+        actions = i .actions;
+        variablesFew = i .variablesFew;
+        modesFew = omega (arith, h, length-append known (z ∷ []));
+      }) t′ in
+      let D : DraftOk l (F .n) (F .sizes) (beforeAll cs blank) = F .draft in
+      record {
+        n = F .n;
+        sizes = F .sizes;
+        variables = F .variables;
+        modes = F .modes ∙ append-assoc known (z ∷ []) (keys (beforeAll cs blank .modes));
+        draft = record {
+          variablesFew = D .variablesFew;
+          variablesIn = D .variablesIn;
+          startsIn = D .startsIn;
+          noVariables = D .noVariables;
+          noStarts = D .noStarts;
+          modesFew = D .modesFew;
+          modesIn = ((over z x (o .1 .0), up-to (l .size) z (o .1 .1 .0)), D .modesIn);
+          actionsFew = D .actionsFew;
+          actionsOk = D .actionsOk;
+          goal = D .goal;
+        };
+      }
+  from-here (Action ∷ cs) p known i (w, g, t) =
+      let (o, t′) = onward p Action cs refl g t in
+      let h : p .actions < l .actions = over (l .actions) (p .actions) (o .0) in
+      let (r, c) = rest-ok (p .variables) known (omega (arith, i .variablesFew, variables-64)) (omega (arith, i .modesFew, modes-8)) cs (opened p 2 (p .actions + 1)) (opened-counted l (p .variables) known p 2 (p .actions + 1) (i .core) (omega (arith, h))) (omega arith) t′ in
+      none-follow p known (before Action (beforeAll cs blank)) i (r .noVariables) (r .noStarts) (r .noModes) (omega (arith, r .actionsFew)) (part-whole l (p .variables) known p 2 (p .actions + 1) (beforeAll cs blank .current) c, r .actionsOk) (r .goalOk)
+  from-here (Goal ∷ cs) p known i (w, g, t) =
+      let (r, c) = rest-ok (p .variables) known (omega (arith, i .variablesFew, variables-64)) (omega (arith, i .modesFew, modes-8)) cs (opened p 3 (p .actions)) (opened-counted l (p .variables) known p 3 (p .actions) (i .core) (omega (arith, i .actions))) (omega arith) t in
+      none-follow p known (before Goal (beforeAll cs blank)) i (r .noVariables) (r .noStarts) (r .noModes) (omega (arith, r .actionsFew)) (r .actionsOk) (conditions-whole l (p .variables) known p 3 (p .actions) (beforeAll cs blank .current) c)
+  from-here (Condition v r k ∷ cs) p known i (w, g, t) = absurd (omega (arith, i .section, leb→le 2 (p .section) (holds w)))
+  from-here (ModeCondition m x ∷ cs) p known i (w, g, t) = absurd (omega (arith, i .section, leb→le 2 (p .section) (holds w)))
+  from-here (ModeEffect m x ∷ cs) p known i (w, g, t) = absurd (omega (arith, i .section, is-equal (p .section) 2 w))
+  from-here (Add v k ∷ cs) p known i (w, g, t) = absurd (omega (arith, i .section, is-equal (p .section) 2 w))
+  from-here (Linear v k ∷ cs) p known i (w, g, t) = absurd (omega (arith, i .section, is-equal (p .section) 2 (source-only (l .restricted) (eqb (p .section) 2) w .1)))
+  from-here (Term v k ∷ cs) p known i (w, g, t) = absurd (omega (arith, i .terms, leb→le 1 (p .terms) (holds w)))
+  from-here (Quotient v y k ∷ cs) p known i (w, g, t) = absurd (omega (arith, i .section, is-equal (p .section) 2 (source-only (l .restricted) (eqb (p .section) 2) w .1)))
+  from-here (Residue v y k ∷ cs) p known i (w, g, t) = absurd (omega (arith, i .section, is-equal (p .section) 2 (source-only (l .restricted) (eqb (p .section) 2) w .1)))
+  from-here (End ∷ cs) p known i (w, g, t) = absurd (subst Goes (sym g) tt)
+  from-here (Refused number ∷ cs) p known i (w, g, t) = absurd (clash (sym w))
+
+  -- THE LAW: what the commands of an accepted file make is within the limits, by as many variables and by the modes that it declares
+  pub draft-ok : (cs : List Command) → Trail l begin cs → DraftOk l (variableCount (draftOf cs)) (sizesOf (draftOf cs .modes)) (draftOf cs)
+  draft-ok cs t = subst (λ (sizes : List ℕ). DraftOk l (variableCount (draftOf cs)) sizes (draftOf cs)) (F .modes) (subst (λ (n : ℕ). DraftOk l n (F .sizes) (draftOf cs)) (omega (arith, F .variables)) (F .draft))
+    where
+      F : FromHere 0 [] (draftOf cs)
+      F = from-here cs begin [] (record { core = record { variables = refl; mods = refl; lengths = refl; sized = λ j. zeros 8 j }; section = refl; terms = refl; actions = refl; variablesFew = omega arith; modesFew = omega arith }) t
+
+-- ---- of either kind
+all-each : {A B : Type 0} (P : A → Type 0) (Q : B → Type 0) (f : A → B) → ((a : A) → P a → Q (f a)) → (xs : List A) → All P xs → All Q (each f xs)
+all-each P Q f g [] h = tt
+all-each P Q f g (x ∷ xs) (h, hs) = (g x h, all-each P Q f g xs hs)
+
+-- the commands of an accepted source file give a task that keeps to the rules on source files
+pub source-ok : (cs : List Command) → Trail sourceLimits begin cs → SourceTaskOk (sourceTaskOf (draftOf cs))
+source-ok cs t = record {
+  variablesFew = D .variablesFew;
+  variablesIn = D .variablesIn;
+  modesFew = omega (arith, D .modesFew, length-keys (d .modes));
+  modesIn = D .modesIn;
+  actionsFew = omega (arith, D .actionsFew, length-each sourceActionOf (d .actions));
+  actionsOk = all-each (PartOk sourceLimits (length (d .variables)) (sizesOf (d .modes))) (SourceActionOk sourceLimits (length (d .variables)) (sizesOf (d .modes))) sourceActionOf
+      (λ a h. record { conditionsOk = h .conditionsOk; modeEffectsIn = h .modeEffectsIn; modeEffectsOnce = h .modeEffectsOnce; effectOk = h .effectOk }) (d .actions) (D .actionsOk);
+  goal = D .goal;
+}
+  where
+    d : Draft
+    d = draftOf cs
+
+    D : DraftOk sourceLimits (length (draftOf cs .variables)) (sizesOf (draftOf cs .modes)) (draftOf cs)
+    D = let E : DraftOk sourceLimits (variableCount (draftOf cs)) (sizesOf (draftOf cs .modes)) (draftOf cs) = draft-ok sourceLimits (omega arith) (omega arith) cs t in
+        subst (λ (n : ℕ). DraftOk sourceLimits n (sizesOf (draftOf cs .modes)) (draftOf cs)) (omega (arith, ap length (E .noStarts refl))) E
+
+-- the commands of an accepted restricted file give a task that keeps to the rules on restricted files
+pub restricted-ok : (cs : List Command) → Trail restrictedLimits begin cs → RestrictedTaskOk (restrictedTaskOf (draftOf cs))
+restricted-ok cs t = record {
+  startsFew = D .variablesFew;
+  startsIn = D .startsIn;
+  modesFew = omega (arith, D .modesFew, length-keys (d .modes));
+  modesIn = D .modesIn;
+  actionsFew = omega (arith, D .actionsFew, length-each restrictedActionOf (d .actions));
+  actionsOk = all-each (PartOk restrictedLimits (length (d .starts)) (sizesOf (d .modes))) (RestrictedActionOk restrictedLimits (length (d .starts)) (sizesOf (d .modes))) restrictedActionOf
+      (λ a h. record { conditionsOk = h .conditionsOk; modeEffectsIn = h .modeEffectsIn; modeEffectsOnce = h .modeEffectsOnce; additionsFew = h .additionsFew refl; additionsIn = h .additionsIn; additionsOnce = h .additionsOnce refl }) (d .actions) (D .actionsOk);
+  goal = D .goal;
+}
+  where
+    d : Draft
+    d = draftOf cs
+
+    D : DraftOk restrictedLimits (length (draftOf cs .starts)) (sizesOf (draftOf cs .modes)) (draftOf cs)
+    D = let E : DraftOk restrictedLimits (variableCount (draftOf cs)) (sizesOf (draftOf cs .modes)) (draftOf cs) = draft-ok restrictedLimits (omega arith) (omega arith) cs t in
+        subst (λ (n : ℕ). DraftOk restrictedLimits n (sizesOf (draftOf cs .modes)) (draftOf cs)) (omega (arith, ap length (E .noVariables refl))) E
+
+-- ---- from bytes: a file that a reader gives a task for
+taken-from : {A : Type 0} (l : Limits) (file : List ℕ) (t u : A) → onVerdict (verdictOf l file) t ≡ given u → Trail l begin (commandsOf l file) × (t ≡ u)
+taken-from {A} l file t u e = go (verdictOf l file) refl e
+  where
+    go : (v : Verdict) → verdictOf l file ≡ v → onVerdict v t ≡ given u → Trail l begin (commandsOf l file) × (t ≡ u)
+    go (Accepted a b c) q e = (trail-of l file (subst Is (sym q) tt) .0, cc)
+    go (Rejected n w) q e = let z : _≡_ {A = ℕ} 0 1 = cc in absurd (omega arith)
+
+pub accepted-source-ok : (file : List ℕ) (t : SourceTask) → readSource file ≡ given t → SourceTaskOk t
+accepted-source-ok file t e = let (w, is) = taken-from sourceLimits file (sourceTaskOf (draftOf (commandsOf sourceLimits file))) t e in subst SourceTaskOk is (source-ok (commandsOf sourceLimits file) w)
+
+pub accepted-restricted-ok : (file : List ℕ) (r : RestrictedTask) → readRestricted file ≡ given r → RestrictedTaskOk r
+accepted-restricted-ok file r e = let (w, is) = taken-from restrictedLimits file (restrictedTaskOf (draftOf (commandsOf restrictedLimits file))) r e in subst RestrictedTaskOk is (restricted-ok (commandsOf restrictedLimits file) w)
