@@ -24,7 +24,7 @@ use Rattle.model.specs.TaskOk.{keys, InRange, ModeOk, ConditionsOk, Sour
 use Rattle.model.specs.Steps.{sizesOf}
 use Rattle.model.proofs.ReadingLaws.{clash, holds, over, up-to, Off, Goes, rule-none, Core, core-mode, zeros, length-each, length-keys}
 use Rattle.model.proofs.CommandsOk.{PartOk, PartFrom, Counted, opened-counted, nothing-follows, conditions-whole, part-whole, condition-carries, mode-condition-carries, mode-effect-carries, add-carries, linear-carries, term-carries, quotient-carries, residue-carries}
-use Rattle.model.proofs.AcceptedTrail.{Is, trail-of}
+use Rattle.model.proofs.AcceptedTrail.{Is, accepted-trail}
 
 -- what the commands of an accepted file make, in a task with n variables and modes of the sizes: V declares variables in a source file, U in a restricted one
 pub record DraftOk (l : Limits) (n : ℕ) (sizes : List ℕ) (d : Draft) : Type 0 where
@@ -338,7 +338,7 @@ taken-from : {A : Type 0} (l : Limits) (file : List ℕ) (t u : A) → onVerdict
 taken-from {A} l file t u e = go (verdictOf l file) refl e
   where
     go : (v : Verdict) → verdictOf l file ≡ v → onVerdict v t ≡ given u → Trail l begin (commandsOf l file) × (t ≡ u)
-    go (Accepted a b c) q e = (trail-of l file (subst Is (sym q) tt) .0, cc)
+    go (Accepted a b c) q e = (accepted-trail l file (subst Is (sym q) tt) .0, cc)
     go (Rejected n w) q e = let z : _≡_ {A = ℕ} 0 1 = cc in absurd (omega arith)
 
 pub accepted-source-ok : (file : List ℕ) (t : SourceTask) → readSource file ≡ given t → SourceTaskOk t

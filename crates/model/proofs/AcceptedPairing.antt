@@ -25,10 +25,10 @@ use Rattle.model.specs.NamedSystems.{byName}
 use Rattle.model.specs.TaskOk.{ValuesIn, ConditionIn}
 use Rattle.model.proofs.StageWalk.{all-app, all-map}
 use Rattle.model.proofs.Outcomes.{Good}
-use Rattle.model.proofs.Arrays.{OnceV, get-back}
-use Rattle.model.proofs.NumberedPairing.{RowIn, lower-in}
-use Rattle.model.proofs.StepBounds.{lookZ, OnceZ, AddsIn, Below}
-use Rattle.model.proofs.GuardedPairing.{demand-3}
+use Rattle.model.proofs.Arrays.{NamesOnce, get-back}
+use Rattle.model.proofs.NumberedPairing.{NamedActionIn, lower-in}
+use Rattle.model.proofs.StepBounds.{additionAt, AdditionsOnce, AddsIn, Below}
+use Rattle.model.proofs.GuardedPairing.{guarded-plans-pair-off}
 
 -- ---- numbers tell variables apart
 eqb-no : (a b : ℕ) → (a ≡ b → ⊥) → eqb a b ≡ false
@@ -77,11 +77,11 @@ VarsIn n es = All (λ (e : Name × ℤ). NameIn n (e .0)) es
 abbrev pub UpTo : ℕ → List (Name × ℤ) → Type 0
 UpTo C es = All (λ (e : Name × ℤ). natAbs (e .1) ≤ C) es
 
-look-num : (n : ℕ) (es : List (Name × ℤ)) (w : Name) → VarsIn n es → NameIn n w → lookZ (numberedAdditions n es) (numberOfName n w) ≡ additionTo es w
+look-num : (n : ℕ) (es : List (Name × ℤ)) (w : Name) → VarsIn n es → NameIn n w → additionAt (numberedAdditions n es) (numberOfName n w) ≡ additionTo es w
 look-num n [] w p q = refl
 look-num n (e ∷ es) w (p, ps) q = ap₂ (λ (b : Bool) (o : Option ℤ). cond b (some (e .1)) o) (num-same n (e .0) w p q) (look-num n es w ps q)
 
-pub num-once : (n : ℕ) (es : List (Name × ℤ)) → VarsIn n es → OnceV es → OnceZ (numberedAdditions n es)
+pub num-once : (n : ℕ) (es : List (Name × ℤ)) → VarsIn n es → NamesOnce es → AdditionsOnce (numberedAdditions n es)
 num-once n [] p o = tt
 num-once n (e ∷ es) (p, ps) (o, os) = (look-num n es (e .0) ps p ∙ o, num-once n es ps os)
 
@@ -93,10 +93,10 @@ pub num-upTo : (n C : ℕ) (es : List (Name × ℤ)) → UpTo C es → All (λ (
 num-upTo n C [] h = tt
 num-upTo n C (e ∷ es) (h, hs) = (h, num-upTo n C es hs)
 
-rows-adds : (n m C : ℕ) (R : List NamedAction) → All (RowIn n m) R → All (λ (r : NamedAction). UpTo C (r .additions)) R → All (AddsIn (n + 2) C) (numberedAll n m R)
-rows-adds n m C [] i u = tt
-rows-adds n m C (r ∷ R) (i, is) (u, us) =
-    (record { inside = num-in n (r .additions) (i .additionsIn); once = num-once n (r .additions) (i .additionsIn) (i .additionsOnce); upTo = num-upTo n C (r .additions) u }, rows-adds n m C R is us)
+actions-additions : (n m C : ℕ) (R : List NamedAction) → All (NamedActionIn n m) R → All (λ (r : NamedAction). UpTo C (r .additions)) R → All (AddsIn (n + 2) C) (numberedAll n m R)
+actions-additions n m C [] i u = tt
+actions-additions n m C (r ∷ R) (i, is) (u, us) =
+    (record { inside = num-in n (r .additions) (i .additionsIn); once = num-once n (r .additions) (i .additionsIn) (i .additionsOnce); upTo = num-upTo n C (r .additions) u }, actions-additions n m C R is us)
 
 -- ---- constants
 abbrev pub EffUpTo : ℕ → Effect → Type 0
@@ -168,15 +168,15 @@ entry-lt : (s : ℕ) (ds : List Stage) → firstStage (suc s) ds < suc s + lengt
 entry-lt s [] = omega arith
 entry-lt s (d ∷ ds) = omega arith
 
-rows-next : (s : ℕ) (ds : List Stage) → All (λ (r : NamedAction). r .nextControl < s + length ds) (stagesActions s ds)
-rows-next s [] = tt
-rows-next s (d ∷ ds) = (
+actions-next-control : (s : ℕ) (ds : List Stage) → All (λ (r : NamedAction). r .nextControl < s + length ds) (stagesActions s ds)
+actions-next-control s [] = tt
+actions-next-control s (d ∷ ds) = (
   omega arith,
   (
     omega arith,
     (
       omega (arith, entry-lt s ds),
-      all-map (λ (r : NamedAction). r .nextControl < suc s + length ds) (λ (r : NamedAction). r .nextControl < s + suc (length ds)) (λ r h. omega arith) (stagesActions (suc s) ds) (rows-next (suc s) ds),
+      all-map (λ (r : NamedAction). r .nextControl < suc s + length ds) (λ (r : NamedAction). r .nextControl < s + suc (length ds)) (λ r h. omega arith) (stagesActions (suc s) ds) (actions-next-control (suc s) ds),
     ),
   ),
 )
@@ -191,7 +191,7 @@ lower-next lo hi (a ∷ acts) s h = (
   omega (arith, entry-at s h (stagesOf lo hi (a .effect))),
   all-app (λ (r : NamedAction). r .nextControl < s + (length (stagesOf lo hi (a .effect)) + stageCount lo hi acts)) (stagesActions s (stagesOf lo hi (a .effect))) (lowerActions lo hi (s + length (stagesOf lo hi (a .effect))) acts)
       (all-map (λ (r : NamedAction). r .nextControl < s + length (stagesOf lo hi (a .effect))) (λ (r : NamedAction). r .nextControl < s + (length (stagesOf lo hi (a .effect)) + stageCount lo hi acts)) (λ r q. omega arith)
-      (stagesActions s (stagesOf lo hi (a .effect))) (rows-next s (stagesOf lo hi (a .effect))))
+      (stagesActions s (stagesOf lo hi (a .effect))) (actions-next-control s (stagesOf lo hi (a .effect))))
       (all-map (λ (r : NamedAction). r .nextControl < (s + length (stagesOf lo hi (a .effect))) + stageCount lo hi acts) (λ (r : NamedAction). r .nextControl < s + (length (stagesOf lo hi (a .effect)) + stageCount lo hi acts)) (λ r q. omega arith)
       (lowerActions lo hi (s + length (stagesOf lo hi (a .effect))) acts) (lower-next lo hi acts (s + length (stagesOf lo hi (a .effect))) (omega arith))),
 )
@@ -217,13 +217,13 @@ sets-more sizes z (e ∷ es) (h, hs) =
 pub at-end : (sizes : List ℕ) (z m : ℕ) → length sizes ≡ m → naturalAt (sizes ++ (z ∷ [])) m ≡ z
 at-end sizes z m e = ap (naturalAt (sizes ++ (z ∷ []))) (sym e ∙ sym (add-zero (length sizes))) ∙ get-back sizes (z ∷ []) 0 0
 
-rows-sets : (n m : ℕ) (sizes : List ℕ) (z : ℕ) → length sizes ≡ m → (R : List NamedAction) → All (λ (r : NamedAction). ValuesIn sizes (r .modeEffects)) R → All (λ (r : NamedAction). r .nextControl < z) R
+actions-mode-effects : (n m : ℕ) (sizes : List ℕ) (z : ℕ) → length sizes ≡ m → (R : List NamedAction) → All (λ (r : NamedAction). ValuesIn sizes (r .modeEffects)) R → All (λ (r : NamedAction). r .nextControl < z) R
     → All (λ (a : RestrictedAction). ValuesIn (sizes ++ (z ∷ [])) (a .modeEffects)) (numberedAll n m R)
-rows-sets n m sizes z e [] h k = tt
-rows-sets n m sizes z e (r ∷ R) (h, hs) (k, ks) = (
+actions-mode-effects n m sizes z e [] h k = tt
+actions-mode-effects n m sizes z e (r ∷ R) (h, hs) (k, ks) = (
   all-app (λ (x : ℕ × ℕ). (x .0 < length (sizes ++ (z ∷ []))) × (x .1 < naturalAt (sizes ++ (z ∷ [])) (x .0))) (r .modeEffects) (cond (eqb (r .control) (r .nextControl)) [] ((m, r .nextControl) ∷ []))
       (sets-more sizes z (r .modeEffects) h) (go (eqb (r .control) (r .nextControl))),
-  rows-sets n m sizes z e R hs ks,
+  actions-mode-effects n m sizes z e R hs ks,
 )
   where
     go : (b : Bool) → ValuesIn (sizes ++ (z ∷ [])) (cond b [] ((m, r .nextControl) ∷ []))
@@ -251,11 +251,11 @@ pub record Accepted (n m : ℕ) (lo hi : ℕ → ℤ) (acts : List SourceAction)
   pub actionsIn : All (ActionIn n m) acts
   pub constants : All (λ (a : SourceAction). EffUpTo 1_000_000_000 (a .effect)) acts
   pub sets : All (λ (a : SourceAction). ValuesIn sizes (a .modeEffects)) acts
-  pub sizesLong : length sizes ≡ m
-  pub goalP : All (λ (p : ℕ × ℕ). p .0 < m) gp
-  pub goalC : All (ConditionIn n) gc
-  pub valsLong : length (x .values) ≡ n
-  pub modesLong : length (x .modes) ≡ m
+  pub sizesLength : length sizes ≡ m
+  pub goalModesIn : All (λ (p : ℕ × ℕ). p .0 < m) gp
+  pub goalConditionsIn : All (ConditionIn n) gc
+  pub valuesLength : length (x .values) ≡ n
+  pub modesLength : length (x .modes) ≡ m
   pub good : Good lo hi (byName x)
   pub below : Below sizes (x .modes)
   pub starts : (j : ℕ) → natAbs (integerAt (x .values) j) ≤ 1_000_000_000
@@ -265,15 +265,15 @@ pub plans-pair-off-for-accepted : (n m : ℕ) (lo hi : ℕ → ℤ) (acts : List
     → Pairing (guarded (soundSource lo hi sizes) (sourceStep lo hi acts)) (guarded (soundRestricted (sizes ++ (suc (stageCount lo hi acts) ∷ []))) (restrictedStep (loweredActions n m lo hi acts))) helpersAtRest (opening lo hi acts) (sourceNumber lo hi acts)
     (stageStepsFrom lo hi acts) (priceFrom acts) X₀ (SourceGoal gp gc) (LoweredGoal m gp gc) 1_000_000
 plans-pair-off-for-accepted n m lo hi acts sizes gp gc X₀ A =
-    demand-3 n m lo hi acts (A .actionsIn) sizes (A .sizesLong) (A .sets) (sizes ++ (z ∷ []))
-    (rows-adds n m 1_000_000_000 (lowerActions lo hi 1 acts) (lower-in n m lo hi acts 1 (A .actionsIn)) (lower-upTo 1_000_000_000 (omega arith) lo hi 1 acts (A .constants)))
-    (rows-sets n m sizes z (A .sizesLong) (lowerActions lo hi 1 acts) (lower-sets sizes lo hi 1 acts (A .sets))
+    guarded-plans-pair-off n m lo hi acts (A .actionsIn) sizes (A .sizesLength) (A .sets) (sizes ++ (z ∷ []))
+    (actions-additions n m 1_000_000_000 (lowerActions lo hi 1 acts) (lower-in n m lo hi acts 1 (A .actionsIn)) (lower-upTo 1_000_000_000 (omega arith) lo hi 1 acts (A .constants)))
+    (actions-mode-effects n m sizes z (A .sizesLength) (lowerActions lo hi 1 acts) (lower-sets sizes lo hi 1 acts (A .sets))
     (all-map (λ (r : NamedAction). r .nextControl < 1 + stageCount lo hi acts) (λ (r : NamedAction). r .nextControl < z) (λ r q. omega arith) (lowerActions lo hi 1 acts) (lower-next lo hi acts 1 (omega arith))))
-    gp gc (A .goalP) (A .goalC) X₀ (A .valsLong, A .modesLong, A .good, A .below) (
-      length-append (X₀ .values) (pos 0 ∷ pos 0 ∷ []) ∙ omega (arith, A .valsLong),
-      length-append (X₀ .modes) (0 ∷ []) ∙ omega (arith, A .modesLong, A .sizesLong, length-append sizes (z ∷ [])),
+    gp gc (A .goalModesIn) (A .goalConditionsIn) X₀ (A .valuesLength, A .modesLength, A .good, A .below) (
+      length-append (X₀ .values) (pos 0 ∷ pos 0 ∷ []) ∙ omega (arith, A .valuesLength),
+      length-append (X₀ .modes) (0 ∷ []) ∙ omega (arith, A .modesLength, A .sizesLength, length-append sizes (z ∷ [])),
       zeros-after (λ x. natAbs x ≤ 1_000_000_000 + 1_000_000_000 * 0) (omega arith) (X₀ .values) (λ j. omega (arith, A .starts j)),
-      below-after sizes (X₀ .modes) z (A .sizesLong ∙ sym (A .modesLong)) (omega arith) (A .below),
+      below-after sizes (X₀ .modes) z (A .sizesLength ∙ sym (A .modesLength)) (omega arith) (A .below),
     )
   where
     z : ℕ

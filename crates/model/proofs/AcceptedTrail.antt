@@ -177,6 +177,6 @@ module _ (l : Limits) where
           over-z false e h w = absurd h
       step q (Stopped n) e f h rec = absurd (not-refused n at len h)
 
-  pub trail-of : (file : List ℕ) → Is (verdictOf l file) → Fine l begin (commandsOf l file) (verdictOf l file)
+  pub accepted-trail : (file : List ℕ) → Is (verdictOf l file) → Fine l begin (commandsOf l file) (verdictOf l file)
   unfolding verdictOf commandsOf
-  trail-of file h = run-inv (suc (length file)) (length file) begin 0 file h
+  accepted-trail file h = run-inv (suc (length file)) (length file) begin 0 file h

@@ -29,12 +29,12 @@ use Rattle.model.specs.Lowering.{startCommands, modeCommands, modeCondit
 use Rattle.model.specs.TaskOk.{RestrictedTaskOk}
 use Rattle.model.specs.Trail.{Trail, endState}
 use Rattle.model.specs.ActionBytes.{edges, edgeOf, actionPart, commandsIn, decodeAction}
-use Rattle.model.proofs.Pairing.{unsome}
+use Rattle.model.proofs.Pairing.{some-injective}
 use Rattle.model.proofs.CommandBytes.{Ok, command-encode, drop-encode}
 use Rattle.model.proofs.Walk.{count}
 use Rattle.model.proofs.ReadingLaws.{clash, holds, rule-none}
-use Rattle.model.proofs.AcceptedTrail.{Is, trail-of}
-use Rattle.model.proofs.FileBytes.{file-is}
+use Rattle.model.proofs.AcceptedTrail.{Is, accepted-trail}
+use Rattle.model.proofs.FileBytes.{file-is-its-commands}
 use Rattle.model.proofs.TrailOfTask.{trail}
 use Rattle.model.proofs.ReadsBack.{file-ok}
 
@@ -380,8 +380,8 @@ part-of file cs k w o A = cut (edgeOf file k) (edgeOf file (suc k)) (encodeAll (
 
 -- THE BYTES OF ACTION k: those of its A and its commands, and they give action k
 module _ (l : Limits) (file : List ℕ) (b : Bytes file) (h : Is (verdictOf l file)) where
-  pub count-is : (v m a : ℕ) → verdictOf l file ≡ Accepted v m a → a ≡ length (draftOf (commandsOf l file) .actions)
-  count-is v m a e = let (t, w) = trail-of l file h in actions-of v m a (sym e ∙ w) ∙ counted l (commandsOf l file) begin t ∙ zero-plus (length (draftOf (commandsOf l file) .actions))
+  pub verdict-counts-actions : (v m a : ℕ) → verdictOf l file ≡ Accepted v m a → a ≡ length (draftOf (commandsOf l file) .actions)
+  verdict-counts-actions v m a e = let (t, w) = accepted-trail l file h in actions-of v m a (sym e ∙ w) ∙ counted l (commandsOf l file) begin t ∙ zero-plus (length (draftOf (commandsOf l file) .actions))
     where
       third : Verdict → ℕ
       third (Accepted x y z) = z
@@ -396,8 +396,8 @@ module _ (l : Limits) (file : List ℕ) (b : Bytes file) (h : Is (verdictOf l fi
   pub action-decodes : (k : ℕ) → k < length (draftOf (commandsOf l file) .actions) → getElem? (draftOf (commandsOf l file) .actions) k ≡ some (decodeAction (actionPart file k))
   unfolding decodeAction
   action-decodes k q =
-      let (w, o) = file-is l file b h in
-      let A : At k 0 (length file) (commandsOf l file) = find (commandsOf l file) k 0 (length file) (goal-in l (commandsOf l file) begin (omega arith) (trail-of l file h .0)) o q in
+      let (w, o) = file-is-its-commands l file b h in
+      let A : At k 0 (length file) (commandsOf l file) = find (commandsOf l file) k 0 (length file) (goal-in l (commandsOf l file) begin (omega arith) (accepted-trail l file h .0)) o q in
       let part : actionPart file k ≡ encodeAll (Action ∷ A .body) = part-of file (commandsOf l file) k w o A in
       A .part ∙ ap (λ (c : List Command). some (beforeAll (drop 1 c) blank .current))
       (sym (in-all (Action ∷ A .body) (suc (length (actionPart file k))) (omega (arith, ap length part, count (A .body))) (tt, A .oks)) ∙ ap (commandsIn (suc (length (actionPart file k)))) (sym part))
@@ -486,7 +486,7 @@ has-act : (acts : List RestrictedAction) (gs : List Command) (k at d : ℕ) (a :
 unfolding find
 has-act [] gs k at d a e g o = absurd (Option·none-ne-some a e)
 has-act (x ∷ acts) gs zero at d a e g o =
-    (find (actionCommands x (actionsCommands acts (Goal ∷ gs))) zero at d g o (omega arith), upTo-body x acts gs ∙ ap (λ (y : RestrictedAction). bodyOf y []) (unsome e))
+    (find (actionCommands x (actionsCommands acts (Goal ∷ gs))) zero at d g o (omega arith), upTo-body x acts gs ∙ ap (λ (y : RestrictedAction). bodyOf y []) (some-injective e))
 has-act (x ∷ acts) gs (suc k) at d a e g (o, os) =
     later k at d (bodyOf x (actionsCommands acts (Goal ∷ gs))) (bodyOf a [])
     (skip-places k d (bodyOf a []) _ (λ at. skip-compares k d (bodyOf a []) _ (λ at. skip-effects k d (bodyOf a []) _ (λ at. skip-adds k d (bodyOf a []) _

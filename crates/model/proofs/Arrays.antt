@@ -20,7 +20,7 @@ use Rattle.model.specs.Stages.{Name, source, helperA, helperB, hold, use
 use Rattle.model.specs.Expansion.{sameName, additionTo, addTo, plus, namedValues}
 use Rattle.model.specs.Lowering.{numberOfName, numberedMeasure, numberedConditions, numberedAdditions}
 use Rattle.model.specs.InTask.{NameIn, MeasureIn, Once}
-use Rattle.model.proofs.StageValues.{by-place, both-true, vals-eq}
+use Rattle.model.proofs.StageValues.{by-place, and-true, values-equal}
 
 module _ {A : Type 0} where
   -- an element after a store
@@ -79,12 +79,12 @@ same→eq (usesLeft i) (hold j) t = absurd t
 same→eq (usesLeft i) (usesLeft j) t = ap usesLeft (eqb→eq i j t)
 
 -- each variable is named once
-abbrev pub OnceV : List (Name × ℤ) → Type 0
-OnceV [] = Unit {0}
-OnceV (e ∷ es) = (additionTo es (e .0) ≡ none) × OnceV es
+abbrev pub NamesOnce : List (Name × ℤ) → Type 0
+NamesOnce [] = Unit {0}
+NamesOnce (e ∷ es) = (additionTo es (e .0) ≡ none) × NamesOnce es
 
 -- ---- values: n source variables, then A and B
-pub record Laid (n : ℕ) (l : List ℤ) (f : Name → ℤ) : Type 0 where
+pub record ValuesLaid (n : ℕ) (l : List ℤ) (f : Name → ℤ) : Type 0 where
   pub V₀ : List ℤ
   pub a : ℤ
   pub b : ℤ
@@ -103,14 +103,14 @@ abbrev bumped : Name → ℤ → (Name → ℤ) → Name → ℤ
 bumped w d f x = cond (sameName w x) (f x +ℤ d) (f x)
 
 core-one : (v : List ℤ) (a b : ℤ) (w : Name) (d : ℤ) → NameIn (length v) w
-    → Laid (length v) (set (v ++ (a ∷ b ∷ [])) (numberOfName (length v) w) (namedValues (integerAt v) a b w +ℤ d)) (bumped w d (namedValues (integerAt v) a b))
+    → ValuesLaid (length v) (set (v ++ (a ∷ b ∷ [])) (numberOfName (length v) w) (namedValues (integerAt v) a b w +ℤ d)) (bumped w d (namedValues (integerAt v) a b))
 core-one v a b (source i) d h = record {
   V₀ = set v i (integerAt v i +ℤ d);
   a = a;
   b = b;
   lengths = length-set v i (integerAt v i +ℤ d);
   is = set-front v (a ∷ b ∷ []) i (integerAt v i +ℤ d) h;
-  reads = vals-eq (integerAt (set v i (integerAt v i +ℤ d))) a b (bumped (source i) d (namedValues (integerAt v) a b))
+  reads = values-equal (integerAt (set v i (integerAt v i +ℤ d))) a b (bumped (source i) d (namedValues (integerAt v) a b))
       (λ j. by-place i (λ c k. cond c (integerAt v k +ℤ d) (integerAt v k)) (λ c k. cond c (integerAt v i +ℤ d) (integerAt v k)) refl (λ k. refl) j ∙ sym (get-set v i j (integerAt v i +ℤ d) (pos 0) h)) refl refl (λ j. refl) (λ j. refl);
 }
 core-one v a b helperA d h = record {
@@ -119,7 +119,7 @@ core-one v a b helperA d h = record {
   b = b;
   lengths = refl;
   is = ap (λ (k : ℕ). set (v ++ (a ∷ b ∷ [])) k (a +ℤ d)) (sym (add-zero (length v))) ∙ set-back v (a ∷ b ∷ []) 0 (a +ℤ d);
-  reads = vals-eq (integerAt v) (a +ℤ d) b (bumped helperA d (namedValues (integerAt v) a b)) (λ j. refl) refl refl (λ j. refl) (λ j. refl);
+  reads = values-equal (integerAt v) (a +ℤ d) b (bumped helperA d (namedValues (integerAt v) a b)) (λ j. refl) refl refl (λ j. refl) (λ j. refl);
 }
 core-one v a b helperB d h = record {
   V₀ = v;
@@ -127,26 +127,26 @@ core-one v a b helperB d h = record {
   b = b +ℤ d;
   lengths = refl;
   is = ap (λ (k : ℕ). set (v ++ (a ∷ b ∷ [])) k (b +ℤ d)) (sym (add-one (length v))) ∙ set-back v (a ∷ b ∷ []) 1 (b +ℤ d);
-  reads = vals-eq (integerAt v) a (b +ℤ d) (bumped helperB d (namedValues (integerAt v) a b)) (λ j. refl) refl refl (λ j. refl) (λ j. refl);
+  reads = values-equal (integerAt v) a (b +ℤ d) (bumped helperB d (namedValues (integerAt v) a b)) (λ j. refl) refl refl (λ j. refl) (λ j. refl);
 }
 core-one v a b (hold j) d h = absurd h
 core-one v a b (usesLeft j) d h = absurd h
 
-pub laid-get : (n : ℕ) (l : List ℤ) (f : Name → ℤ) (w : Name) → Laid n l f → NameIn n w → integerAt l (numberOfName n w) ≡ f w
-laid-get n l f w L = subst (λ (k : ℕ). NameIn k w → integerAt l (numberOfName k w) ≡ f w) (L .lengths)
+pub values-laid-get : (n : ℕ) (l : List ℤ) (f : Name → ℤ) (w : Name) → ValuesLaid n l f → NameIn n w → integerAt l (numberOfName n w) ≡ f w
+values-laid-get n l f w L = subst (λ (k : ℕ). NameIn k w → integerAt l (numberOfName k w) ≡ f w) (L .lengths)
     (λ h. ap (λ (u : List ℤ). integerAt u (numberOfName (length (L .V₀)) w)) (L .is) ∙ core-get (L .V₀) (L .a) (L .b) w h ∙ ap (λ (g : Name → ℤ). g w) (sym (L .reads)))
 
-pub laid-one : (n : ℕ) (l : List ℤ) (f : Name → ℤ) (w : Name) (d : ℤ) → Laid n l f → NameIn n w → Laid n (set l (numberOfName n w) (integerAt l (numberOfName n w) +ℤ d)) (bumped w d f)
-laid-one n l f w d L h = rw (laid-get n l f w L h) (subst (λ (k : ℕ). NameIn k w → Laid k (set l (numberOfName k w) (f w +ℤ d)) (bumped w d f)) (L .lengths)
-    (λ h′. subst (λ (g : Name → ℤ). Laid (length (L .V₀)) (set l (numberOfName (length (L .V₀)) w) (g w +ℤ d)) (bumped w d g)) (sym (L .reads))
-    (subst (λ (u : List ℤ). Laid (length (L .V₀)) (set u (numberOfName (length (L .V₀)) w) (namedValues (integerAt (L .V₀)) (L .a) (L .b) w +ℤ d)) (bumped w d (namedValues (integerAt (L .V₀)) (L .a) (L .b)))) (sym (L .is))
+pub values-laid-one : (n : ℕ) (l : List ℤ) (f : Name → ℤ) (w : Name) (d : ℤ) → ValuesLaid n l f → NameIn n w → ValuesLaid n (set l (numberOfName n w) (integerAt l (numberOfName n w) +ℤ d)) (bumped w d f)
+values-laid-one n l f w d L h = rw (values-laid-get n l f w L h) (subst (λ (k : ℕ). NameIn k w → ValuesLaid k (set l (numberOfName k w) (f w +ℤ d)) (bumped w d f)) (L .lengths)
+    (λ h′. subst (λ (g : Name → ℤ). ValuesLaid (length (L .V₀)) (set l (numberOfName (length (L .V₀)) w) (g w +ℤ d)) (bumped w d g)) (sym (L .reads))
+    (subst (λ (u : List ℤ). ValuesLaid (length (L .V₀)) (set u (numberOfName (length (L .V₀)) w) (namedValues (integerAt (L .V₀)) (L .a) (L .b) w +ℤ d)) (bumped w d (namedValues (integerAt (L .V₀)) (L .a) (L .b)))) (sym (L .is))
     (core-one (L .V₀) (L .a) (L .b) w d h′))) h)
 
-pub laid-all : (n : ℕ) (es : List (Name × ℤ)) (l : List ℤ) (f : Name → ℤ) → All (λ (e : Name × ℤ). NameIn n (e .0)) es → OnceV es → Laid n l f → Laid n (addAll (numberedAdditions n es) l) (plus es f)
-laid-all n [] l f i o L = L
-laid-all n (e ∷ es) l f (i, is) (o, os) L =
-    subst (λ (g : Name → ℤ). Laid n (addAll (numberedAdditions n es) (set l (numberOfName n (e .0)) (integerAt l (numberOfName n (e .0)) +ℤ e .1))) g) (fun-ext go)
-    (laid-all n es (set l (numberOfName n (e .0)) (integerAt l (numberOfName n (e .0)) +ℤ e .1)) (bumped (e .0) (e .1) f) is os (laid-one n l f (e .0) (e .1) L i))
+pub values-laid-all : (n : ℕ) (es : List (Name × ℤ)) (l : List ℤ) (f : Name → ℤ) → All (λ (e : Name × ℤ). NameIn n (e .0)) es → NamesOnce es → ValuesLaid n l f → ValuesLaid n (addAll (numberedAdditions n es) l) (plus es f)
+values-laid-all n [] l f i o L = L
+values-laid-all n (e ∷ es) l f (i, is) (o, os) L =
+    subst (λ (g : Name → ℤ). ValuesLaid n (addAll (numberedAdditions n es) (set l (numberOfName n (e .0)) (integerAt l (numberOfName n (e .0)) +ℤ e .1))) g) (fun-ext go)
+    (values-laid-all n es (set l (numberOfName n (e .0)) (integerAt l (numberOfName n (e .0)) +ℤ e .1)) (bumped (e .0) (e .1) f) is os (values-laid-one n l f (e .0) (e .1) L i))
   where
     pick : (x : Name) (b : Bool) → sameName (e .0) x ≡ b → addTo (additionTo es x) (cond b (f x +ℤ e .1) (f x)) ≡ addTo (cond b (some (e .1)) (additionTo es x)) (f x)
     pick x true q = ap (λ (r : Option ℤ). addTo r (f x +ℤ e .1)) (ap (additionTo es) (sym (same→eq (e .0) x (subst T (sym q) tt))) ∙ o)
@@ -155,57 +155,57 @@ laid-all n (e ∷ es) l f (i, is) (o, os) L =
     go : (x : Name) → plus es (bumped (e .0) (e .1) f) x ≡ plus (e ∷ es) f x
     go x = pick x (sameName (e .0) x) refl
 
-pub laid-conds : (n : ℕ) (cs : List (NumericCondition Name)) (l : List ℤ) (f : Name → ℤ) → All (λ (c : NumericCondition Name). MeasureIn (NameIn n) (c .measured)) cs → Laid n l f → conditionsHold (numberedConditions n cs) (integerAt l) ≡ conditionsHold cs f
-laid-conds n [] l f i L = refl
-laid-conds n (c ∷ cs) l f (i, is) L = ap₂ _&&_ (ap (λ (z : ℤ). related (c .relation) z (c .constant)) (lhs (c .measured) i)) (laid-conds n cs l f is L)
+pub values-laid-conditions : (n : ℕ) (cs : List (NumericCondition Name)) (l : List ℤ) (f : Name → ℤ) → All (λ (c : NumericCondition Name). MeasureIn (NameIn n) (c .measured)) cs → ValuesLaid n l f → conditionsHold (numberedConditions n cs) (integerAt l) ≡ conditionsHold cs f
+values-laid-conditions n [] l f i L = refl
+values-laid-conditions n (c ∷ cs) l f (i, is) L = ap₂ _&&_ (ap (λ (z : ℤ). related (c .relation) z (c .constant)) (lhs (c .measured) i)) (values-laid-conditions n cs l f is L)
   where
     lhs : (e : Measured Name) → MeasureIn (NameIn n) e → measure (numberedMeasure n e) (integerAt l) ≡ measure e f
-    lhs (variable w) h = laid-get n l f w L h
+    lhs (variable w) h = values-laid-get n l f w L h
     lhs (weightedSum ts) h = absurd h
 
 -- ---- modes: m source modes, then control
-pub record LaidM (m : ℕ) (l : List ℕ) (g : ℕ → ℕ) (c : ℕ) : Type 0 where
+pub record ModesLaid (m : ℕ) (l : List ℕ) (g : ℕ → ℕ) (c : ℕ) : Type 0 where
   pub M₀ : List ℕ
   pub lengths : length M₀ ≡ m
   pub is : l ≡ M₀ ++ (c ∷ [])
   pub reads : g ≡ naturalAt M₀
 
-pub laidM-get : (m : ℕ) (l : List ℕ) (g : ℕ → ℕ) (c j : ℕ) → LaidM m l g c → j < m → naturalAt l j ≡ g j
-laidM-get m l g c j L h = ap (λ (u : List ℕ). naturalAt u j) (L .is) ∙ List·getD-append (L .M₀) (c ∷ []) 0 j (omega (arith, L .lengths)) ∙ ap (λ (f : ℕ → ℕ). f j) (sym (L .reads))
+pub modes-laid-get : (m : ℕ) (l : List ℕ) (g : ℕ → ℕ) (c j : ℕ) → ModesLaid m l g c → j < m → naturalAt l j ≡ g j
+modes-laid-get m l g c j L h = ap (λ (u : List ℕ). naturalAt u j) (L .is) ∙ List·getD-append (L .M₀) (c ∷ []) 0 j (omega (arith, L .lengths)) ∙ ap (λ (f : ℕ → ℕ). f j) (sym (L .reads))
 
-pub laidM-ctl : (m : ℕ) (l : List ℕ) (g : ℕ → ℕ) (c : ℕ) → LaidM m l g c → naturalAt l m ≡ c
-laidM-ctl m l g c L = ap₂ (λ (u : List ℕ) (k : ℕ). naturalAt u k) (L .is) (sym (L .lengths) ∙ sym (add-zero (length (L .M₀)))) ∙ get-back (L .M₀) (c ∷ []) 0 0
+pub modes-laid-control : (m : ℕ) (l : List ℕ) (g : ℕ → ℕ) (c : ℕ) → ModesLaid m l g c → naturalAt l m ≡ c
+modes-laid-control m l g c L = ap₂ (λ (u : List ℕ) (k : ℕ). naturalAt u k) (L .is) (sym (L .lengths) ∙ sym (add-zero (length (L .M₀)))) ∙ get-back (L .M₀) (c ∷ []) 0 0
 
-pub laidM-one : (m : ℕ) (l : List ℕ) (g : ℕ → ℕ) (c j b : ℕ) → LaidM m l g c → j < m → LaidM m (set l j b) (λ k. cond (eqb j k) b (g k)) c
-laidM-one m l g c j b L h = record {
+pub modes-laid-one : (m : ℕ) (l : List ℕ) (g : ℕ → ℕ) (c j b : ℕ) → ModesLaid m l g c → j < m → ModesLaid m (set l j b) (λ k. cond (eqb j k) b (g k)) c
+modes-laid-one m l g c j b L h = record {
   M₀ = set (L .M₀) j b;
   lengths = length-set (L .M₀) j b ∙ L .lengths;
   is = ap (λ (u : List ℕ). set u j b) (L .is) ∙ set-front (L .M₀) (c ∷ []) j b (omega (arith, L .lengths));
   reads = fun-ext (λ k. ap (λ (f : ℕ → ℕ). cond (eqb j k) b (f k)) (L .reads) ∙ sym (get-set (L .M₀) j k b 0 (omega (arith, L .lengths))));
 }
 
-pub laidM-set : (m : ℕ) (l : List ℕ) (g : ℕ → ℕ) (c c′ : ℕ) → LaidM m l g c → LaidM m (set l m c′) g c′
-laidM-set m l g c c′ L = record {
+pub modes-laid-set : (m : ℕ) (l : List ℕ) (g : ℕ → ℕ) (c c′ : ℕ) → ModesLaid m l g c → ModesLaid m (set l m c′) g c′
+modes-laid-set m l g c c′ L = record {
   M₀ = L .M₀;
   lengths = L .lengths;
   is = ap₂ (λ (u : List ℕ) (k : ℕ). set u k c′) (L .is) (sym (L .lengths) ∙ sym (add-zero (length (L .M₀)))) ∙ set-back (L .M₀) (c ∷ []) 0 c′;
   reads = L .reads;
 }
 
-pub laidM-all : (m : ℕ) (es : List (ℕ × ℕ)) (l : List ℕ) (g : ℕ → ℕ) (c : ℕ) → All (λ (e : ℕ × ℕ). e .0 < m) es → Once es → LaidM m l g c → LaidM m (setAll es l) (setModes es g) c
-laidM-all m [] l g c i o L = L
-laidM-all m (e ∷ es) l g c (i, is) (o, os) L =
-    subst (λ (f : ℕ → ℕ). LaidM m (setAll es (set l (e .0) (e .1))) f c) (fun-ext (λ k. pick k (eqb (e .0) k) refl))
-    (laidM-all m es (set l (e .0) (e .1)) (λ k. cond (eqb (e .0) k) (e .1) (g k)) c is os (laidM-one m l g c (e .0) (e .1) L i))
+pub modes-laid-all : (m : ℕ) (es : List (ℕ × ℕ)) (l : List ℕ) (g : ℕ → ℕ) (c : ℕ) → All (λ (e : ℕ × ℕ). e .0 < m) es → Once es → ModesLaid m l g c → ModesLaid m (setAll es l) (setModes es g) c
+modes-laid-all m [] l g c i o L = L
+modes-laid-all m (e ∷ es) l g c (i, is) (o, os) L =
+    subst (λ (f : ℕ → ℕ). ModesLaid m (setAll es (set l (e .0) (e .1))) f c) (fun-ext (λ k. pick k (eqb (e .0) k) refl))
+    (modes-laid-all m es (set l (e .0) (e .1)) (λ k. cond (eqb (e .0) k) (e .1) (g k)) c is os (modes-laid-one m l g c (e .0) (e .1) L i))
   where
     pick : (k : ℕ) (b : Bool) → eqb (e .0) k ≡ b → orDefault (modeEffectOn es k) (cond b (e .1) (g k)) ≡ orDefault (cond b (some (e .1)) (modeEffectOn es k)) (g k)
     pick k true q = ap (λ (r : Option ℕ). orDefault r (e .1)) (ap (modeEffectOn es) (sym (eqb→eq (e .0) k (subst T (sym q) tt))) ∙ o)
     pick k false q = refl
 
-pub laidM-holds : (m : ℕ) (ps : List (ℕ × ℕ)) (l : List ℕ) (g : ℕ → ℕ) (c need : ℕ) → All (λ (p : ℕ × ℕ). p .0 < m) ps → LaidM m l g c
+pub modes-laid-hold : (m : ℕ) (ps : List (ℕ × ℕ)) (l : List ℕ) (g : ℕ → ℕ) (c need : ℕ) → All (λ (p : ℕ × ℕ). p .0 < m) ps → ModesLaid m l g c
     → modesHold (ps ++ ((m, need) ∷ [])) (naturalAt l) ≡ ((modesHold ps g) && (eqb c need))
-laidM-holds m [] l g c need i L = both-true (eqb (naturalAt l m) need) ∙ ap (λ (k : ℕ). eqb k need) (laidM-ctl m l g c L)
-laidM-holds m (p ∷ ps) l g c need (i, is) L = ap₂ _&&_ (ap (λ (k : ℕ). eqb k (p .1)) (laidM-get m l g c (p .0) L i)) (laidM-holds m ps l g c need is L)
+modes-laid-hold m [] l g c need i L = and-true (eqb (naturalAt l m) need) ∙ ap (λ (k : ℕ). eqb k need) (modes-laid-control m l g c L)
+modes-laid-hold m (p ∷ ps) l g c need (i, is) L = ap₂ _&&_ (ap (λ (k : ℕ). eqb k (p .1)) (modes-laid-get m l g c (p .0) L i)) (modes-laid-hold m ps l g c need is L)
     ∙ again (eqb (g (p .0)) (p .1)) (modesHold ps g) (eqb c need)
   where
     again : (x y z : Bool) → (x && ((y && z))) ≡ (((x && y)) && z)

@@ -25,11 +25,11 @@ use Rattle.model.specs.TaskOk.{SourceTaskOk}
 use Rattle.model.specs.Plans.{planBytes, readPlan}
 use Rattle.model.specs.Judging.{judge, judgeSourceTask, judgeRestrictedTask, priceTask, judgeSource, judgeRestricted, pricePlan, lowerBytes, expandBytes, projectBytes}
 use Rattle.model.specs.Claim.{PlansPair, RoundTrip}
-use Rattle.model.proofs.StageWalk.{both-in, both-out}
+use Rattle.model.proofs.StageWalk.{and-intro, and-parts}
 use Rattle.model.proofs.AcceptedPairing.{plans-pair-off-for-accepted}
 use Rattle.model.proofs.ReadsBack.{reads-back}
 use Rattle.model.proofs.AcceptedOk.{accepted-source-ok}
-use Rattle.model.proofs.LoweredOk.{accepted, formed, sizesR}
+use Rattle.model.proofs.LoweredOk.{accepted, lowered-task-ok, lowered-sizes}
 use Rattle.model.proofs.Answers.{given-injective, then-gives, written-at-the-front}
 use Rattle.model.proofs.JudgedPlans.{judged, judges, run-count, priced, capped, plan-reads-back, plan-read, source-step-counts, restricted-step-counts, keep-few, few-all}
 
@@ -59,23 +59,23 @@ module _ (t : SourceTask) (S : SourceTaskOk t) where
   -- R's judge, on R as it is read
   judge-R : (q : List ℕ) → judgeRestrictedTask (lowerTask t) q ≡ judge (length (lowerTask t .actions)) stepR (restrictedGoalHolds (lowerTask t)) 0 q (helpersAtRest (sourceStart t))
   judge-R q = ap₂ (λ (s m : List ℕ). judge (length (lowerTask t .actions)) (guarded (soundRestricted s) (restrictedStep (lowerTask t .actions))) (restrictedGoalHolds (lowerTask t)) 0 q (record { values = lowerTask t .starts; modes = m }))
-      (sizesR t S) (each-app (λ (m : ℕ × ℕ). m .1) (t .modes) ((z, 0) ∷ []))
+      (lowered-sizes t S) (each-app (λ (m : ℕ × ℕ). m .1) (t .modes) ((z, 0) ∷ []))
 
   goal-in : (x : State) → T (sourceGoalHolds t x) → SourceGoal (t .goalModes) (t .goalConditions) x
-  goal-in x h = both-out (modesHold (t .goalModes) (naturalAt (x .modes))) (conditionsHold (t .goalConditions) (integerAt (x .values))) h
+  goal-in x h = and-parts (modesHold (t .goalModes) (naturalAt (x .modes))) (conditionsHold (t .goalConditions) (integerAt (x .values))) h
 
   goal-out : (x : State) → SourceGoal (t .goalModes) (t .goalConditions) x → T (sourceGoalHolds t x)
-  goal-out x h = both-in (modesHold (t .goalModes) (naturalAt (x .modes))) (conditionsHold (t .goalConditions) (integerAt (x .values))) (h .0) (h .1)
+  goal-out x h = and-intro (modesHold (t .goalModes) (naturalAt (x .modes))) (conditionsHold (t .goalConditions) (integerAt (x .values))) (h .0) (h .1)
 
   goalR-in : (x : State) → T (restrictedGoalHolds (lowerTask t) x) → LoweredGoal (length (t .modes)) (t .goalModes) (t .goalConditions) x
-  goalR-in x h = both-out (modesHold (lowerTask t .goalModes) (naturalAt (x .modes))) (conditionsHold (t .goalConditions) (integerAt (x .values))) h
+  goalR-in x h = and-parts (modesHold (lowerTask t .goalModes) (naturalAt (x .modes))) (conditionsHold (t .goalConditions) (integerAt (x .values))) h
 
   goalR-out : (x : State) → LoweredGoal (length (t .modes)) (t .goalModes) (t .goalConditions) x → T (restrictedGoalHolds (lowerTask t) x)
-  goalR-out x h = both-in (modesHold (lowerTask t .goalModes) (naturalAt (x .modes))) (conditionsHold (t .goalConditions) (integerAt (x .values))) (h .0) (h .1)
+  goalR-out x h = and-intro (modesHold (lowerTask t .goalModes) (naturalAt (x .modes))) (conditionsHold (t .goalConditions) (integerAt (x .values))) (h .0) (h .1)
 
   module _ (file : List ℕ) (e : readSource file ≡ given t) where
     R-reads : readRestricted (lowerFile t) ≡ given (lowerTask t)
-    R-reads = reads-back (lowerTask t) (formed t S)
+    R-reads = reads-back (lowerTask t) (lowered-task-ok t S)
 
     -- what each call comes to, for plans p of T and q of R by their bytes
     judge-is : (plan p : List ℕ) → readPlan plan ≡ given p → judgeSource file plan ≡ judgeSourceTask t p
@@ -125,7 +125,7 @@ module _ (t : SourceTask) (S : SourceTaskOk t) where
             let (run₂, g₂, kept, _) = pairing .forth p s run₁ (goal-in s g) (omega (arith, size, few)) in
             let nums₂ : All (λ (k : ℕ). k < length (lowerTask t .actions)) (expandTask t p) = few-R (expandTask t p) (helpersAtRest s) run₂ in
             let r₂ : readPlan (planBytes (expandTask t p)) ≡ given (expandTask t p)
-            = plan-reads-back (expandTask t p) (few-all (length (lowerTask t .actions)) 65_536 (omega (arith, formed t S .actionsFew)) (expandTask t p) nums₂) (omega (arith, size, few)) in
+            = plan-reads-back (expandTask t p) (few-all (length (lowerTask t .actions)) 65_536 (omega (arith, lowered-task-ok t S .actionsFew)) (expandTask t p) nums₂) (omega (arith, size, few)) in
             let j₂ : judgeRestrictedTask (lowerTask t) (expandTask t p) ≡ given (0 + length (expandTask t p), helpersAtRest s)
             = judge-R (expandTask t p) ∙ judges (length (lowerTask t .actions)) stepR (restrictedGoalHolds (lowerTask t)) (expandTask t p) 0 (helpersAtRest (sourceStart t)) (helpersAtRest s) run₂ (goalR-out (helpersAtRest s) g₂) nums₂ in
             let x : expandBytes file plan ≡ given (planBytes (expandTask t p))
@@ -182,4 +182,4 @@ plans-pair file lowered l =
     go t e (accepted-source-ok file t e) (given-injective w)
   where
     go : (t : SourceTask) → readSource file ≡ given t → SourceTaskOk t → lowerFile t ≡ lowered → PlansPair file lowered
-    go t e S w = subst (PlansPair file) w (record { reads = (lowerTask t, reads-back (lowerTask t) (formed t S)); forth = forth t S file e; back = back t S file e })
+    go t e S w = subst (PlansPair file) w (record { reads = (lowerTask t, reads-back (lowerTask t) (lowered-task-ok t S)); forth = forth t S file e; back = back t S file e })

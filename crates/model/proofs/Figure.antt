@@ -21,7 +21,7 @@ use Rattle.model.specs.TaskOk.{Distinct, keys, ValuesIn, InRange, Amount
 use Rattle.model.proofs.StageWalk.{all-map}
 use Rattle.model.proofs.Follow.{guard-run, run-keeps}
 use Rattle.model.proofs.Guards.{guard-any}
-use Rattle.model.proofs.StepBounds.{lookZ, OnceZ, AddsIn, WithinAfter, within-is-sound, step-within}
+use Rattle.model.proofs.StepBounds.{additionAt, AdditionsOnce, AddsIn, WithinAfter, within-is-sound, step-within}
 use Rattle.model.proofs.GuardedPairing.{WithinBounds, within-bounds-is-sound, step-within-bounds}
 use Rattle.model.proofs.AcceptedPairing.{Accepted}
 use Rattle.model.proofs.ReadingLaws.{length-each, length-keys}
@@ -29,11 +29,11 @@ use Rattle.model.proofs.LoweredOk.{accepted, modes-below}
 use Rattle.model.proofs.AcceptedOk.{accepted-source-ok, accepted-restricted-ok}
 
 -- ---- what a restricted task that keeps to the rules has
-not-among : (k : ℕ) (es : List (ℕ × ℤ)) → All (λ (j : ℕ). eqb j k ≡ false) (keys es) → lookZ es k ≡ none
+not-among : (k : ℕ) (es : List (ℕ × ℤ)) → All (λ (j : ℕ). eqb j k ≡ false) (keys es) → additionAt es k ≡ none
 not-among k [] h = refl
-not-among k (e ∷ es) (h, hs) = ap (λ (b : Bool). cond b (some (e .1)) (lookZ es k)) h ∙ not-among k es hs
+not-among k (e ∷ es) (h, hs) = ap (λ (b : Bool). cond b (some (e .1)) (additionAt es k)) h ∙ not-among k es hs
 
-each-once : (es : List (ℕ × ℤ)) → Distinct (keys es) → OnceZ es
+each-once : (es : List (ℕ × ℤ)) → Distinct (keys es) → AdditionsOnce es
 each-once [] h = tt
 each-once (e ∷ es) (h, hs) = (not-among (e .0) es h, each-once es hs)
 
@@ -83,8 +83,8 @@ pub no-source-plan-leaves-its-bounds : (file : List ℕ) (t : SourceTask) → re
     → runPlan (stepSource t) p (sourceStart t) ≡ runPlan (sourceStep (lowerBounds t) (upperBounds t) (t .actions)) p (sourceStart t)
 no-source-plan-leaves-its-bounds file t e p =
     guard-any (soundSource (lowerBounds t) (upperBounds t) (sizesOf (t .modes))) (sourceStep (lowerBounds t) (upperBounds t) (t .actions)) (WithinBounds n m (lowerBounds t) (upperBounds t) (sizesOf (t .modes)))
-    (step-within-bounds n m (lowerBounds t) (upperBounds t) (t .actions) (A .actionsIn) (sizesOf (t .modes)) (A .sizesLong) (A .sets)) (within-bounds-is-sound n m (lowerBounds t) (upperBounds t) (sizesOf (t .modes)))
-    p (sourceStart t) (A .valsLong, A .modesLong, A .good, A .below)
+    (step-within-bounds n m (lowerBounds t) (upperBounds t) (t .actions) (A .actionsIn) (sizesOf (t .modes)) (A .sizesLength) (A .sets)) (within-bounds-is-sound n m (lowerBounds t) (upperBounds t) (sizesOf (t .modes)))
+    p (sourceStart t) (A .valuesLength, A .modesLength, A .good, A .below)
   where
     n : ℕ
     n = length (t .variables)

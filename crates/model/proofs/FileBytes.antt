@@ -138,8 +138,8 @@ first [] h = absurd (omega (arith, h))
 first (b ∷ s) h = refl
 
 -- a command that is known: its bytes, and then what follows it
-pub canon : (s : List ℕ) → Known (commandAt s) → Bytes s → (encode (commandAt s) ++ drop (sizeOfByte (getD s 0 0)) s ≡ s) × Ok (commandAt s)
-canon s k h = go (known-row s k)
+pub command-is-its-bytes : (s : List ℕ) → Known (commandAt s) → Bytes s → (encode (commandAt s) ++ drop (sizeOfByte (getD s 0 0)) s ≡ s) × Ok (commandAt s)
+command-is-its-bytes s k h = go (known-row s k)
   where
     b : ℕ
     b = getD s 0 0
@@ -182,7 +182,7 @@ module _ (l : Limits) where
           → Whole s (gather (λ q. commandsFrom l k q (drop (sizeOfByte (getD s 0 0)) s)) (commandAt s) q o)
       step q Going f h rec =
           let (_, _, kn) = take-inv l p s (subst Alive (sym f) tt) in
-          let (e, o) = canon s kn b in
+          let (e, o) = command-is-its-bytes s kn b in
           let (w, os) = rec q h in
           (sym e ∙ ap (λ (z : List ℕ). encode (commandAt s) ++ z) w ∙ sym (append-assoc (encode (commandAt s)) (encodeAll (commandsFrom l k q (drop (sizeOfByte (getD s 0 0)) s))) (encode End)), (o, os))
       step q Ended f h rec =
@@ -196,6 +196,6 @@ module _ (l : Limits) where
       step q (Stopped n) f h rec = absurd (not-refused n at len h)
 
   -- THE FILE is the bytes of its commands, and then Z
-  pub file-is : (file : List ℕ) → Bytes file → Is (verdictOf l file) → Whole file (commandsOf l file)
+  pub file-is-its-commands : (file : List ℕ) → Bytes file → Is (verdictOf l file) → Whole file (commandsOf l file)
   unfolding verdictOf commandsOf
-  file-is file b h = bytes-inv (suc (length file)) (length file) begin 0 file b h
+  file-is-its-commands file b h = bytes-inv (suc (length file)) (length file) begin 0 file b h

@@ -13,7 +13,7 @@ use lib.Dec.{T}
 use Rattle.model.specs.Systems.{bind, orEmpty, runPlan, soleApplying, orNext, follow, guarded}
 use Rattle.model.specs.Walks.{Only, Forced}
 use Rattle.model.specs.NamedSystems.{atRest}
-use Rattle.model.proofs.Pairing.{bind-inv, unsome}
+use Rattle.model.proofs.Pairing.{bind-gives, some-injective}
 
 module _ {X : Type 0} (step : X → ℕ → Option X) (atRest : X → Bool) where
   abbrev AtRest : X → Type 0
@@ -66,8 +66,8 @@ module _ {X : Type 0} (step : X → ℕ → Option X) where
 
   -- what every step keeps holds at the end of a run
   pub run-keeps : (Inv : ℕ → X → Type 0) → ((i : ℕ) (x y : X) (k : ℕ) → Inv i x → step x k ≡ some y → Inv (suc i) y) → (q : List ℕ) (i : ℕ) (x y : X) → Inv i x → runPlan step q x ≡ some y → Inv (i + length q) y
-  run-keeps Inv up [] i x y v e = subst (λ (z : X). Inv (i + 0) z) (unsome e) (subst (λ (k : ℕ). Inv k x) (omega arith) v)
-  run-keeps Inv up (k ∷ q) i x y v e = let (z, e₁, e₂) = bind-inv (step x k) (runPlan step q) y e in subst (λ (n : ℕ). Inv n y) (tidy i (length q)) (run-keeps Inv up q (suc i) z y (up i x z k v e₁) e₂)
+  run-keeps Inv up [] i x y v e = subst (λ (z : X). Inv (i + 0) z) (some-injective e) (subst (λ (k : ℕ). Inv k x) (omega arith) v)
+  run-keeps Inv up (k ∷ q) i x y v e = let (z, e₁, e₂) = bind-gives (step x k) (runPlan step q) y e in subst (λ (n : ℕ). Inv n y) (tidy i (length q)) (run-keeps Inv up q (suc i) z y (up i x z k v e₁) e₂)
     where
       tidy : (a b : ℕ) → suc a + b ≡ a + suc b
       tidy a b = omega arith

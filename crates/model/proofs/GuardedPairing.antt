@@ -18,11 +18,11 @@ use Rattle.model.specs.Lowering.{helpersAtRest, loweredActions}
 use Rattle.model.specs.InTask.{ActionIn, SourceGoal, LoweredGoal}
 use Rattle.model.specs.Expansion.{stageStepsFrom, priceFrom}
 use Rattle.model.specs.TaskOk.{ValuesIn, ConditionIn}
-use Rattle.model.proofs.Pairing.{bind-inv, not-both, same-some}
-use Rattle.model.proofs.StageWalk.{given-inv, all-get, Rest}
+use Rattle.model.proofs.Pairing.{bind-gives, none-not-some, some-unique}
+use Rattle.model.proofs.StageWalk.{provided-gives, all-get, Rest}
 use Rattle.model.proofs.Outcomes.{Good, lowers}
-use Rattle.model.proofs.NumberedPairing.{agree-left, SimT, acts-agree, whole}
-use Rattle.model.proofs.StepBounds.{AddsIn, Below, modes-in, set-below, vals-in, WithinAfter, within-is-sound, step-within}
+use Rattle.model.proofs.NumberedPairing.{agree-left, SourceAgrees, source-steps-agree, numbered-plans-pair-off}
+use Rattle.model.proofs.StepBounds.{AddsIn, Below, modes-in, set-below, values-in-bounds, WithinAfter, within-is-sound, step-within}
 use Rattle.model.proofs.Guards.{pairing-guarded}
 
 -- ---- a source run, of a task with n variables and m modes of the sizes
@@ -30,35 +30,35 @@ abbrev pub WithinBounds : ℕ → ℕ → (ℕ → ℤ) → (ℕ → ℤ) → Li
 WithinBounds n m lo hi sizes x = (length (x .values) ≡ n) × (length (x .modes) ≡ m) × Good lo hi (byName x) × Below sizes (x .modes)
 
 pub within-bounds-is-sound : (n m : ℕ) (lo hi : ℕ → ℤ) (sizes : List ℕ) (x : State) → WithinBounds n m lo hi sizes x → soundSource lo hi sizes x ≡ true
-within-bounds-is-sound n m lo hi sizes x (a, b, g, h) = ap₂ _&&_ (vals-in lo hi (x .values) g) (modes-in sizes (x .modes) h)
+within-bounds-is-sound n m lo hi sizes x (a, b, g, h) = ap₂ _&&_ (values-in-bounds lo hi (x .values) g) (modes-in sizes (x .modes) h)
 
 module _ (n m : ℕ) (lo hi : ℕ → ℤ) (acts : List SourceAction) (acts-in : All (ActionIn n m) acts) (sizes : List ℕ) (sizes-m : length sizes ≡ m) (setsT : All (λ (a : SourceAction). ValuesIn sizes (a .modeEffects)) acts) where
   pub step-within-bounds : (x y : State) (k : ℕ) → WithinBounds n m lo hi sizes x → sourceStep lo hi acts x k ≡ some y → WithinBounds n m lo hi sizes y
   step-within-bounds x y k (a, b, g, h) e =
-      let (s, e′, sim) = agree-left (SimT n m) (sourceStep lo hi acts x k) (stepNamedSource lo hi acts (byName x) k) y (acts-agree n m lo hi acts acts-in x (byName x) k (a, b, refl)) e in
+      let (s, e′, sim) = agree-left (SourceAgrees n m) (sourceStep lo hi acts x k) (stepNamedSource lo hi acts (byName x) k) y (source-steps-agree n m lo hi acts acts-in x (byName x) k (a, b, refl)) e in
       (sim .0, sim .1, subst (Good lo hi) (sim .2) (good s e′ (lowers lo hi acts .outcomes (byName x) g k)), modes e)
     where
       good : (s : NamedSource) → stepNamedSource lo hi acts (byName x) k ≡ some s → Outcome (stepNamedSource lo hi acts) (stepNamed (lowerActions lo hi 1 acts)) Rest atRest (Good lo hi) (opening lo hi acts) (sourceNumber lo hi acts) (stageSteps lo hi acts) (priceAt acts) (deadEndSteps lo hi acts) (byName x) k → Good lo hi s
-      good s e (notOpened q _) = absurd (not-both q e)
-      good s e (hangs _ _ q _ _ _) = absurd (not-both q e)
-      good s e (completes s′ _ q g _ _ _ _ _) = subst (Good lo hi) (same-some q e) g
+      good s e (notOpened q _) = absurd (none-not-some q e)
+      good s e (hangs _ _ q _ _ _) = absurd (none-not-some q e)
+      good s e (completes s′ _ q g _ _ _ _ _) = subst (Good lo hi) (some-unique q e) g
 
       modes : sourceStep lo hi acts x k ≡ some y → Below sizes (y .modes)
-      modes e = let (act, e₁, e₂) = bind-inv (getElem? acts k) (trySource lo hi x) y e in
+      modes e = let (act, e₁, e₂) = bind-gives (getElem? acts k) (trySource lo hi x) y e in
           go act (all-get (λ (a : SourceAction). ValuesIn sizes (a .modeEffects)) acts k act setsT e₁) e₂
         where
           go : (act : SourceAction) → ValuesIn sizes (act .modeEffects) → trySource lo hi x act ≡ some y → Below sizes (y .modes)
           go act s q = subst (λ (z : State). Below sizes (z .modes))
-              (given-inv (((conditionsMet act (byName x)) && (withinBounds lo hi (result (act .effect) (integerAt (x .values)))))) (record { values = putResult (result (act .effect) (integerAt (x .values))) (x .values); modes = setAll (act .modeEffects) (x .modes) }) y q .1)
+              (provided-gives (((conditionsMet act (byName x)) && (withinBounds lo hi (result (act .effect) (integerAt (x .values)))))) (record { values = putResult (result (act .effect) (integerAt (x .values))) (x .values); modes = setAll (act .modeEffects) (x .modes) }) y q .1)
               (set-below (act .modeEffects) sizes (x .modes) (subst (λ (c : ℕ). All (λ (e : ℕ × ℕ). (e .0 < c) × (e .1 < naturalAt sizes (e .0))) (act .modeEffects)) (sizes-m ∙ sym b) s) h)
 
   -- DEMAND 3
-  pub demand-3 : (sizesR : List ℕ) → All (AddsIn (n + 2) 1_000_000_000) (loweredActions n m lo hi acts) → All (λ (a : RestrictedAction). ValuesIn sizesR (a .modeEffects)) (loweredActions n m lo hi acts)
+  pub guarded-plans-pair-off : (lowered-sizes : List ℕ) → All (AddsIn (n + 2) 1_000_000_000) (loweredActions n m lo hi acts) → All (λ (a : RestrictedAction). ValuesIn lowered-sizes (a .modeEffects)) (loweredActions n m lo hi acts)
       → (gp : List (ℕ × ℕ)) (gc : List (NumericCondition ℕ)) → All (λ (p : ℕ × ℕ). p .0 < m) gp → All (ConditionIn n) gc
-      → (X₀ : State) → WithinBounds n m lo hi sizes X₀ → WithinAfter (n + 2) sizesR 0 (helpersAtRest X₀)
-      → Pairing (guarded (soundSource lo hi sizes) (sourceStep lo hi acts)) (guarded (soundRestricted sizesR) (restrictedStep (loweredActions n m lo hi acts))) helpersAtRest (opening lo hi acts) (sourceNumber lo hi acts)
+      → (X₀ : State) → WithinBounds n m lo hi sizes X₀ → WithinAfter (n + 2) lowered-sizes 0 (helpersAtRest X₀)
+      → Pairing (guarded (soundSource lo hi sizes) (sourceStep lo hi acts)) (guarded (soundRestricted lowered-sizes) (restrictedStep (loweredActions n m lo hi acts))) helpersAtRest (opening lo hi acts) (sourceNumber lo hi acts)
       (stageStepsFrom lo hi acts) (priceFrom acts) X₀ (SourceGoal gp gc) (LoweredGoal m gp gc) 1_000_000
-  demand-3 sizesR addsR setsR gp gc gpIn gcIn X₀ iT iR = pairing-guarded (sourceStep lo hi acts) (restrictedStep (loweredActions n m lo hi acts)) helpersAtRest (opening lo hi acts) (sourceNumber lo hi acts) (stageStepsFrom lo hi acts) (priceFrom acts)
+  guarded-plans-pair-off lowered-sizes addsR setsR gp gc gpIn gcIn X₀ iT iR = pairing-guarded (sourceStep lo hi acts) (restrictedStep (loweredActions n m lo hi acts)) helpersAtRest (opening lo hi acts) (sourceNumber lo hi acts) (stageStepsFrom lo hi acts) (priceFrom acts)
       X₀ (SourceGoal gp gc) (LoweredGoal m gp gc) 1_000_000 (soundSource lo hi sizes) (WithinBounds n m lo hi sizes) step-within-bounds (within-bounds-is-sound n m lo hi sizes) iT
-      (soundRestricted sizesR) (WithinAfter (n + 2) sizesR) (step-within (n + 2) sizesR (loweredActions n m lo hi acts) addsR setsR) (within-is-sound (n + 2) sizesR) iR
-      (whole n m lo hi acts acts-in gp gc gpIn gcIn X₀ (iT .0) (iT .1) (iT .2))
+      (soundRestricted lowered-sizes) (WithinAfter (n + 2) lowered-sizes) (step-within (n + 2) lowered-sizes (loweredActions n m lo hi acts) addsR setsR) (within-is-sound (n + 2) lowered-sizes) iR
+      (numbered-plans-pair-off n m lo hi acts acts-in gp gc gpIn gcIn X₀ (iT .0) (iT .1) (iT .2))

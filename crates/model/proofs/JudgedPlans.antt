@@ -20,7 +20,7 @@ use Rattle.model.specs.Systems.{bind, orEmpty, orZero, runPlan, keep, to
 use Rattle.model.specs.Steps.{trySource, tryRestricted, sourceStep, restrictedStep}
 use Rattle.model.specs.Plans.{planBytes, planNumbers, readPlan}
 use Rattle.model.specs.Judging.{ifApplies, judge, ifGoesOn, pricesFrom}
-use Rattle.model.proofs.Pairing.{bind-inv, unsome}
+use Rattle.model.proofs.Pairing.{bind-gives, some-injective}
 use Rattle.model.proofs.Answers.{Gives, given-injective}
 
 -- ---- judging is running, with numbers of actions, and a goal at the end
@@ -45,12 +45,12 @@ module _ {X : Type 0} (count : ℕ) (step : X → ℕ → Option X) (goal : X �
 
   pub judges : (ks : List ℕ) (i : ℕ) (x y : X) → runPlan step ks x ≡ some y → T (goal y) → All (λ (k : ℕ). k < count) ks → judge count step goal i ks x ≡ given (i + length ks, y)
   unfolding judge
-  judges [] i x y e g h = let q : x ≡ y = unsome e in go (goal x) refl q
+  judges [] i x y e g h = let q : x ≡ y = some-injective e in go (goal x) refl q
     where
       go : (b : Bool) → goal x ≡ b → x ≡ y → cond {A = Answer (ℕ × X)} b (given (i, x)) (refused 13 i) ≡ given (i + 0, y)
       go true s q = ap₂ (λ (a : ℕ) (z : X). given (a, z)) (sym (add-zero i)) q
       go false s q = absurd (subst T (ap goal (sym q) ∙ s) g)
-  judges (k ∷ ks) i x y e g (h, hs) = let (z, e₁, e₂) = bind-inv (step x k) (runPlan step ks) y e in
+  judges (k ∷ ks) i x y e g (h, hs) = let (z, e₁, e₂) = bind-gives (step x k) (runPlan step ks) y e in
       rw (lt-ltb k count h) (ap (λ (o : Option X). ifApplies o i (judge count step goal (suc i) ks)) e₁ ∙ judges ks (suc i) z y e₂ g hs
       ∙ ap (λ (a : ℕ). given (a, y)) (tidy i (length ks)))
     where
@@ -59,14 +59,14 @@ module _ {X : Type 0} (count : ℕ) (step : X → ℕ → Option X) (goal : X �
 
   pub run-count : ((x : X) (k : ℕ) (y : X) → step x k ≡ some y → k < count) → (ks : List ℕ) (x y : X) → runPlan step ks x ≡ some y → All (λ (k : ℕ). k < count) ks
   run-count f [] x y e = tt
-  run-count f (k ∷ ks) x y e = let (z, e₁, e₂) = bind-inv (step x k) (runPlan step ks) y e in (f x k z e₁, run-count f ks z y e₂)
+  run-count f (k ∷ ks) x y e = let (z, e₁, e₂) = bind-gives (step x k) (runPlan step ks) y e in (f x k z e₁, run-count f ks z y e₂)
 
 -- ---- prices
 module _ {X : Type 0} (step : X → ℕ → Option X) (price : X → ℕ → ℕ) where
   pub priced : (ks : List ℕ) (i sum : ℕ) (x y : X) → runPlan step ks x ≡ some y → pricesFrom step price false i sum ks x ≡ given (sum + totalPrice step price ks x)
   unfolding pricesFrom
   priced [] i sum x y e = ap given (sym (add-zero sum))
-  priced (k ∷ ks) i sum x y e = let (z, e₁, e₂) = bind-inv (step x k) (runPlan step ks) y e in
+  priced (k ∷ ks) i sum x y e = let (z, e₁, e₂) = bind-gives (step x k) (runPlan step ks) y e in
       rw e₁ (priced ks (suc i) (sum + price x k) z y e₂ ∙ ap given (tidy sum (price x k) (totalPrice step price ks z)))
     where
       tidy : (a b c : ℕ) → (a + b) + c ≡ a + (b + c)
@@ -75,7 +75,7 @@ module _ {X : Type 0} (step : X → ℕ → Option X) (price : X → ℕ → ℕ
   pub capped : (ks : List ℕ) (i sum : ℕ) (x y : X) → runPlan step ks x ≡ some y → sum + totalPrice step price ks x ≤ 1_000_000 → pricesFrom step price true i sum ks x ≡ given (sum + totalPrice step price ks x)
   unfolding pricesFrom
   capped [] i sum x y e h = ap given (sym (add-zero sum))
-  capped (k ∷ ks) i sum x y e h = let (z, e₁, e₂) = bind-inv (step x k) (runPlan step ks) y e in go z e₁ e₂ (λ g. capped ks (suc i) (sum + price x k) z y e₂ g)
+  capped (k ∷ ks) i sum x y e h = let (z, e₁, e₂) = bind-gives (step x k) (runPlan step ks) y e in go z e₁ e₂ (λ g. capped ks (suc i) (sum + price x k) z y e₂ g)
     where
       tidy : (a b c : ℕ) → (a + b) + c ≡ a + (b + c)
       tidy a b c = omega arith
@@ -116,20 +116,20 @@ plan-read s p h e = go (eqb (length s % 2) 1) refl (ltb 2_000_000 (length s)) re
         (w, omega (arith, length-numbers 2 p, ap length w, nltb→le 2_000_000 (length s) (subst (λ (x : Bool). T (not x)) (sym r) tt)))
 
 -- ---- a step that is made is an action's
-get-lt : {A : Type 0} (l : List A) (k : ℕ) (a : A) → getElem? l k ≡ some a → k < length l
-get-lt [] k a e = absurd (Option·none-ne-some a e)
-get-lt (x ∷ l) zero a e = omega arith
-get-lt (x ∷ l) (suc k) a e = omega (arith, get-lt l k a e)
+found-below-length : {A : Type 0} (l : List A) (k : ℕ) (a : A) → getElem? l k ≡ some a → k < length l
+found-below-length [] k a e = absurd (Option·none-ne-some a e)
+found-below-length (x ∷ l) zero a e = omega arith
+found-below-length (x ∷ l) (suc k) a e = omega (arith, found-below-length l k a e)
 
 pub source-step-counts : (ok : State → Bool) (lo hi : ℕ → ℤ) (acts : List SourceAction) (x : State) (k : ℕ) (y : State) → guarded ok (sourceStep lo hi acts) x k ≡ some y → k < length acts
 source-step-counts ok lo hi acts x k y e =
-    let (z, e₁, e₂) = bind-inv (sourceStep lo hi acts x k) (λ y. cond (ok x) (cond (ok y) (some y) none) none) y e in
-    let (a, e₃, e₄) = bind-inv (getElem? acts k) (trySource lo hi x) z e₁ in get-lt acts k a e₃
+    let (z, e₁, e₂) = bind-gives (sourceStep lo hi acts x k) (λ y. cond (ok x) (cond (ok y) (some y) none) none) y e in
+    let (a, e₃, e₄) = bind-gives (getElem? acts k) (trySource lo hi x) z e₁ in found-below-length acts k a e₃
 
 pub restricted-step-counts : (ok : State → Bool) (acts : List RestrictedAction) (x : State) (k : ℕ) (y : State) → guarded ok (restrictedStep acts) x k ≡ some y → k < length acts
 restricted-step-counts ok acts x k y e =
-    let (z, e₁, e₂) = bind-inv (restrictedStep acts x k) (λ y. cond (ok x) (cond (ok y) (some y) none) none) y e in
-    let (a, e₃, e₄) = bind-inv (getElem? acts k) (tryRestricted x) z e₁ in get-lt acts k a e₃
+    let (z, e₁, e₂) = bind-gives (restrictedStep acts x k) (λ y. cond (ok x) (cond (ok y) (some y) none) none) y e in
+    let (a, e₃, e₄) = bind-gives (getElem? acts k) (tryRestricted x) z e₁ in found-below-length acts k a e₃
 
 pub keep-few : (f : ℕ → Option ℕ) (q : List ℕ) → length (keep f q) ≤ length q
 keep-few f [] = omega arith

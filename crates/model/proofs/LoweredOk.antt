@@ -26,11 +26,11 @@ use Rattle.model.specs.Limits.{Limits, sourceLimits, restrictedLimits}
 use Rattle.model.specs.Decoding.{each}
 use Rattle.model.specs.TaskOk.{Distinct, keys, ValuesIn, InRange, Factor, AmountOk, ModeOk, ConditionIn, ConditionOk, ConditionsOk, EffectOk, SourceActionOk, SourceVariableOk, SourceTaskOk, RestrictedActionOk, RestrictedTaskOk}
 use Rattle.model.proofs.StageWalk.{all-app, all-map, body-length}
-use Rattle.model.proofs.NumberedPairing.{RowIn, lower-in}
-use Rattle.model.proofs.StepBounds.{lookZ, OnceZ, abs-sum}
+use Rattle.model.proofs.NumberedPairing.{NamedActionIn, lower-in}
+use Rattle.model.proofs.StepBounds.{additionAt, AdditionsOnce, abs-sum}
 use Rattle.model.proofs.AcceptedPairing.{Accepted, EffUpTo, sets-more, at-end, num-room, num-once, abs-neg, sign-upTo}
 use Rattle.model.proofs.ReadingLaws.{length-each, length-keys}
-use Rattle.model.proofs.MacroPlace.{rows-length}
+use Rattle.model.proofs.MacroPlace.{stages-length}
 
 -- ---- numbers that stand apart, and lists that name each number once
 apart-none : (k : ℕ) (es : List (ℕ × ℕ)) → All (λ (j : ℕ). eqb j k ≡ false) (keys es) → modeEffectOn es k ≡ none
@@ -41,15 +41,15 @@ pub apart-once : (es : List (ℕ × ℕ)) → Distinct (keys es) → Once es
 apart-once [] h = tt
 apart-once (e ∷ es) (h, hs) = (apart-none (e .0) es h, apart-once es hs)
 
-none-apart : (k : ℕ) (es : List (ℕ × ℤ)) → lookZ es k ≡ none → All (λ (j : ℕ). eqb j k ≡ false) (keys es)
+none-apart : (k : ℕ) (es : List (ℕ × ℤ)) → additionAt es k ≡ none → All (λ (j : ℕ). eqb j k ≡ false) (keys es)
 none-apart k [] h = tt
 none-apart k (e ∷ es) h = go (eqb (e .0) k) h (none-apart k es)
   where
-    go : (b : Bool) → cond b (some (e .1)) (lookZ es k) ≡ none → (lookZ es k ≡ none → All (λ (j : ℕ). eqb j k ≡ false) (keys es)) → (b ≡ false) × All (λ (j : ℕ). eqb j k ≡ false) (keys es)
+    go : (b : Bool) → cond b (some (e .1)) (additionAt es k) ≡ none → (additionAt es k ≡ none → All (λ (j : ℕ). eqb j k ≡ false) (keys es)) → (b ≡ false) × All (λ (j : ℕ). eqb j k ≡ false) (keys es)
     go true h f = absurd (Option·none-ne-some (e .1) (sym h))
     go false h f = (refl, f h)
 
-once-apart : (es : List (ℕ × ℤ)) → OnceZ es → Distinct (keys es)
+once-apart : (es : List (ℕ × ℤ)) → AdditionsOnce es → Distinct (keys es)
 once-apart [] h = tt
 once-apart (e ∷ es) (h, hs) = (none-apart (e .0) es h, once-apart es hs)
 
@@ -106,7 +106,7 @@ values-more sizes z m x e h ps v =
     all-app (λ (p : ℕ × ℕ). (p .0 < length (sizes ++ (z ∷ []))) × (p .1 < naturalAt (sizes ++ (z ∷ [])) (p .0))) ps ((m, x) ∷ []) (sets-more sizes z ps v) (ctl-in sizes z m x e h, tt)
 
 module _ (n m : ℕ) (sizes : List ℕ) (z : ℕ) (sm : length sizes ≡ m) where
-  write-ok : (r : NamedAction) → RowIn n m r → RowOk sizes z r → RestrictedActionOk restrictedLimits (n + 2) (sizes ++ (z ∷ [])) (numbered n m r)
+  write-ok : (r : NamedAction) → NamedActionIn n m r → RowOk sizes z r → RestrictedActionOk restrictedLimits (n + 2) (sizes ++ (z ∷ [])) (numbered n m r)
   write-ok r i o = record {
     conditionsOk = record {
       modeConditionsFew = omega (arith, o .modeConditionsFew, length-append (r .modeConditions) ((m, r .control) ∷ []));
@@ -133,7 +133,7 @@ module _ (n m : ℕ) (sizes : List ℕ) (z : ℕ) (sm : length sizes ≡ m) wher
       go₂ true = subst (λ (e : List (ℕ × ℕ)). Distinct (keys e)) (sym (nil (r .modeEffects))) (o .esApart)
       go₂ false = apart-more m (r .nextControl) (r .modeEffects) (i .modeEffectsIn) (o .esApart)
 
-  write-all : (R : List NamedAction) → All (RowIn n m) R → All (RowOk sizes z) R → All (RestrictedActionOk restrictedLimits (n + 2) (sizes ++ (z ∷ []))) (numberedAll n m R)
+  write-all : (R : List NamedAction) → All (NamedActionIn n m) R → All (RowOk sizes z) R → All (RestrictedActionOk restrictedLimits (n + 2) (sizes ++ (z ∷ []))) (numberedAll n m R)
   write-all [] i o = tt
   write-all (r ∷ R) (i, is) (o, os) = (write-ok r i o, write-all R is os)
 
@@ -339,7 +339,7 @@ module _ (lo hi : ℕ → ℤ) (loUp : (j : ℕ) → natAbs (lo j) ≤ 10_000) (
     lower-length (a ∷ acts) s (h, hs) = omega (
       arith,
       stages-few n (a .effect) (h .effectOk),
-      rows-length s (stagesOf lo hi (a .effect)),
+      stages-length s (stagesOf lo hi (a .effect)),
       widths-few (stagesOf lo hi (a .effect)),
       length-append (stagesActions s (stagesOf lo hi (a .effect))) (lowerActions lo hi (s + length (stagesOf lo hi (a .effect))) acts),
       lower-length acts (s + length (stagesOf lo hi (a .effect))) hs,
@@ -453,11 +453,11 @@ module _ (t : SourceTask) (S : SourceTaskOk t) where
         (all-map (SourceActionOk sourceLimits (length (t .variables)) (sizesOf (t .modes))) (ActionIn (length (t .variables)) (length (sizesOf (t .modes)))) (act-in (length (t .variables)) (sizesOf (t .modes))) (t .actions) (S .actionsOk));
     constants = all-map (SourceActionOk sourceLimits (length (t .variables)) (sizesOf (t .modes))) (λ (a : SourceAction). EffUpTo 1_000_000_000 (a .effect)) (λ a k. eff-up (length (t .variables)) (a .effect) (k .effectOk)) (t .actions) (S .actionsOk);
     sets = all-map (SourceActionOk sourceLimits (length (t .variables)) (sizesOf (t .modes))) (λ (a : SourceAction). ValuesIn (sizesOf (t .modes)) (a .modeEffects)) (λ a k. k .modeEffectsIn) (t .actions) (S .actionsOk);
-    sizesLong = long;
-    goalP = subst (λ (m : ℕ). All (λ (p : ℕ × ℕ). p .0 < m) (t .goalModes)) long (firsts (sizesOf (t .modes)) (t .goalModes) (S .goal .modeConditionsIn));
-    goalC = cond-vars (length (t .variables)) (t .goalConditions) (S .goal .conditionsIn);
-    valsLong = length-each (λ (b : SourceVariable). b .start) (t .variables);
-    modesLong = length-each (λ (m : ℕ × ℕ). m .1) (t .modes);
+    sizesLength = long;
+    goalModesIn = subst (λ (m : ℕ). All (λ (p : ℕ × ℕ). p .0 < m) (t .goalModes)) long (firsts (sizesOf (t .modes)) (t .goalModes) (S .goal .modeConditionsIn));
+    goalConditionsIn = cond-vars (length (t .variables)) (t .goalConditions) (S .goal .conditionsIn);
+    valuesLength = length-each (λ (b : SourceVariable). b .start) (t .variables);
+    modesLength = length-each (λ (m : ℕ × ℕ). m .1) (t .modes);
     good = start-good (t .variables) (S .variablesIn);
     below = modes-below sourceLimits (t .modes) (S .modesIn);
     starts = start-up (t .variables) (S .variablesIn);
@@ -479,8 +479,8 @@ module _ (t : SourceTask) (S : SourceTaskOk t) where
   nStarts : length (lowerTask t .starts) ≡ length (t .variables) + 2
   nStarts = length-append (sourceStart t .values) (pos 0 ∷ pos 0 ∷ []) ∙ ap (λ (k : ℕ). k + 2) (length-each (λ (b : SourceVariable). b .start) (t .variables))
 
-  pub sizesR : sizesOf (lowerTask t .modes) ≡ sizesOf (t .modes) ++ (suc (stageCount (lowerBounds t) (upperBounds t) (t .actions)) ∷ [])
-  sizesR = keys-app (t .modes) ((suc (stageCount (lowerBounds t) (upperBounds t) (t .actions)), 0) ∷ [])
+  pub lowered-sizes : sizesOf (lowerTask t .modes) ≡ sizesOf (t .modes) ++ (suc (stageCount (lowerBounds t) (upperBounds t) (t .actions)) ∷ [])
+  lowered-sizes = keys-app (t .modes) ((suc (stageCount (lowerBounds t) (upperBounds t) (t .actions)), 0) ∷ [])
 
   acts-ok : All (RestrictedActionOk restrictedLimits (length (t .variables) + 2) (sizesOf (t .modes) ++ (suc (stageCount (lowerBounds t) (upperBounds t) (t .actions)) ∷ []))) (lowerTask t .actions)
   acts-ok = write-all (length (t .variables)) (length (t .modes)) (sizesOf (t .modes)) (suc (stageCount (lowerBounds t) (upperBounds t) (t .actions))) (length-keys (t .modes)) (lowerActions (lowerBounds t) (upperBounds t) 1 (t .actions))
@@ -496,8 +496,8 @@ module _ (t : SourceTask) (S : SourceTaskOk t) where
         (λ c h. (with-helpers (length (t .variables)) c (h .0), omega (arith, h .1))) (t .goalConditions) (S .goal .conditionsIn);
   }
 
-  pub formed : RestrictedTaskOk (lowerTask t)
-  formed = record {
+  pub lowered-task-ok : RestrictedTaskOk (lowerTask t)
+  lowered-task-ok = record {
     startsFew = omega (arith, nStarts, S .variablesFew);
     startsIn = starts-in (t .variables) (S .variablesIn);
     modesFew = omega (arith, length-append (t .modes) ((suc (stageCount (lowerBounds t) (upperBounds t) (t .actions)), 0) ∷ []), S .modesFew);
@@ -511,7 +511,7 @@ module _ (t : SourceTask) (S : SourceTaskOk t) where
       S .actionsFew,
     );
     actionsOk = subst (λ (k : ℕ). All (RestrictedActionOk restrictedLimits k (sizesOf (lowerTask t .modes))) (lowerTask t .actions)) (sym nStarts)
-        (subst (λ (s : List ℕ). All (RestrictedActionOk restrictedLimits (length (t .variables) + 2) s) (lowerTask t .actions)) (sym sizesR) acts-ok);
+        (subst (λ (s : List ℕ). All (RestrictedActionOk restrictedLimits (length (t .variables) + 2) s) (lowerTask t .actions)) (sym lowered-sizes) acts-ok);
     goal = subst (λ (k : ℕ). ConditionsOk restrictedLimits k (sizesOf (lowerTask t .modes)) (lowerTask t .goalModes) (t .goalConditions)) (sym nStarts)
-        (subst (λ (s : List ℕ). ConditionsOk restrictedLimits (length (t .variables) + 2) s (lowerTask t .goalModes) (t .goalConditions)) (sym sizesR) goal-ok);
+        (subst (λ (s : List ℕ). ConditionsOk restrictedLimits (length (t .variables) + 2) s (lowerTask t .goalModes) (t .goalConditions)) (sym lowered-sizes) goal-ok);
   }

@@ -7,7 +7,7 @@ use native.Mathlib.Nat.{suc-add}
 use native.Mathlib.Omega.{arith}
 use mathlib.Core.Bool.{Bool, true, false, not, cond}
 use mathlib.Core.Option.{Option, none, some, Option·none-ne-some}
-use mathlib.Core.List.{List, [], _∷_, _++_}
+use mathlib.Core.List.{append-assoc, List, [], _∷_, _++_}
 use lib.ListN.{length, length-append, length-replicate, replicate, getElem?}
 use lib.Dec.{T, ltb, ltb→lt, lt→ltb, not-T}
 use lib.IntN.{ℤ, pos, negsuc, natAbs}
@@ -17,12 +17,12 @@ use Rattle.model.specs.Stages.{Name, NamedAction, Stage, firstStage, sta
 use Rattle.model.specs.Tasks.{SourceAction}
 use Rattle.model.specs.Expansion.{strokes, unitsIn, afterStrokes, afterStage, stageWalk}
 use Rattle.model.specs.NamedSystems.{walkToDeadEnd, stagesPrice, priceToDeadEnd}
-use Rattle.model.proofs.Pairing.{app-assoc, unsome}
-use Rattle.model.proofs.StageWalk.{body-length, stage-length, Under, Past, rows-from, rows-past, rows-under, under-mono, past-mono, all-app, all-map, all-get, get-split, get-past}
+use Rattle.model.proofs.Pairing.{some-injective}
+use Rattle.model.proofs.StageWalk.{body-length, stage-length, Under, Past, stages-from, stages-past, stages-under, under-mono, past-mono, all-app, all-map, all-get, get-split, get-past}
 
-pub rows-length : (s : ℕ) (ds : List Stage) → length (stagesActions s ds) ≡ countActions ds
-rows-length s [] = refl
-rows-length s (d ∷ ds) = length-append (stageActions s d (firstStage (suc s) ds)) (stagesActions (suc s) ds) ∙ omega (arith, stage-length s d (firstStage (suc s) ds), rows-length (suc s) ds)
+pub stages-length : (s : ℕ) (ds : List Stage) → length (stagesActions s ds) ≡ countActions ds
+stages-length s [] = refl
+stages-length s (d ∷ ds) = length-append (stageActions s d (firstStage (suc s) ds)) (stagesActions (suc s) ds) ∙ omega (arith, stage-length s d (firstStage (suc s) ds), stages-length (suc s) ds)
 
 -- ---- the walk's length and its numbers
 goes-length : (b : ℕ) (q : ℤ) → length (strokes b q) ≡ natAbs q
@@ -34,11 +34,11 @@ walk-length b [] v = refl
 walk-length b (d ∷ ds) v = length-append (strokes b (unitsIn (d .kind) (v (d .counter)))) ((b + turnPlace (d .kind)) ∷ stageWalk (suc (b + turnPlace (d .kind))) ds (afterStage d v))
     ∙ omega (arith, goes-length b (unitsIn (d .kind) (v (d .counter))), walk-length (suc (b + turnPlace (d .kind))) ds (afterStage d v))
 
-pub walkTo-length : (b : ℕ) (ds : List Stage) (v : Name → ℤ) → length (walkToDeadEnd b ds v) ≡ priceToDeadEnd ds v
-walkTo-length b [] v = refl
-walkTo-length b (d ∷ ds) v = length-append (strokes b (unitsIn (d .kind) (v (d .counter))))
+pub dead-end-length : (b : ℕ) (ds : List Stage) (v : Name → ℤ) → length (walkToDeadEnd b ds v) ≡ priceToDeadEnd ds v
+dead-end-length b [] v = refl
+dead-end-length b (d ∷ ds) v = length-append (strokes b (unitsIn (d .kind) (v (d .counter))))
     (cond (conditionsHold (d .turnConditions) (afterStrokes d v)) ((b + turnPlace (d .kind)) ∷ walkToDeadEnd (suc (b + turnPlace (d .kind))) ds (afterStage d v)) [])
-    ∙ ap₂ (λ (x y : ℕ). x + y) (goes-length b (unitsIn (d .kind) (v (d .counter)))) (go (conditionsHold (d .turnConditions) (afterStrokes d v)) (walkTo-length (suc (b + turnPlace (d .kind))) ds (afterStage d v)))
+    ∙ ap₂ (λ (x y : ℕ). x + y) (goes-length b (unitsIn (d .kind) (v (d .counter)))) (go (conditionsHold (d .turnConditions) (afterStrokes d v)) (dead-end-length (suc (b + turnPlace (d .kind))) ds (afterStage d v)))
   where
     go : (c : Bool) → length (walkToDeadEnd (suc (b + turnPlace (d .kind))) ds (afterStage d v)) ≡ priceToDeadEnd ds (afterStage d v)
         → length (cond c ((b + turnPlace (d .kind)) ∷ walkToDeadEnd (suc (b + turnPlace (d .kind))) ds (afterStage d v)) []) ≡ cond c (suc (priceToDeadEnd ds (afterStage d v))) zero
@@ -68,14 +68,14 @@ walk-range b (d ∷ ds) v = all-app (Between b (b + (suc (turnPlace (d .kind)) +
 
 module _ (lo hi : ℕ → ℤ) where
   pub macro-length : (s : ℕ) (a : SourceAction) → length (macro lo hi s a) ≡ macroSize lo hi a
-  macro-length s a = ap suc (rows-length s (stagesOf lo hi (a .effect)))
+  macro-length s a = ap suc (stages-length s (stagesOf lo hi (a .effect)))
 
   pub lower-past : (s : ℕ) (acts : List SourceAction) → Past s (lowerActions lo hi s acts)
   lower-past s [] = tt
   lower-past s (a ∷ acts) = (
     inl refl,
     all-app (λ (r : NamedAction). (r .control ≡ 0) ⊎ (s ≤ r .control)) (stagesActions s (stagesOf lo hi (a .effect))) (lowerActions lo hi (s + length (stagesOf lo hi (a .effect))) acts)
-        (rows-past s (stagesOf lo hi (a .effect)))
+        (stages-past s (stagesOf lo hi (a .effect)))
         (past-mono s (s + length (stagesOf lo hi (a .effect))) (omega arith) (lowerActions lo hi (s + length (stagesOf lo hi (a .effect))) acts) (lower-past (s + length (stagesOf lo hi (a .effect))) acts)),
   )
 
@@ -95,7 +95,7 @@ module _ (lo hi : ℕ → ℤ) where
     from = s;
     pre = [];
     post = lowerActions lo hi (s + length (stagesOf lo hi (a .effect))) acts;
-    split = ap (λ (x : SourceAction). macro lo hi s x ++ lowerActions lo hi (s + length (stagesOf lo hi (x .effect))) acts) (unsome e);
+    split = ap (λ (x : SourceAction). macro lo hi s x ++ lowerActions lo hi (s + length (stagesOf lo hi (x .effect))) acts) (some-injective e);
     lengths = refl;
     under = tt;
     past = lower-past (s + length (stagesOf lo hi (a .effect))) acts;
@@ -108,10 +108,10 @@ module _ (lo hi : ℕ → ℤ) where
         from = w .from;
         pre = macro lo hi s a₀ ++ w .pre;
         post = w .post;
-        split = ap (λ (l : List NamedAction). macro lo hi s a₀ ++ l) (w .split) ∙ sym (app-assoc (macro lo hi s a₀) (w .pre) (macro lo hi (w .from) a ++ w .post));
+        split = ap (λ (l : List NamedAction). macro lo hi s a₀ ++ l) (w .split) ∙ sym (append-assoc (macro lo hi s a₀) (w .pre) (macro lo hi (w .from) a ++ w .post));
         lengths = length-append (macro lo hi s a₀) (w .pre) ∙ ap₂ (λ (x y : ℕ). x + y) (macro-length s a₀) (w .lengths);
         under = all-app (λ (r : NamedAction). r .control < w .from) (macro lo hi s a₀) (w .pre)
-            (omega (arith, h, w .after), under-mono (s + length (stagesOf lo hi (a₀ .effect))) (w .from) (w .after) (stagesActions s (stagesOf lo hi (a₀ .effect))) (rows-under s (stagesOf lo hi (a₀ .effect))))
+            (omega (arith, h, w .after), under-mono (s + length (stagesOf lo hi (a₀ .effect))) (w .from) (w .after) (stagesActions s (stagesOf lo hi (a₀ .effect))) (stages-under s (stagesOf lo hi (a₀ .effect))))
             (w .under);
         past = w .past;
         after = omega (arith, w .after);
@@ -124,7 +124,7 @@ module _ (lo hi : ℕ → ℤ) where
       (λ i f. first-of acts (s + length (stagesOf lo hi (a₀ .effect))) i r (omega arith) f z)
     where
       inner : (i : ℕ) → getElem? (stagesActions s (stagesOf lo hi (a₀ .effect))) i ≡ some r → ⊥
-      inner i f = clash (all-get (λ (u : NamedAction). s ≤ u .control) (stagesActions s (stagesOf lo hi (a₀ .effect))) i r (rows-from s (stagesOf lo hi (a₀ .effect))) f)
+      inner i f = clash (all-get (λ (u : NamedAction). s ≤ u .control) (stagesActions s (stagesOf lo hi (a₀ .effect))) i r (stages-from s (stagesOf lo hi (a₀ .effect))) f)
         where
           clash : s ≤ r .control → ⊥
           clash q = omega arith
@@ -137,13 +137,13 @@ module _ (lo hi : ℕ → ℤ) where
       go (suc k) e (inl f) ih = absurd (inner k f)
       go (suc k) e (inr (i, q, f)) ih = let (a, ea) = ih i f in (suc a, q ∙ ap₂ (λ (x y : ℕ). x + y) (macro-length s a₀) ea)
 
-  pub opn-none : (acts : List SourceAction) (s k : ℕ) → getElem? acts k ≡ none → getElem? (lowerActions lo hi s acts) (opening lo hi acts k) ≡ none
-  opn-none [] s k e = refl
-  opn-none (a ∷ acts) s zero e = absurd (Option·none-ne-some a (sym e))
-  opn-none (a ∷ acts) s (suc k) e =
+  pub no-opening-past-the-last : (acts : List SourceAction) (s k : ℕ) → getElem? acts k ≡ none → getElem? (lowerActions lo hi s acts) (opening lo hi acts k) ≡ none
+  no-opening-past-the-last [] s k e = refl
+  no-opening-past-the-last (a ∷ acts) s zero e = absurd (Option·none-ne-some a (sym e))
+  no-opening-past-the-last (a ∷ acts) s (suc k) e =
       ap (λ (n : ℕ). getElem? (macro lo hi s a ++ lowerActions lo hi (s + length (stagesOf lo hi (a .effect))) acts) (n + opening lo hi acts k)) (sym (macro-length s a))
       ∙ get-past (macro lo hi s a) (lowerActions lo hi (s + length (stagesOf lo hi (a .effect))) acts) (opening lo hi acts k)
-      ∙ opn-none acts (s + length (stagesOf lo hi (a .effect))) k e
+      ∙ no-opening-past-the-last acts (s + length (stagesOf lo hi (a .effect))) k e
 
   -- ---- whose number
   pick : (b : Bool) (x : Option ℕ) → T (not b) → cond b none x ≡ x
@@ -154,26 +154,26 @@ module _ (lo hi : ℕ → ℤ) where
   drop-it true x t = refl
   drop-it false x t = absurd t
 
-  own-past : (a : SourceAction) (acts : List SourceAction) (x : ℕ) → sourceNumber lo hi (a ∷ acts) (macroSize lo hi a + x) ≡ later (sourceNumber lo hi acts x)
-  own-past a acts x = ap (sourceNumber lo hi (a ∷ acts)) (suc-add n x)
+  source-past : (a : SourceAction) (acts : List SourceAction) (x : ℕ) → sourceNumber lo hi (a ∷ acts) (macroSize lo hi a + x) ≡ later (sourceNumber lo hi acts x)
+  source-past a acts x = ap (sourceNumber lo hi (a ∷ acts)) (suc-add n x)
       ∙ pick (ltb (suc (n + x)) (suc n)) (later (sourceNumber lo hi acts (suc (n + x) - suc n))) (not-T (ltb (suc (n + x)) (suc n)) (λ t. omega (arith, ltb→lt (suc (n + x)) (suc n) t)))
       ∙ ap (λ (y : ℕ). later (sourceNumber lo hi acts y)) (omega arith)
     where
       n : ℕ
       n = countActions (stagesOf lo hi (a .effect))
 
-  pub own-opn : (acts : List SourceAction) (k : ℕ) (a : SourceAction) → getElem? acts k ≡ some a → sourceNumber lo hi acts (opening lo hi acts k) ≡ some k
-  own-opn [] k a e = absurd (Option·none-ne-some a e)
-  own-opn (a₀ ∷ acts) zero a e = refl
-  own-opn (a₀ ∷ acts) (suc k) a e = own-past a₀ acts (opening lo hi acts k) ∙ ap later (own-opn acts k a e)
+  pub opening-has-its-source : (acts : List SourceAction) (k : ℕ) (a : SourceAction) → getElem? acts k ≡ some a → sourceNumber lo hi acts (opening lo hi acts k) ≡ some k
+  opening-has-its-source [] k a e = absurd (Option·none-ne-some a e)
+  opening-has-its-source (a₀ ∷ acts) zero a e = refl
+  opening-has-its-source (a₀ ∷ acts) (suc k) a e = source-past a₀ acts (opening lo hi acts k) ∙ ap later (opening-has-its-source acts k a e)
 
-  pub own-in : (acts : List SourceAction) (k : ℕ) (a : SourceAction) (m : ℕ) → getElem? acts k ≡ some a → opening lo hi acts k < m → m < opening lo hi acts k + macroSize lo hi a → sourceNumber lo hi acts m ≡ none
-  own-in [] k a m e h l = absurd (Option·none-ne-some a e)
-  own-in (a₀ ∷ acts) zero a zero e h l = absurd (omega arith)
-  own-in (a₀ ∷ acts) zero a (suc m) e h l = drop-it (ltb (suc m) (macroSize lo hi a₀)) (later (sourceNumber lo hi acts (suc m - macroSize lo hi a₀)))
-      (lt→ltb (suc m) (macroSize lo hi a₀) (omega (arith, ap (macroSize lo hi) (unsome e))))
-  own-in (a₀ ∷ acts) (suc k) a m e h l = ap (sourceNumber lo hi (a₀ ∷ acts)) (sym back) ∙ own-past a₀ acts (m - macroSize lo hi a₀)
-      ∙ ap later (own-in acts k a (m - macroSize lo hi a₀) e (omega arith) (omega arith))
+  pub stage-has-no-source : (acts : List SourceAction) (k : ℕ) (a : SourceAction) (m : ℕ) → getElem? acts k ≡ some a → opening lo hi acts k < m → m < opening lo hi acts k + macroSize lo hi a → sourceNumber lo hi acts m ≡ none
+  stage-has-no-source [] k a m e h l = absurd (Option·none-ne-some a e)
+  stage-has-no-source (a₀ ∷ acts) zero a zero e h l = absurd (omega arith)
+  stage-has-no-source (a₀ ∷ acts) zero a (suc m) e h l = drop-it (ltb (suc m) (macroSize lo hi a₀)) (later (sourceNumber lo hi acts (suc m - macroSize lo hi a₀)))
+      (lt→ltb (suc m) (macroSize lo hi a₀) (omega (arith, ap (macroSize lo hi) (some-injective e))))
+  stage-has-no-source (a₀ ∷ acts) (suc k) a m e h l = ap (sourceNumber lo hi (a₀ ∷ acts)) (sym back) ∙ source-past a₀ acts (m - macroSize lo hi a₀)
+      ∙ ap later (stage-has-no-source acts k a (m - macroSize lo hi a₀) e (omega arith) (omega arith))
     where
       back : macroSize lo hi a₀ + (m - macroSize lo hi a₀) ≡ m
       back = omega arith

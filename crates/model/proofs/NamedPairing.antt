@@ -12,7 +12,7 @@ use Rattle.model.specs.NamedSystems.{NamedState, NamedSource, stepNamed,
 use Rattle.model.specs.Stages.{onSourceVariables, lowerActions, opening, sourceNumber}
 use Rattle.model.proofs.Pairing.{pairing}
 use Rattle.model.proofs.StageWalk.{Rest}
-use Rattle.model.proofs.Outcomes.{Good, lowers, conds-lift}
+use Rattle.model.proofs.Outcomes.{Good, lowers, source-conditions-lift}
 
 module _ (lo hi : ℕ → ℤ) (acts : List SourceAction) (gp : List (ℕ × ℕ)) (gc : List (NumericCondition ℕ)) where
   abbrev pub GoalS : NamedSource → Type 0
@@ -21,11 +21,11 @@ module _ (lo hi : ℕ → ℤ) (acts : List SourceAction) (gp : List (ℕ × ℕ
   abbrev pub GoalR : NamedState → Type 0
   GoalR x = T (modesHold gp (x .mode)) × T (conditionsHold (onSourceVariables gc) (x .value)) × Rest x
 
-  pub plans-pair-off : (s₀ : NamedSource) → Good lo hi s₀
+  pub named-plans-pair-off : (s₀ : NamedSource) → Good lo hi s₀
       → Pairing (stepNamedSource lo hi acts) (stepNamed (lowerActions lo hi 1 acts)) atRest (opening lo hi acts) (sourceNumber lo hi acts) (stageSteps lo hi acts) (priceAt acts)
       s₀ GoalS GoalR 1_000_000
-  plans-pair-off s₀ g = pairing (stepNamedSource lo hi acts) (stepNamed (lowerActions lo hi 1 acts)) Rest atRest (Good lo hi) (opening lo hi acts) (sourceNumber lo hi acts) (stageSteps lo hi acts) (priceAt acts)
+  named-plans-pair-off s₀ g = pairing (stepNamedSource lo hi acts) (stepNamed (lowerActions lo hi 1 acts)) Rest atRest (Good lo hi) (opening lo hi acts) (sourceNumber lo hi acts) (stageSteps lo hi acts) (priceAt acts)
       (deadEndSteps lo hi acts) (lowers lo hi acts) s₀ GoalS GoalR 1_000_000 g
-      (λ s h. (h .0, subst T (sym (conds-lift gc (s .value) (pos 0) (pos 0))) (h .1), refl))
-      (λ s h. (h .0, subst T (conds-lift gc (s .value) (pos 0) (pos 0)) (h .1)))
+      (λ s h. (h .0, subst T (sym (source-conditions-lift gc (s .value) (pos 0) (pos 0))) (h .1), refl))
+      (λ s h. (h .0, subst T (source-conditions-lift gc (s .value) (pos 0) (pos 0)) (h .1)))
       (λ x h. h .2)

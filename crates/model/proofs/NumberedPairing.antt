@@ -21,11 +21,11 @@ use Rattle.model.specs.Stages.{Name, source, helperA, helperB, NamedActi
 use Rattle.model.specs.Expansion.{sameName, additionTo, namedValues, stageStepsFrom, priceFrom}
 use Rattle.model.specs.Lowering.{numberedMeasure, numberedConditions, numberedAdditions, numbered, numberedAll, helpersAtRest, loweredActions}
 use Rattle.model.specs.InTask.{NameIn, MeasureIn, Once, EffectIn, ActionIn, SourceGoal, LoweredGoal}
-use Rattle.model.proofs.Pairing.{unsome}
-use Rattle.model.proofs.StageWalk.{both-in, both-out, all-app}
+use Rattle.model.proofs.Pairing.{some-injective}
+use Rattle.model.proofs.StageWalk.{and-intro, and-parts, all-app}
 use Rattle.model.proofs.Outcomes.{Good}
-use Rattle.model.proofs.NamedPairing.{plans-pair-off, GoalS, GoalR}
-use Rattle.model.proofs.Arrays.{get-set, list-ext, OnceV, Laid, laid-all, laid-conds, LaidM, laidM-all, laidM-set, laidM-holds}
+use Rattle.model.proofs.NamedPairing.{named-plans-pair-off, GoalS, GoalR}
+use Rattle.model.proofs.Arrays.{get-set, list-ext, NamesOnce, ValuesLaid, values-laid-all, values-laid-conditions, ModesLaid, modes-laid-all, modes-laid-set, modes-laid-hold}
 
 -- ---- two systems that go together
 abbrev pub Agree : {X Y : Type 0} → (X → Y → Type 0) → Option X → Option Y → Type 0
@@ -38,12 +38,12 @@ module _ {X Y : Type 0} (Sim : X → Y → Type 0) where
   pub agree-left : (o : Option X) (o′ : Option Y) (x : X) → Agree Sim o o′ → o ≡ some x → (y : Y) × (o′ ≡ some y) × Sim x y
   agree-left none o′ x h e = absurd (Option·none-ne-some x e)
   agree-left (some u) none x h e = absurd h
-  agree-left (some u) (some y) x h e = (y, refl, subst (λ (v : X). Sim v y) (unsome e) h)
+  agree-left (some u) (some y) x h e = (y, refl, subst (λ (v : X). Sim v y) (some-injective e) h)
 
   pub agree-right : (o : Option X) (o′ : Option Y) (y : Y) → Agree Sim o o′ → o′ ≡ some y → (x : X) × (o ≡ some x) × Sim x y
   agree-right o none y h e = absurd (Option·none-ne-some y e)
   agree-right none (some v) y h e = absurd h
-  agree-right (some x) (some v) y h e = (x, refl, subst (Sim x) (unsome e) h)
+  agree-right (some x) (some v) y h e = (x, refl, subst (Sim x) (some-injective e) h)
 
   pub agree-run : (stepX : X → ℕ → Option X) (stepY : Y → ℕ → Option Y) → ((x : X) (y : Y) (k : ℕ) → Sim x y → Agree Sim (stepX x k) (stepY y k))
       → (q : List ℕ) (x : X) (y : Y) → Sim x y → Agree Sim (runPlan stepX q x) (runPlan stepY q y)
@@ -61,16 +61,16 @@ module _ {X Y : Type 0} (Sim : X → Y → Type 0) where
   agree-given b false x y e h = subst (λ (c : Bool). Agree Sim (provided c x) none) (sym e) tt
 
 -- ---- rows
-pub record RowIn (n m : ℕ) (r : NamedAction) : Type 0 where
+pub record NamedActionIn (n m : ℕ) (r : NamedAction) : Type 0 where
   pub modeConditionsIn : All (λ (p : ℕ × ℕ). p .0 < m) (r .modeConditions)
   pub conditionsIn : All (λ (c : NumericCondition Name). MeasureIn (NameIn n) (c .measured)) (r .conditions)
   pub modeEffectsIn : All (λ (p : ℕ × ℕ). p .0 < m) (r .modeEffects)
   pub modeEffectsOnce : Once (r .modeEffects)
   pub additionsIn : All (λ (e : Name × ℤ). NameIn n (e .0)) (r .additions)
-  pub additionsOnce : OnceV (r .additions)
+  pub additionsOnce : NamesOnce (r .additions)
 
-abbrev pub SimR : ℕ → ℕ → State → NamedState → Type 0
-SimR n m X x = Laid n (X .values) (x .value) × LaidM m (X .modes) (x .mode) (x .control)
+abbrev pub RestrictedAgrees : ℕ → ℕ → State → NamedState → Type 0
+RestrictedAgrees n m X x = ValuesLaid n (X .values) (x .value) × ModesLaid m (X .modes) (x .mode) (x .control)
 
 setAll-app : (es fs : List (ℕ × ℕ)) (l : List ℕ) → setAll (es ++ fs) l ≡ setAll fs (setAll es l)
 setAll-app [] fs l = refl
@@ -82,38 +82,38 @@ shuffle true false c = refl
 shuffle false true c = refl
 shuffle false false c = refl
 
-row-applies : (n m : ℕ) (r : NamedAction) (X : State) (x : NamedState) → RowIn n m r → SimR n m X x → appliesRestricted (numbered n m r) X ≡ applies r x
-row-applies n m r X x i (L, M) = ap₂ _&&_ (laidM-holds m (r .modeConditions) (X .modes) (x .mode) (x .control) (r .control) (i .modeConditionsIn) M) (laid-conds n (r .conditions) (X .values) (x .value) (i .conditionsIn) L)
+row-applies : (n m : ℕ) (r : NamedAction) (X : State) (x : NamedState) → NamedActionIn n m r → RestrictedAgrees n m X x → appliesRestricted (numbered n m r) X ≡ applies r x
+row-applies n m r X x i (L, M) = ap₂ _&&_ (modes-laid-hold m (r .modeConditions) (X .modes) (x .mode) (x .control) (r .control) (i .modeConditionsIn) M) (values-laid-conditions n (r .conditions) (X .values) (x .value) (i .conditionsIn) L)
     ∙ shuffle (modesHold (r .modeConditions) (x .mode)) (eqb (x .control) (r .control)) (conditionsHold (r .conditions) (x .value))
 
-row-apply : (n m : ℕ) (r : NamedAction) (X : State) (x : NamedState) → RowIn n m r → SimR n m X x → T (applies r x) → SimR n m (applyRestricted (numbered n m r) X) (apply r x)
+row-apply : (n m : ℕ) (r : NamedAction) (X : State) (x : NamedState) → NamedActionIn n m r → RestrictedAgrees n m X x → T (applies r x) → RestrictedAgrees n m (applyRestricted (numbered n m r) X) (apply r x)
 row-apply n m r X x i (L, M) t = (
-  laid-all n (r .additions) (X .values) (x .value) (i .additionsIn) (i .additionsOnce) L,
-  subst (λ (u : List ℕ). LaidM m u (setModes (r .modeEffects) (x .mode)) (r .nextControl)) (sym (setAll-app (r .modeEffects) (cond (eqb (r .control) (r .nextControl)) [] ((m, r .nextControl) ∷ [])) (X .modes)))
+  values-laid-all n (r .additions) (X .values) (x .value) (i .additionsIn) (i .additionsOnce) L,
+  subst (λ (u : List ℕ). ModesLaid m u (setModes (r .modeEffects) (x .mode)) (r .nextControl)) (sym (setAll-app (r .modeEffects) (cond (eqb (r .control) (r .nextControl)) [] ((m, r .nextControl) ∷ [])) (X .modes)))
       (go (eqb (r .control) (r .nextControl)) refl),
 )
   where
-    M′ : LaidM m (setAll (r .modeEffects) (X .modes)) (setModes (r .modeEffects) (x .mode)) (x .control)
-    M′ = laidM-all m (r .modeEffects) (X .modes) (x .mode) (x .control) (i .modeEffectsIn) (i .modeEffectsOnce) M
+    M′ : ModesLaid m (setAll (r .modeEffects) (X .modes)) (setModes (r .modeEffects) (x .mode)) (x .control)
+    M′ = modes-laid-all m (r .modeEffects) (X .modes) (x .mode) (x .control) (i .modeEffectsIn) (i .modeEffectsOnce) M
 
-    go : (b : Bool) → eqb (r .control) (r .nextControl) ≡ b → LaidM m (setAll (cond b [] ((m, r .nextControl) ∷ [])) (setAll (r .modeEffects) (X .modes))) (setModes (r .modeEffects) (x .mode)) (r .nextControl)
-    go true e = subst (LaidM m (setAll (r .modeEffects) (X .modes)) (setModes (r .modeEffects) (x .mode)))
-        (eqb→eq (x .control) (r .control) (both-out (eqb (x .control) (r .control)) (((modesHold (r .modeConditions) (x .mode)) && (conditionsHold (r .conditions) (x .value)))) t .0) ∙ eqb→eq (r .control) (r .nextControl) (subst T (sym e) tt)) M′
-    go false e = laidM-set m (setAll (r .modeEffects) (X .modes)) (setModes (r .modeEffects) (x .mode)) (x .control) (r .nextControl) M′
+    go : (b : Bool) → eqb (r .control) (r .nextControl) ≡ b → ModesLaid m (setAll (cond b [] ((m, r .nextControl) ∷ [])) (setAll (r .modeEffects) (X .modes))) (setModes (r .modeEffects) (x .mode)) (r .nextControl)
+    go true e = subst (ModesLaid m (setAll (r .modeEffects) (X .modes)) (setModes (r .modeEffects) (x .mode)))
+        (eqb→eq (x .control) (r .control) (and-parts (eqb (x .control) (r .control)) (((modesHold (r .modeConditions) (x .mode)) && (conditionsHold (r .conditions) (x .value)))) t .0) ∙ eqb→eq (r .control) (r .nextControl) (subst T (sym e) tt)) M′
+    go false e = modes-laid-set m (setAll (r .modeEffects) (X .modes)) (setModes (r .modeEffects) (x .mode)) (x .control) (r .nextControl) M′
 
-pub rows-agree : (n m : ℕ) (R : List NamedAction) → All (RowIn n m) R → (X : State) (x : NamedState) (k : ℕ) → SimR n m X x → Agree (SimR n m) (restrictedStep (numberedAll n m R) X k) (stepNamed R x k)
-rows-agree n m [] i X x k s = tt
-rows-agree n m (r ∷ R) (i, is) X x zero s = agree-given (SimR n m) (appliesRestricted (numbered n m r) X) (applies r x) (applyRestricted (numbered n m r) X) (apply r x) (row-applies n m r X x i s) (row-apply n m r X x i s)
-rows-agree n m (r ∷ R) (i, is) X x (suc k) s = rows-agree n m R is X x k s
+pub restricted-steps-agree : (n m : ℕ) (R : List NamedAction) → All (NamedActionIn n m) R → (X : State) (x : NamedState) (k : ℕ) → RestrictedAgrees n m X x → Agree (RestrictedAgrees n m) (restrictedStep (numberedAll n m R) X k) (stepNamed R x k)
+restricted-steps-agree n m [] i X x k s = tt
+restricted-steps-agree n m (r ∷ R) (i, is) X x zero s = agree-given (RestrictedAgrees n m) (appliesRestricted (numbered n m r) X) (applies r x) (applyRestricted (numbered n m r) X) (apply r x) (row-applies n m r X x i s) (row-apply n m r X x i s)
+restricted-steps-agree n m (r ∷ R) (i, is) X x (suc k) s = restricted-steps-agree n m R is X x k s
 
 -- ---- every row of a lowered task is in range
 pub record StageIn (n : ℕ) (d : Stage) : Type 0 where
   pub cIn : NameIn n (d .counter)
   pub aIn : All (λ (e : Name × ℤ). NameIn n (e .0)) (d .additions)
-  pub aOnce : OnceV (d .additions)
+  pub aOnce : NamesOnce (d .additions)
   pub xIn : All (λ (c : NumericCondition Name). MeasureIn (NameIn n) (c .measured)) (d .turnConditions)
   pub tIn : All (λ (e : Name × ℤ). NameIn n (e .0)) (d .turnAdditions)
-  pub tOnce : OnceV (d .turnAdditions)
+  pub tOnce : NamesOnce (d .turnAdditions)
 
 opposite-in : (n : ℕ) (es : List (Name × ℤ)) → All (λ (e : Name × ℤ). NameIn n (e .0)) es → All (λ (e : Name × ℤ). NameIn n (e .0)) (opposite es)
 opposite-in n [] h = tt
@@ -127,13 +127,13 @@ opposite-none (e ∷ es) w h = go (sameName (e .0) w) h (opposite-none es w)
     go true h k = absurd (Option·none-ne-some (e .1) (sym h))
     go false h k = k h
 
-opposite-once : (es : List (Name × ℤ)) → OnceV es → OnceV (opposite es)
+opposite-once : (es : List (Name × ℤ)) → NamesOnce es → NamesOnce (opposite es)
 opposite-once [] h = tt
 opposite-once (e ∷ es) (h, hs) = (opposite-none es (e .0) h, opposite-once es hs)
 
-rows-in : (n m : ℕ) (ds : List Stage) (s : ℕ) → All (StageIn n) ds → All (RowIn n m) (stagesActions s ds)
+rows-in : (n m : ℕ) (ds : List Stage) (s : ℕ) → All (StageIn n) ds → All (NamedActionIn n m) (stagesActions s ds)
 rows-in n m [] s h = tt
-rows-in n m (d ∷ ds) s (h, hs) = all-app (RowIn n m) (stageActions s d (firstStage (suc s) ds)) (stagesActions (suc s) ds) (
+rows-in n m (d ∷ ds) s (h, hs) = all-app (NamedActionIn n m) (stageActions s d (firstStage (suc s) ds)) (stagesActions (suc s) ds) (
   record { modeConditionsIn = tt; conditionsIn = (h .cIn, tt); modeEffectsIn = tt; modeEffectsOnce = tt; additionsIn = h .aIn; additionsOnce = h .aOnce },
   (
     record { modeConditionsIn = tt; conditionsIn = (h .cIn, tt); modeEffectsIn = tt; modeEffectsOnce = tt; additionsIn = opposite-in n (d .additions) (h .aIn); additionsOnce = opposite-once (d .additions) (h .aOnce) },
@@ -191,7 +191,7 @@ bound-in n lo hi (linearEffect t w ts) h = tt
 bound-in n lo hi (quotientEffect t y c) h = tt
 bound-in n lo hi (residueEffect t y c) h = tt
 
-start-in : (n : ℕ) (e : Effect) → EffectIn n e → All (λ (e : Name × ℤ). NameIn n (e .0)) (openingAdditions e) × OnceV (openingAdditions e)
+start-in : (n : ℕ) (e : Effect) → EffectIn n e → All (λ (e : Name × ℤ). NameIn n (e .0)) (openingAdditions e) × NamesOnce (openingAdditions e)
 start-in n noEffect h = (tt, tt)
 start-in n (addEffect t c) h = ((h, tt), (refl, tt))
 start-in n (linearEffect t (pos zero) ts) h = (tt, tt)
@@ -200,7 +200,7 @@ start-in n (linearEffect t (negsuc w) ts) h = ((tt, tt), (refl, tt))
 start-in n (quotientEffect t y c) h = (tt, tt)
 start-in n (residueEffect t y c) h = (tt, tt)
 
-pub lower-in : (n m : ℕ) (lo hi : ℕ → ℤ) (acts : List SourceAction) (s : ℕ) → All (ActionIn n m) acts → All (RowIn n m) (lowerActions lo hi s acts)
+pub lower-in : (n m : ℕ) (lo hi : ℕ → ℤ) (acts : List SourceAction) (s : ℕ) → All (ActionIn n m) acts → All (NamedActionIn n m) (lowerActions lo hi s acts)
 lower-in n m lo hi [] s h = tt
 lower-in n m lo hi (a ∷ acts) s (h, hs) = (
   record {
@@ -211,14 +211,14 @@ lower-in n m lo hi (a ∷ acts) s (h, hs) = (
     additionsIn = start-in n (a .effect) (h .effectIn) .0;
     additionsOnce = start-in n (a .effect) (h .effectIn) .1;
   },
-  all-app (RowIn n m) (stagesActions s (stagesOf lo hi (a .effect))) (lowerActions lo hi (s + length (stagesOf lo hi (a .effect))) acts)
+  all-app (NamedActionIn n m) (stagesActions s (stagesOf lo hi (a .effect))) (lowerActions lo hi (s + length (stagesOf lo hi (a .effect))) acts)
       (rows-in n m (stagesOf lo hi (a .effect)) s (stages-in n lo hi (a .effect) (h .effectIn)))
       (lower-in n m lo hi acts (s + length (stagesOf lo hi (a .effect))) hs),
 )
 
 -- ---- source states
-abbrev pub SimT : ℕ → ℕ → State → NamedSource → Type 0
-SimT n m X s = (length (X .values) ≡ n) × (length (X .modes) ≡ m) × (s ≡ byName X)
+abbrev pub SourceAgrees : ℕ → ℕ → State → NamedSource → Type 0
+SourceAgrees n m X s = (length (X .values) ≡ n) × (length (X .modes) ≡ m) × (s ≡ byName X)
 
 modes-all : (es : List (ℕ × ℕ)) (m : ℕ) (l : List ℕ) → length l ≡ m → All (λ (e : ℕ × ℕ). e .0 < m) es → Once es → (length (setAll es l) ≡ m) × (setModes es (naturalAt l) ≡ naturalAt (setAll es l))
 modes-all [] m l h i o = (h, refl)
@@ -236,10 +236,10 @@ put-store (some p) l h = (length-set l (p .0) (p .1), fun-ext (λ j. sym (get-se
 
 target-in : (n : ℕ) (e : Effect) (v : ℕ → ℤ) → EffectIn n e → (p : ℕ × ℤ) → result e v ≡ some p → p .0 < n
 target-in n noEffect v h p e = absurd (Option·none-ne-some p e)
-target-in n (addEffect t c) v h p e = subst (λ (q : ℕ × ℤ). q .0 < n) (unsome e) h
-target-in n (linearEffect t w ts) v h p e = subst (λ (q : ℕ × ℤ). q .0 < n) (unsome e) (h .0)
-target-in n (quotientEffect t y c) v h p e = subst (λ (q : ℕ × ℤ). q .0 < n) (unsome e) (h .0)
-target-in n (residueEffect t y c) v h p e = subst (λ (q : ℕ × ℤ). q .0 < n) (unsome e) (h .0)
+target-in n (addEffect t c) v h p e = subst (λ (q : ℕ × ℤ). q .0 < n) (some-injective e) h
+target-in n (linearEffect t w ts) v h p e = subst (λ (q : ℕ × ℤ). q .0 < n) (some-injective e) (h .0)
+target-in n (quotientEffect t y c) v h p e = subst (λ (q : ℕ × ℤ). q .0 < n) (some-injective e) (h .0)
+target-in n (residueEffect t y c) v h p e = subst (λ (q : ℕ × ℤ). q .0 < n) (some-injective e) (h .0)
 
 num-lift : (n : ℕ) (cs : List (NumericCondition ℕ)) → numberedConditions n (onSourceVariables cs) ≡ cs
 num-lift n [] = refl
@@ -254,11 +254,11 @@ num-lift n (c ∷ cs) = λ i. record { measured = lhs (c .measured) i; relation 
     lhs (weightedSum ts) = ap weightedSum (sums ts)
 
 module _ (n m : ℕ) (lo hi : ℕ → ℤ) where
-  goal-conds : (cs : List (NumericCondition ℕ)) → All (λ (c : NumericCondition ℕ). MeasureIn (λ (i : ℕ). i < n) (c .measured)) cs → (l : List ℤ) (f : Name → ℤ) → Laid n l f → conditionsHold cs (integerAt l) ≡ conditionsHold (onSourceVariables cs) f
-  goal-conds cs i l f L = ap (λ (u : List (NumericCondition ℕ)). conditionsHold u (integerAt l)) (sym (num-lift n cs)) ∙ laid-conds n (onSourceVariables cs) l f (lift-in n cs i) L
+  goal-conds : (cs : List (NumericCondition ℕ)) → All (λ (c : NumericCondition ℕ). MeasureIn (λ (i : ℕ). i < n) (c .measured)) cs → (l : List ℤ) (f : Name → ℤ) → ValuesLaid n l f → conditionsHold cs (integerAt l) ≡ conditionsHold (onSourceVariables cs) f
+  goal-conds cs i l f L = ap (λ (u : List (NumericCondition ℕ)). conditionsHold u (integerAt l)) (sym (num-lift n cs)) ∙ values-laid-conditions n (onSourceVariables cs) l f (lift-in n cs i) L
 
-  fire-agree : (a : SourceAction) → ActionIn n m a → (X : State) → length (X .values) ≡ n → length (X .modes) ≡ m → Agree (SimT n m) (trySource lo hi X a) (tryNamedSource lo hi (byName X) a)
-  fire-agree a i X h k = agree-given (SimT n m) tst tst (record { values = putResult (result (a .effect) (integerAt (X .values))) (X .values); modes = setAll (a .modeEffects) (X .modes) }) (afterAction a (byName X)) refl
+  actions-agree : (a : SourceAction) → ActionIn n m a → (X : State) → length (X .values) ≡ n → length (X .modes) ≡ m → Agree (SourceAgrees n m) (trySource lo hi X a) (tryNamedSource lo hi (byName X) a)
+  actions-agree a i X h k = agree-given (SourceAgrees n m) tst tst (record { values = putResult (result (a .effect) (integerAt (X .values))) (X .values); modes = setAll (a .modeEffects) (X .modes) }) (afterAction a (byName X)) refl
       (λ t. (
         put-store (result (a .effect) (integerAt (X .values))) (X .values) tin .0 ∙ h,
         modes-all (a .modeEffects) m (X .modes) k (i .modeEffectsIn) (i .modeEffectsOnce) .0,
@@ -271,13 +271,13 @@ module _ (n m : ℕ) (lo hi : ℕ → ℤ) where
       tin : (p : ℕ × ℤ) → result (a .effect) (integerAt (X .values)) ≡ some p → p .0 < length (X .values)
       tin p e = subst (λ (c : ℕ). p .0 < c) (sym h) (target-in n (a .effect) (integerAt (X .values)) (i .effectIn) p e)
 
-  pub acts-agree : (acts : List SourceAction) → All (ActionIn n m) acts → (X : State) (s : NamedSource) (k : ℕ) → SimT n m X s → Agree (SimT n m) (sourceStep lo hi acts X k) (stepNamedSource lo hi acts s k)
-  acts-agree [] i X s k h = tt
-  acts-agree (a ∷ acts) (i, is) X s zero h = subst (λ (u : NamedSource). Agree (SimT n m) (trySource lo hi X a) (tryNamedSource lo hi u a)) (sym (h .2)) (fire-agree a i X (h .0) (h .1))
-  acts-agree (a ∷ acts) (i, is) X s (suc k) h = acts-agree acts is X s k h
+  pub source-steps-agree : (acts : List SourceAction) → All (ActionIn n m) acts → (X : State) (s : NamedSource) (k : ℕ) → SourceAgrees n m X s → Agree (SourceAgrees n m) (sourceStep lo hi acts X k) (stepNamedSource lo hi acts s k)
+  source-steps-agree [] i X s k h = tt
+  source-steps-agree (a ∷ acts) (i, is) X s zero h = subst (λ (u : NamedSource). Agree (SourceAgrees n m) (trySource lo hi X a) (tryNamedSource lo hi u a)) (sym (h .2)) (actions-agree a i X (h .0) (h .1))
+  source-steps-agree (a ∷ acts) (i, is) X s (suc k) h = source-steps-agree acts is X s k h
 
   -- a restricted state over lists that stands for a source state at rest
-  at-rest : (Y X : State) → length (X .values) ≡ n → length (X .modes) ≡ m → SimR n m Y (atRest (byName X)) → Y ≡ helpersAtRest X
+  at-rest : (Y X : State) → length (X .values) ≡ n → length (X .modes) ≡ m → RestrictedAgrees n m Y (atRest (byName X)) → Y ≡ helpersAtRest X
   at-rest Y X h k (L, M) = λ i. record { values = (L .is ∙ vs) i; modes = (M .is ∙ ms) i }
     where
       v-is : L .V₀ ≡ X .values
@@ -289,30 +289,30 @@ module _ (n m : ℕ) (lo hi : ℕ → ℤ) where
       ms : M .M₀ ++ (0 ∷ []) ≡ X .modes ++ (0 ∷ [])
       ms = ap (λ (u : List ℕ). u ++ (0 ∷ [])) (list-ext (M .M₀) (X .modes) 0 (M .lengths ∙ sym k) (λ j. ap (λ (f : ℕ → ℕ). f j) (sym (M .reads))))
 
-  emb-sim : (X : State) → length (X .values) ≡ n → length (X .modes) ≡ m → SimR n m (helpersAtRest X) (atRest (byName X))
-  emb-sim X h k = (record { V₀ = X .values; a = pos 0; b = pos 0; lengths = h; is = refl; reads = refl }, record { M₀ = X .modes; lengths = k; is = refl; reads = refl })
+  rest-agrees : (X : State) → length (X .values) ≡ n → length (X .modes) ≡ m → RestrictedAgrees n m (helpersAtRest X) (atRest (byName X))
+  rest-agrees X h k = (record { V₀ = X .values; a = pos 0; b = pos 0; lengths = h; is = refl; reads = refl }, record { M₀ = X .modes; lengths = k; is = refl; reads = refl })
 
   module _ (acts : List SourceAction) (acts-in : All (ActionIn n m) acts) where
-    expand-sim : (p : List ℕ) (X : State) (s : NamedSource) → SimT n m X s
+    expansions-agree : (p : List ℕ) (X : State) (s : NamedSource) → SourceAgrees n m X s
         → expandFrom (sourceStep lo hi acts) (opening lo hi acts) (stageStepsFrom lo hi acts) p X ≡ expandFrom (stepNamedSource lo hi acts) (opening lo hi acts) (stageSteps lo hi acts) p s
-    expand-sim [] X s h = refl
-    expand-sim (k ∷ p) X s h = λ i. opening lo hi acts k ∷ (stageSteps lo hi acts (sym (h .2) i) k ++ rest (sourceStep lo hi acts X k) (stepNamedSource lo hi acts s k) (acts-agree acts acts-in X s k h) (expand-sim p) i)
+    expansions-agree [] X s h = refl
+    expansions-agree (k ∷ p) X s h = λ i. opening lo hi acts k ∷ (stageSteps lo hi acts (sym (h .2) i) k ++ rest (sourceStep lo hi acts X k) (stepNamedSource lo hi acts s k) (source-steps-agree acts acts-in X s k h) (expansions-agree p) i)
       where
-        rest : (o : Option State) (o′ : Option NamedSource) → Agree (SimT n m) o o′
-            → ((X : State) (s : NamedSource) → SimT n m X s → expandFrom (sourceStep lo hi acts) (opening lo hi acts) (stageStepsFrom lo hi acts) p X ≡ expandFrom (stepNamedSource lo hi acts) (opening lo hi acts) (stageSteps lo hi acts) p s)
+        rest : (o : Option State) (o′ : Option NamedSource) → Agree (SourceAgrees n m) o o′
+            → ((X : State) (s : NamedSource) → SourceAgrees n m X s → expandFrom (sourceStep lo hi acts) (opening lo hi acts) (stageStepsFrom lo hi acts) p X ≡ expandFrom (stepNamedSource lo hi acts) (opening lo hi acts) (stageSteps lo hi acts) p s)
             → orEmpty o (expandFrom (sourceStep lo hi acts) (opening lo hi acts) (stageStepsFrom lo hi acts) p) ≡ orEmpty o′ (expandFrom (stepNamedSource lo hi acts) (opening lo hi acts) (stageSteps lo hi acts) p)
         rest none none a ih = refl
         rest none (some y) a ih = absurd a
         rest (some x) none a ih = absurd a
         rest (some x) (some y) a ih = ih x y a
 
-    total-sim : (p : List ℕ) (X : State) (s : NamedSource) → SimT n m X s → totalPrice (sourceStep lo hi acts) (priceFrom acts) p X ≡ totalPrice (stepNamedSource lo hi acts) (priceAt acts) p s
-    total-sim [] X s h = refl
-    total-sim (k ∷ p) X s h = ap₂ (λ (x y : ℕ). x + y) (ap (λ (u : NamedSource). priceAt acts u k) (sym (h .2)))
-        (rest (sourceStep lo hi acts X k) (stepNamedSource lo hi acts s k) (acts-agree acts acts-in X s k h) (total-sim p))
+    prices-agree : (p : List ℕ) (X : State) (s : NamedSource) → SourceAgrees n m X s → totalPrice (sourceStep lo hi acts) (priceFrom acts) p X ≡ totalPrice (stepNamedSource lo hi acts) (priceAt acts) p s
+    prices-agree [] X s h = refl
+    prices-agree (k ∷ p) X s h = ap₂ (λ (x y : ℕ). x + y) (ap (λ (u : NamedSource). priceAt acts u k) (sym (h .2)))
+        (rest (sourceStep lo hi acts X k) (stepNamedSource lo hi acts s k) (source-steps-agree acts acts-in X s k h) (prices-agree p))
       where
-        rest : (o : Option State) (o′ : Option NamedSource) → Agree (SimT n m) o o′
-            → ((X : State) (s : NamedSource) → SimT n m X s → totalPrice (sourceStep lo hi acts) (priceFrom acts) p X ≡ totalPrice (stepNamedSource lo hi acts) (priceAt acts) p s)
+        rest : (o : Option State) (o′ : Option NamedSource) → Agree (SourceAgrees n m) o o′
+            → ((X : State) (s : NamedSource) → SourceAgrees n m X s → totalPrice (sourceStep lo hi acts) (priceFrom acts) p X ≡ totalPrice (stepNamedSource lo hi acts) (priceAt acts) p s)
             → orZero o (totalPrice (sourceStep lo hi acts) (priceFrom acts) p) ≡ orZero o′ (totalPrice (stepNamedSource lo hi acts) (priceAt acts) p)
         rest none none a ih = refl
         rest none (some y) a ih = absurd a
@@ -322,76 +322,76 @@ module _ (n m : ℕ) (lo hi : ℕ → ℤ) where
     abbrev R : List NamedAction
     R = lowerActions lo hi 1 acts
 
-    restricted-agrees : (q : List ℕ) (X : State) → length (X .values) ≡ n → length (X .modes) ≡ m → Agree (SimR n m) (runPlan (restrictedStep (loweredActions n m lo hi acts)) q (helpersAtRest X)) (runPlan (stepNamed R) q (atRest (byName X)))
-    restricted-agrees q X h k = agree-run (SimR n m) (restrictedStep (loweredActions n m lo hi acts)) (stepNamed R) (λ Y y j. rows-agree n m R (lower-in n m lo hi acts 1 acts-in) Y y j) q (helpersAtRest X) (atRest (byName X)) (emb-sim X h k)
+    restricted-agrees : (q : List ℕ) (X : State) → length (X .values) ≡ n → length (X .modes) ≡ m → Agree (RestrictedAgrees n m) (runPlan (restrictedStep (loweredActions n m lo hi acts)) q (helpersAtRest X)) (runPlan (stepNamed R) q (atRest (byName X)))
+    restricted-agrees q X h k = agree-run (RestrictedAgrees n m) (restrictedStep (loweredActions n m lo hi acts)) (stepNamed R) (λ Y y j. restricted-steps-agree n m R (lower-in n m lo hi acts 1 acts-in) Y y j) q (helpersAtRest X) (atRest (byName X)) (rest-agrees X h k)
 
-    source-agrees : (p : List ℕ) (X : State) → length (X .values) ≡ n → length (X .modes) ≡ m → Agree (SimT n m) (runPlan (sourceStep lo hi acts) p X) (runPlan (stepNamedSource lo hi acts) p (byName X))
-    source-agrees p X h k = agree-run (SimT n m) (sourceStep lo hi acts) (stepNamedSource lo hi acts) (λ Y y j. acts-agree acts acts-in Y y j) p X (byName X) (h, k, refl)
+    source-agrees : (p : List ℕ) (X : State) → length (X .values) ≡ n → length (X .modes) ≡ m → Agree (SourceAgrees n m) (runPlan (sourceStep lo hi acts) p X) (runPlan (stepNamedSource lo hi acts) p (byName X))
+    source-agrees p X h k = agree-run (SourceAgrees n m) (sourceStep lo hi acts) (stepNamedSource lo hi acts) (λ Y y j. source-steps-agree acts acts-in Y y j) p X (byName X) (h, k, refl)
 
-    pub whole : (gp : List (ℕ × ℕ)) (gc : List (NumericCondition ℕ)) → All (λ (p : ℕ × ℕ). p .0 < m) gp → All (λ (c : NumericCondition ℕ). MeasureIn (λ (i : ℕ). i < n) (c .measured)) gc
+    pub numbered-plans-pair-off : (gp : List (ℕ × ℕ)) (gc : List (NumericCondition ℕ)) → All (λ (p : ℕ × ℕ). p .0 < m) gp → All (λ (c : NumericCondition ℕ). MeasureIn (λ (i : ℕ). i < n) (c .measured)) gc
         → (X₀ : State) → length (X₀ .values) ≡ n → length (X₀ .modes) ≡ m → Good lo hi (byName X₀)
         → Pairing (sourceStep lo hi acts) (restrictedStep (loweredActions n m lo hi acts)) helpersAtRest (opening lo hi acts) (sourceNumber lo hi acts) (stageStepsFrom lo hi acts) (priceFrom acts)
         X₀ (SourceGoal gp gc) (LoweredGoal m gp gc) 1_000_000
-    whole gp gc gpIn gcIn X₀ h k g = record {
+    numbered-plans-pair-off gp gc gpIn gcIn X₀ h k g = record {
       forth = λ p X′ r goal l.
-          let (s′, r′, sim) = agree-left (SimT n m) (runPlan (sourceStep lo hi acts) p X₀) (runPlan (stepNamedSource lo hi acts) p (byName X₀)) X′ (source-agrees p X₀ h k) r in
+          let (s′, r′, sim) = agree-left (SourceAgrees n m) (runPlan (sourceStep lo hi acts) p X₀) (runPlan (stepNamedSource lo hi acts) p (byName X₀)) X′ (source-agrees p X₀ h k) r in
           to p X′ s′ r′ sim goal l;
       lengths = λ p X′ r.
-          let (s′, r′, sim) = agree-left (SimT n m) (runPlan (sourceStep lo hi acts) p X₀) (runPlan (stepNamedSource lo hi acts) p (byName X₀)) X′ (source-agrees p X₀ h k) r in
-          ap length (ex-is p) ∙ P .lengths p s′ r′ ∙ sym (total-sim p X₀ (byName X₀) (h, k, refl));
+          let (s′, r′, sim) = agree-left (SourceAgrees n m) (runPlan (sourceStep lo hi acts) p X₀) (runPlan (stepNamedSource lo hi acts) p (byName X₀)) X′ (source-agrees p X₀ h k) r in
+          ap length (ex-is p) ∙ P .lengths p s′ r′ ∙ sym (prices-agree p X₀ (byName X₀) (h, k, refl));
       back = λ q Y r goal l.
-          let (y, r′, sim) = agree-left (SimR n m) (runPlan (restrictedStep (loweredActions n m lo hi acts)) q (helpersAtRest X₀)) (runPlan (stepNamed R) q (atRest (byName X₀))) Y (restricted-agrees q X₀ h k) r in
+          let (y, r′, sim) = agree-left (RestrictedAgrees n m) (runPlan (restrictedStep (loweredActions n m lo hi acts)) q (helpersAtRest X₀)) (runPlan (stepNamed R) q (atRest (byName X₀))) Y (restricted-agrees q X₀ h k) r in
           fro q Y y r′ sim goal l;
     }
       where
         P : Pairing (stepNamedSource lo hi acts) (stepNamed R) atRest (opening lo hi acts) (sourceNumber lo hi acts) (stageSteps lo hi acts) (priceAt acts) (byName X₀) (GoalS lo hi acts gp gc) (GoalR lo hi acts gp gc) 1_000_000
-        P = plans-pair-off lo hi acts gp gc (byName X₀) g
+        P = named-plans-pair-off lo hi acts gp gc (byName X₀) g
 
         ex : List ℕ → List ℕ
         ex p = expandFrom (sourceStep lo hi acts) (opening lo hi acts) (stageStepsFrom lo hi acts) p X₀
 
         ex-is : (p : List ℕ) → ex p ≡ expandFrom (stepNamedSource lo hi acts) (opening lo hi acts) (stageSteps lo hi acts) p (byName X₀)
-        ex-is p = expand-sim p X₀ (byName X₀) (h, k, refl)
+        ex-is p = expansions-agree p X₀ (byName X₀) (h, k, refl)
 
-        goal-in : (Y : State) (y : NamedState) → SimR n m Y y → LoweredGoal m gp gc Y → GoalR lo hi acts gp gc y
+        goal-in : (Y : State) (y : NamedState) → RestrictedAgrees n m Y y → LoweredGoal m gp gc Y → GoalR lo hi acts gp gc y
         goal-in Y y (L, M) (a, b) =
-            let (a₁, a₂) = both-out (modesHold gp (y .mode)) (eqb (y .control) 0) (subst T (laidM-holds m gp (Y .modes) (y .mode) (y .control) 0 gpIn M) a) in
+            let (a₁, a₂) = and-parts (modesHold gp (y .mode)) (eqb (y .control) 0) (subst T (modes-laid-hold m gp (Y .modes) (y .mode) (y .control) 0 gpIn M) a) in
             (a₁, subst T (goal-conds gc gcIn (Y .values) (y .value) L) b, eqb→eq (y .control) 0 a₂)
 
-        goal-out : (Y : State) (y : NamedState) → SimR n m Y y → GoalR lo hi acts gp gc y → LoweredGoal m gp gc Y
+        goal-out : (Y : State) (y : NamedState) → RestrictedAgrees n m Y y → GoalR lo hi acts gp gc y → LoweredGoal m gp gc Y
         goal-out Y y (L, M) (a, b, c) = (
-          subst T (sym (laidM-holds m gp (Y .modes) (y .mode) (y .control) 0 gpIn M)) (both-in (modesHold gp (y .mode)) (eqb (y .control) 0) a (subst (λ (u : ℕ). T (eqb u 0)) (sym c) tt)),
+          subst T (sym (modes-laid-hold m gp (Y .modes) (y .mode) (y .control) 0 gpIn M)) (and-intro (modesHold gp (y .mode)) (eqb (y .control) 0) a (subst (λ (u : ℕ). T (eqb u 0)) (sym c) tt)),
           subst T (sym (goal-conds gc gcIn (Y .values) (y .value) L)) b,
         )
 
         arrive : (q : List ℕ) (X′ : State) → length (X′ .values) ≡ n → length (X′ .modes) ≡ m → runPlan (stepNamed R) q (atRest (byName X₀)) ≡ some (atRest (byName X′)) → runPlan (restrictedStep (loweredActions n m lo hi acts)) q (helpersAtRest X₀) ≡ some (helpersAtRest X′)
         arrive q X′ hv hm r =
-            let (Y, r′, sim) = agree-right (SimR n m) (runPlan (restrictedStep (loweredActions n m lo hi acts)) q (helpersAtRest X₀)) (runPlan (stepNamed R) q (atRest (byName X₀))) (atRest (byName X′)) (restricted-agrees q X₀ h k) r in
+            let (Y, r′, sim) = agree-right (RestrictedAgrees n m) (runPlan (restrictedStep (loweredActions n m lo hi acts)) q (helpersAtRest X₀)) (runPlan (stepNamed R) q (atRest (byName X₀))) (atRest (byName X′)) (restricted-agrees q X₀ h k) r in
             r′ ∙ ap {B = Option State} some (at-rest Y X′ hv hm sim)
 
-        to : (p : List ℕ) (X′ : State) (s′ : NamedSource) → runPlan (stepNamedSource lo hi acts) p (byName X₀) ≡ some s′ → SimT n m X′ s′ → SourceGoal gp gc X′ → length (ex p) ≤ 1_000_000
+        to : (p : List ℕ) (X′ : State) (s′ : NamedSource) → runPlan (stepNamedSource lo hi acts) p (byName X₀) ≡ some s′ → SourceAgrees n m X′ s′ → SourceGoal gp gc X′ → length (ex p) ≤ 1_000_000
             → (runPlan (restrictedStep (loweredActions n m lo hi acts)) (ex p) (helpersAtRest X₀) ≡ some (helpersAtRest X′)) × LoweredGoal m gp gc (helpersAtRest X′) × (keep (sourceNumber lo hi acts) (ex p) ≡ p)
             × (length (ex p) ≡ totalPrice (sourceStep lo hi acts) (priceFrom acts) p X₀)
         to p X′ s′ r (hv, hm, e) goal l =
             let (rr, gr, kp, ln) = P .forth p (byName X′) (subst (λ (u : NamedSource). runPlan (stepNamedSource lo hi acts) p (byName X₀) ≡ some u) e r) goal (subst (λ (u : List ℕ). length u ≤ 1_000_000) (ex-is p) l) in (
               ap (λ (u : List ℕ). runPlan (restrictedStep (loweredActions n m lo hi acts)) u (helpersAtRest X₀)) (ex-is p) ∙ arrive (expandFrom (stepNamedSource lo hi acts) (opening lo hi acts) (stageSteps lo hi acts) p (byName X₀)) X′ hv hm rr,
-              goal-out (helpersAtRest X′) (atRest (byName X′)) (emb-sim X′ hv hm) gr,
+              goal-out (helpersAtRest X′) (atRest (byName X′)) (rest-agrees X′ hv hm) gr,
               ap (keep (sourceNumber lo hi acts)) (ex-is p) ∙ kp,
-              ap length (ex-is p) ∙ ln ∙ sym (total-sim p X₀ (byName X₀) (h, k, refl)),
+              ap length (ex-is p) ∙ ln ∙ sym (prices-agree p X₀ (byName X₀) (h, k, refl)),
             )
 
-        fro : (q : List ℕ) (Y : State) (y : NamedState) → runPlan (stepNamed R) q (atRest (byName X₀)) ≡ some y → SimR n m Y y → LoweredGoal m gp gc Y → length q ≤ 1_000_000
+        fro : (q : List ℕ) (Y : State) (y : NamedState) → runPlan (stepNamed R) q (atRest (byName X₀)) ≡ some y → RestrictedAgrees n m Y y → LoweredGoal m gp gc Y → length q ≤ 1_000_000
             → (X′ : State) × (runPlan (sourceStep lo hi acts) (keep (sourceNumber lo hi acts) q) X₀ ≡ some X′) × SourceGoal gp gc X′ × (Y ≡ helpersAtRest X′) × (ex (keep (sourceNumber lo hi acts) q) ≡ q) × (length (ex (keep (sourceNumber lo hi acts) q)) ≤ 1_000_000)
         fro q Y y r sim goal l =
             let (s′, rs, gs, ys, exq, ln) = P .back q y r (goal-in Y y sim goal) l in
-            let (X′, rx, hv, hm, e) = flat (agree-right (SimT n m) (runPlan (sourceStep lo hi acts) (keep (sourceNumber lo hi acts) q) X₀) (runPlan (stepNamedSource lo hi acts) (keep (sourceNumber lo hi acts) q) (byName X₀)) s′ (source-agrees (keep (sourceNumber lo hi acts) q) X₀ h k) rs) in (
+            let (X′, rx, hv, hm, e) = flat (agree-right (SourceAgrees n m) (runPlan (sourceStep lo hi acts) (keep (sourceNumber lo hi acts) q) X₀) (runPlan (stepNamedSource lo hi acts) (keep (sourceNumber lo hi acts) q) (byName X₀)) s′ (source-agrees (keep (sourceNumber lo hi acts) q) X₀ h k) rs) in (
               X′,
               rx,
               subst (GoalS lo hi acts gp gc) e gs,
-              at-rest Y X′ hv hm (subst (SimR n m Y) (ys ∙ ap atRest e) sim),
+              at-rest Y X′ hv hm (subst (RestrictedAgrees n m Y) (ys ∙ ap atRest e) sim),
               ex-is (keep (sourceNumber lo hi acts) q) ∙ exq,
               subst (λ (u : List ℕ). length u ≤ 1_000_000) (sym (ex-is (keep (sourceNumber lo hi acts) q))) ln,
             )
           where
-            flat : {Q : State → Type 0} {s : NamedSource} → (X : State) × Q X × SimT n m X s → (X : State) × Q X × (length (X .values) ≡ n) × (length (X .modes) ≡ m) × (s ≡ byName X)
+            flat : {Q : State → Type 0} {s : NamedSource} → (X : State) × Q X × SourceAgrees n m X s → (X : State) × Q X × (length (X .values) ≡ n) × (length (X .modes) ≡ m) × (s ≡ byName X)
             flat (X, q, (hv, hm, e)) = (X, q, hv, hm, e)

@@ -7,7 +7,7 @@ use native.Mathlib.Nat.{add-zero}
 use native.Mathlib.Omega.{arith}
 use mathlib.Core.Bool.{_&&_, Bool, true, false, not, cond}
 use mathlib.Core.Option.{Option, none, some}
-use mathlib.Core.List.{List, [], _∷_, _++_}
+use mathlib.Core.List.{append-assoc, List, [], _∷_, _++_}
 use lib.ListN.{length, length-append, getElem?}
 use lib.Dec.{T, eqb, eqb→eq}
 use lib.IntN.{ℤ, pos, _+ℤ_, _*ℤ_}
@@ -21,10 +21,10 @@ use Rattle.integers.specs.Relation.{related}
 use Rattle.model.specs.NamedSystems.{setModes, NamedState, applies, apply, tryNamed, stepNamed, NamedSource, store, conditionsMet, tryNamedSource, stepNamedSource, walkToDeadEnd, atRest, priceToDeadEnd, entered, stageSteps, priceAt, deadEndSteps, deadEndPrice, afterAction}
 use Rattle.model.specs.Stages.{Name, NamedAction, Stage, stagesActions, firstStage, stagesOf, addedBound, onSourceTerms, onSource, onSourceVariables, openingAction, macro, lowerActions, opening, sourceNumber, countActions}
 use Rattle.model.specs.Expansion.{stageWalk, namedValues, priceOfEffect}
-use Rattle.model.proofs.Pairing.{app-assoc, bind-inv, not-both, same-some}
-use Rattle.model.proofs.StageWalk.{both-in, both-out, given-inv, given-yes, applies-out, Rest, at, Under, all-app, all-map, get-past, walk-ok, walk-stuck}
-use Rattle.model.proofs.StageValues.{EffectWalk, effect, tested, late, all-fine}
-use Rattle.model.proofs.MacroPlace.{Where, locate, first-of, opn-none, own-opn, own-in, walk-length, walkTo-length, walk-range, Between}
+use Rattle.model.proofs.Pairing.{bind-gives, none-not-some, some-unique}
+use Rattle.model.proofs.StageWalk.{and-intro, and-parts, provided-gives, provided-holds, applies-out, Rest, at, Under, all-app, all-map, get-past, stages-walked, stages-hang}
+use Rattle.model.proofs.StageValues.{EffectWalk, effect, tests-agree, moveTest, all-fine}
+use Rattle.model.proofs.MacroPlace.{Where, locate, first-of, no-opening-past-the-last, opening-has-its-source, stage-has-no-source, walk-length, dead-end-length, walk-range, Between}
 
 conds-app : {I : Type 0} (xs ys : List (NumericCondition I)) (v : I → ℤ) → conditionsHold (xs ++ ys) v ≡ ((conditionsHold xs v) && (conditionsHold ys v))
 conds-app [] ys v = refl
@@ -34,9 +34,9 @@ conds-app (c ∷ xs) ys v = ap (_&&_ (related (c .relation) (measure (c .measure
     both-assoc true b c = refl
     both-assoc false b c = refl
 
-pub conds-lift : (cs : List (NumericCondition ℕ)) (v : ℕ → ℤ) (a b : ℤ) → conditionsHold (onSourceVariables cs) (namedValues v a b) ≡ conditionsHold cs v
-conds-lift [] v a b = refl
-conds-lift (c ∷ cs) v a b = ap₂ (λ (z : ℤ) (x : Bool). ((related (c .relation) z (c .constant)) && x)) (lhs (c .measured)) (conds-lift cs v a b)
+pub source-conditions-lift : (cs : List (NumericCondition ℕ)) (v : ℕ → ℤ) (a b : ℤ) → conditionsHold (onSourceVariables cs) (namedValues v a b) ≡ conditionsHold cs v
+source-conditions-lift [] v a b = refl
+source-conditions-lift (c ∷ cs) v a b = ap₂ (λ (z : ℤ) (x : Bool). ((related (c .relation) z (c .constant)) && x)) (lhs (c .measured)) (source-conditions-lift cs v a b)
   where
     sums : (ts : List (ℕ × ℤ)) → weigh (onSourceTerms ts) (namedValues v a b) ≡ weigh ts v
     sums [] = refl
@@ -67,7 +67,7 @@ not-right true b t = t
 not-right false b t = tt
 
 no-some : {A : Type 0} {o : Option A} → o ≡ none → (y : A) → ¬ (o ≡ some y)
-no-some e y f = not-both e f
+no-some e y f = none-not-some e f
 
 module _ (lo hi : ℕ → ℤ) where
   -- every value within its bounds
@@ -81,22 +81,22 @@ module _ (lo hi : ℕ → ℤ) where
     where
       go : (b : Bool) → eqb (p .0) j ≡ b → T (leZ (lo j) (cond b (p .1) (v j))) × T (leZ (cond b (p .1) (v j)) (hi j))
       go true e = subst (λ (i : ℕ). T (leZ (lo i) (p .1)) × T (leZ (p .1) (hi i))) (eqb→eq (p .0) j (subst T (sym e) tt))
-          (both-out (leZ (lo (p .0)) (p .1)) (leZ (p .1) (hi (p .0))) t)
+          (and-parts (leZ (lo (p .0)) (p .1)) (leZ (p .1) (hi (p .0))) t)
       go false e = g j
 
   -- when the first action applies
   opens : (s : ℕ) (a : SourceAction) (x : NamedSource) → applies (openingAction lo hi s a) (atRest x) ≡ ((conditionsMet a x) && (conditionsHold (addedBound lo hi (a .effect)) (namedValues (x .value) (pos 0) (pos 0))))
   opens s a x = ap (_&&_ (modesHold (a .modeConditions) (x .mode)))
       (conds-app (onSourceVariables (a .conditions)) (addedBound lo hi (a .effect)) (namedValues (x .value) (pos 0) (pos 0))
-      ∙ ap (λ (b : Bool). (b && (conditionsHold (addedBound lo hi (a .effect)) (namedValues (x .value) (pos 0) (pos 0))))) (conds-lift (a .conditions) (x .value) (pos 0) (pos 0)))
+      ∙ ap (λ (b : Bool). (b && (conditionsHold (addedBound lo hi (a .effect)) (namedValues (x .value) (pos 0) (pos 0))))) (source-conditions-lift (a .conditions) (x .value) (pos 0) (pos 0)))
       ∙ both-again (modesHold (a .modeConditions) (x .mode)) (conditionsHold (a .conditions) (x .value)) (conditionsHold (addedBound lo hi (a .effect)) (namedValues (x .value) (pos 0) (pos 0)))
 
   module _ (acts : List SourceAction) where
     abbrev R : List NamedAction
     R = lowerActions lo hi 1 acts
 
-    abbrev Out : NamedSource → ℕ → Type 0
-    Out s k = Outcome (stepNamedSource lo hi acts) (stepNamed R) Rest atRest Good (opening lo hi acts) (sourceNumber lo hi acts) (stageSteps lo hi acts) (priceAt acts) (deadEndSteps lo hi acts) s k
+    abbrev OutcomeOf : NamedSource → ℕ → Type 0
+    OutcomeOf s k = Outcome (stepNamedSource lo hi acts) (stepNamed R) Rest atRest Good (opening lo hi acts) (sourceNumber lo hi acts) (stageSteps lo hi acts) (priceAt acts) (deadEndSteps lo hi acts) s k
 
     module _ (s : NamedSource) (g : Good s) (k : ℕ) (a : SourceAction) (e : getElem? acts k ≡ some a) (w : Where lo hi acts 1 k a) where
       abbrev v₀ : Name → ℤ
@@ -134,7 +134,7 @@ module _ (lo hi : ℕ → ℤ) where
       pre₁ = w .pre ++ (openingAction lo hi (w .from) a ∷ [])
 
       split₁ : R ≡ pre₁ ++ (stagesActions (w .from) ds ++ w .post)
-      split₁ = w .split ∙ sym (app-assoc (w .pre) (openingAction lo hi (w .from) a ∷ []) (stagesActions (w .from) ds ++ w .post))
+      split₁ = w .split ∙ sym (append-assoc (w .pre) (openingAction lo hi (w .from) a ∷ []) (stagesActions (w .from) ds ++ w .post))
 
       under₁ : Under (w .from) pre₁
       under₁ = all-app (λ (r : NamedAction). r .control < w .from) (w .pre) (openingAction lo hi (w .from) a ∷ []) (w .under) (w .after, tt)
@@ -145,60 +145,60 @@ module _ (lo hi : ℕ → ℤ) where
       E : EffectWalk lo hi (a .effect) (s .value)
       E = effect lo hi (a .effect) (s .value)
 
-      finish : T (late lo hi (a .effect) (s .value)) → Forced (stepNamed R) Rest opened (stageWalk (suc (opening lo hi acts k)) ds v₁) (atRest (afterAction a s))
+      finish : T (moveTest lo hi (a .effect) (s .value)) → Forced (stepNamed R) Rest opened (stageWalk (suc (opening lo hi acts k)) ds v₁) (atRest (afterAction a s))
       finish l = subst (λ (b : ℕ). Forced (stepNamed R) Rest opened (stageWalk b ds v₁) (atRest (afterAction a s))) long₁
           (subst (λ (f : Name → ℤ). Forced (stepNamed R) Rest opened (stageWalk (length pre₁) ds v₁) (at f m₁ 0)) (E .runs .ending)
-          (walk-ok R m₁ ds (w .from) pre₁ (w .post) v₁ split₁ (w .after) under₁ (w .past) (all-fine lo hi (a .effect)) (subst T (sym (E .runs .passing)) l)))
+          (stages-walked R m₁ ds (w .from) pre₁ (w .post) v₁ split₁ (w .after) under₁ (w .past) (all-fine lo hi (a .effect)) (subst T (sym (E .runs .passing)) l)))
 
       stuck-is : (z : NamedState) → Forced (stepNamed R) Rest opened (walkToDeadEnd (length pre₁) ds v₁) z → Forced (stepNamed R) Rest opened (deadEndSteps lo hi acts s k) z
       stuck-is z f = subst (λ (ks : List ℕ). Forced (stepNamed R) Rest opened ks z)
           (ap (λ (b : ℕ). walkToDeadEnd b ds v₁) long₁ ∙ sym (ap (λ (o : Option SourceAction). orEmpty o (λ a. walkToDeadEnd (suc (opening lo hi acts k)) (stagesOf lo hi (a .effect)) (entered a s))) e)) f
 
-      choose : T (conditionsMet a s) ⊎ T (not (conditionsMet a s)) → T bnd ⊎ T (not bnd) → T (late lo hi (a .effect) (s .value)) ⊎ T (not (late lo hi (a .effect) (s .value))) → Out s k
+      choose : T (conditionsMet a s) ⊎ T (not (conditionsMet a s)) → T bnd ⊎ T (not bnd) → T (moveTest lo hi (a .effect) (s .value)) ⊎ T (not (moveTest lo hi (a .effect) (s .value))) → OutcomeOf s k
       choose (inr n) _ _ = notOpened (src-step ∙ given-no (((conditionsMet a s) && ins)) (afterAction a s) (not-left (conditionsMet a s) ins n))
           (no-some (dst-step ∙ given-no (((conditionsMet a s) && bnd)) opened (not-left (conditionsMet a s) bnd n)))
       choose (inl f) (inr n) _ = notOpened
-          (src-step ∙ given-no (((conditionsMet a s) && ins)) (afterAction a s) (not-right (conditionsMet a s) ins (subst (λ (b : Bool). T (not b)) (tested lo hi (a .effect) (s .value) g) (not-left bnd (late lo hi (a .effect) (s .value)) n))))
+          (src-step ∙ given-no (((conditionsMet a s) && ins)) (afterAction a s) (not-right (conditionsMet a s) ins (subst (λ (b : Bool). T (not b)) (tests-agree lo hi (a .effect) (s .value) g) (not-left bnd (moveTest lo hi (a .effect) (s .value)) n))))
           (no-some (dst-step ∙ given-no (((conditionsMet a s) && bnd)) opened (not-right (conditionsMet a s) bnd n)))
       choose (inl f) (inl b) (inr n) =
-          let (z, fo, st) = walk-stuck R m₁ ds (w .from) pre₁ (w .post) v₁ split₁ (w .after) under₁ (w .past) (all-fine lo hi (a .effect)) (subst (λ (c : Bool). T (not c)) (sym (E .runs .passing)) n) in
+          let (z, fo, st) = stages-hang R m₁ ds (w .from) pre₁ (w .post) v₁ split₁ (w .after) under₁ (w .past) (all-fine lo hi (a .effect)) (subst (λ (c : Bool). T (not c)) (sym (E .runs .passing)) n) in
           hangs opened z
-          (src-step ∙ given-no (((conditionsMet a s) && ins)) (afterAction a s) (not-right (conditionsMet a s) ins (subst (λ (c : Bool). T (not c)) (tested lo hi (a .effect) (s .value) g) (not-right bnd (late lo hi (a .effect) (s .value)) n))))
-          (dst-step ∙ given-yes (((conditionsMet a s) && bnd)) opened (both-in (conditionsMet a s) bnd f b)) (stuck-is z fo) st
+          (src-step ∙ given-no (((conditionsMet a s) && ins)) (afterAction a s) (not-right (conditionsMet a s) ins (subst (λ (c : Bool). T (not c)) (tests-agree lo hi (a .effect) (s .value) g) (not-right bnd (moveTest lo hi (a .effect) (s .value)) n))))
+          (dst-step ∙ provided-holds (((conditionsMet a s) && bnd)) opened (and-intro (conditionsMet a s) bnd f b)) (stuck-is z fo) st
       choose (inl f) (inl b) (inl l) =
           completes (afterAction a s) opened
-          (src-step ∙ given-yes (((conditionsMet a s) && ins)) (afterAction a s) (both-in (conditionsMet a s) ins f in-ok))
+          (src-step ∙ provided-holds (((conditionsMet a s) && ins)) (afterAction a s) (and-intro (conditionsMet a s) ins f in-ok))
           (stored (result (a .effect) (s .value)) (s .value) g in-ok)
-          (dst-step ∙ given-yes (((conditionsMet a s) && bnd)) opened (both-in (conditionsMet a s) bnd f b))
+          (dst-step ∙ provided-holds (((conditionsMet a s) && bnd)) opened (and-intro (conditionsMet a s) bnd f b))
           (subst (λ (ks : List ℕ). Forced (stepNamed R) Rest opened ks (atRest (afterAction a s))) (sym tail-is) (finish l))
-          (own-opn lo hi acts k a e)
+          (opening-has-its-source lo hi acts k a e)
           (subst (All (λ (j : ℕ). sourceNumber lo hi acts j ≡ none)) (sym tail-is)
           (all-map (Between (suc (opening lo hi acts k)) (suc (opening lo hi acts k) + countActions ds)) (λ (j : ℕ). sourceNumber lo hi acts j ≡ none)
-          (λ j r. own-in lo hi acts k a j e (r .0) (omega (arith, r .1)))
+          (λ j r. stage-has-no-source lo hi acts k a j e (r .0) (omega (arith, r .1)))
           (stageWalk (suc (opening lo hi acts k)) ds v₁) (walk-range (suc (opening lo hi acts k)) ds v₁)))
           (ap (λ (o : Option SourceAction). orZero o (λ a. priceOfEffect (a .effect) (s .value))) e ∙ E .priced
           ∙ ap suc (sym (E .runs .costing) ∙ sym (walk-length (suc (opening lo hi acts k)) ds v₁) ∙ ap length (sym tail-is)))
         where
           in-ok : T ins
-          in-ok = subst T (tested lo hi (a .effect) (s .value) g) (both-in bnd (late lo hi (a .effect) (s .value)) b l)
+          in-ok = subst T (tests-agree lo hi (a .effect) (s .value) g) (and-intro bnd (moveTest lo hi (a .effect) (s .value)) b l)
 
           tail-is : stageSteps lo hi acts s k ≡ stageWalk (suc (opening lo hi acts k)) ds v₁
           tail-is = ap (λ (o : Option SourceAction). orEmpty o (λ a. stageWalk (suc (opening lo hi acts k)) (stagesOf lo hi (a .effect)) (entered a s))) e
 
-    outcome : (s : NamedSource) → Good s → (k : ℕ) → Out s k
+    outcome : (s : NamedSource) → Good s → (k : ℕ) → OutcomeOf s k
     outcome s g k = go (getElem? acts k) refl
       where
-        go : (o : Option SourceAction) → getElem? acts k ≡ o → Out s k
+        go : (o : Option SourceAction) → getElem? acts k ≡ o → OutcomeOf s k
         go none e = notOpened (ap (λ (o : Option SourceAction). bind o (tryNamedSource lo hi s)) e)
-            (no-some (ap (λ (o : Option NamedAction). bind o (tryNamed (atRest s))) (opn-none lo hi acts 1 k e)))
+            (no-some (ap (λ (o : Option NamedAction). bind o (tryNamed (atRest s))) (no-opening-past-the-last lo hi acts 1 k e)))
         go (some a) e = choose s g k a e (locate lo hi acts 1 k a (omega arith) e) (either (conditionsMet a s)) (either (conditionsHold (addedBound lo hi (a .effect)) (namedValues (s .value) (pos 0) (pos 0))))
-            (either (late lo hi (a .effect) (s .value)))
+            (either (moveTest lo hi (a .effect) (s .value)))
 
     pub lowers : Lowers (stepNamedSource lo hi acts) (stepNamed R) Rest atRest Good (opening lo hi acts) (sourceNumber lo hi acts) (stageSteps lo hi acts) (priceAt acts) (deadEndSteps lo hi acts)
     lowers = record {
       rests = λ s. refl;
-      onlyOpenings = λ s k y e. let (r, e₁, e₂) = bind-inv (getElem? R k) (tryNamed (atRest s)) y e in
-          first-of lo hi acts 1 k r (omega arith) e₁ (sym (applies-out r (atRest s) (given-inv (applies r (atRest s)) (apply r (atRest s)) y e₂ .0) .0));
+      onlyOpenings = λ s k y e. let (r, e₁, e₂) = bind-gives (getElem? R k) (tryNamed (atRest s)) y e in
+          first-of lo hi acts 1 k r (omega arith) e₁ (sym (applies-out r (atRest s) (provided-gives (applies r (atRest s)) (apply r (atRest s)) y e₂ .0) .0));
       outcomes = outcome;
     }
 
@@ -207,7 +207,7 @@ module _ (lo hi : ℕ → ℤ) where
       where
         go : (o : Option SourceAction) → length (orEmpty o (λ a. walkToDeadEnd (suc (opening lo hi acts k)) (stagesOf lo hi (a .effect)) (entered a s))) ≡ orZero o (λ a. priceToDeadEnd (stagesOf lo hi (a .effect)) (entered a s))
         go none = refl
-        go (some a) = walkTo-length (suc (opening lo hi acts k)) (stagesOf lo hi (a .effect)) (entered a s)
+        go (some a) = dead-end-length (suc (opening lo hi acts k)) (stagesOf lo hi (a .effect)) (entered a s)
 
     -- M-113. Behind an opening that applies (y is the state it leaves) there is one walk. Where the source action applies it ends at rest, and the steps,
     -- the opening among them, number the step price; otherwise it ends where nothing applies, after `stuckCost` steps.
@@ -219,7 +219,7 @@ module _ (lo hi : ℕ → ℤ) where
     pub no-move-hangs : (s : NamedSource) → Good s → (k : ℕ) (y : NamedState) → stepNamed R (atRest s) (opening lo hi acts k) ≡ some y → OneWalk s k y
     no-move-hangs s g k y o = go (outcome s g k)
       where
-        go : Out s k → OneWalk s k y
+        go : OutcomeOf s k → OneWalk s k y
         go (notOpened _ n) = absurd (n y o)
-        go (hangs y′ z e o′ f st) = inr (z, e, subst (λ (u : NamedState). Forced (stepNamed R) Rest u (deadEndSteps lo hi acts s k) z) (same-some o′ o) f, st, stuck-length s k)
-        go (completes s′ y′ e _ o′ f _ _ pr) = inl (s′, e, subst (λ (u : NamedState). Forced (stepNamed R) Rest u (stageSteps lo hi acts s k) (atRest s′)) (same-some o′ o) f, sym pr)
+        go (hangs y′ z e o′ f st) = inr (z, e, subst (λ (u : NamedState). Forced (stepNamed R) Rest u (deadEndSteps lo hi acts s k) z) (some-unique o′ o) f, st, stuck-length s k)
+        go (completes s′ y′ e _ o′ f _ _ pr) = inl (s′, e, subst (λ (u : NamedState). Forced (stepNamed R) Rest u (stageSteps lo hi acts s k) (atRest s′)) (some-unique o′ o) f, sym pr)

@@ -11,22 +11,18 @@ use Rattle.integers.specs.All.{All}
 use Rattle.model.specs.Walks.{Forced, Stuck, Outcome, notOpened, hangs, completes, Lowers}
 use Rattle.model.specs.Walks
 
-pub app-assoc : {A : Type 0} (xs ys zs : List A) → (xs ++ ys) ++ zs ≡ xs ++ (ys ++ zs)
-app-assoc [] ys zs = refl
-app-assoc (x ∷ xs) ys zs = ap (λ r. x ∷ r) (app-assoc xs ys zs)
+pub bind-gives : {A B : Type 0} (o : Option A) (f : A → Option B) (z : B) → bind o f ≡ some z → (y : A) × (o ≡ some y) × (f y ≡ some z)
+bind-gives none f z e = absurd (Option·none-ne-some z e)
+bind-gives (some y) f z e = (y, refl, e)
 
-pub bind-inv : {A B : Type 0} (o : Option A) (f : A → Option B) (z : B) → bind o f ≡ some z → (y : A) × (o ≡ some y) × (f y ≡ some z)
-bind-inv none f z e = absurd (Option·none-ne-some z e)
-bind-inv (some y) f z e = (y, refl, e)
+pub none-not-some : {A : Type 0} {o : Option A} {a : A} → o ≡ none → o ≡ some a → ⊥
+none-not-some {a = a} p q = Option·none-ne-some a (sym p ∙ q)
 
-pub not-both : {A : Type 0} {o : Option A} {a : A} → o ≡ none → o ≡ some a → ⊥
-not-both {a = a} p q = Option·none-ne-some a (sym p ∙ q)
+pub some-unique : {A : Type 0} {o : Option A} {a b : A} → o ≡ some a → o ≡ some b → a ≡ b
+some-unique {a = a} {b = b} p q = Option·some-injective a b (sym p ∙ q)
 
-pub same-some : {A : Type 0} {o : Option A} {a b : A} → o ≡ some a → o ≡ some b → a ≡ b
-same-some {a = a} {b = b} p q = Option·some-injective a b (sym p ∙ q)
-
-pub unsome : {A : Type 0} {a b : A} → _≡_ {A = Option A} (some a) (some b) → a ≡ b
-unsome {a = a} {b = b} e = Option·some-injective a b e
+pub some-injective : {A : Type 0} {a b : A} → _≡_ {A = Option A} (some a) (some b) → a ≡ b
+some-injective {a = a} {b = b} e = Option·some-injective a b e
 
 -- ---- walks
 module _ {X : Type 0} (step : X → ℕ → Option X) (Rest : X → Type 0) where
@@ -42,20 +38,20 @@ module _ {X : Type 0} (step : X → ℕ → Option X) (Rest : X → Type 0) wher
   pub forced-split : (ks q : List ℕ) (x z w : X) → Forced step Rest x ks z → runPlan step q x ≡ some w → Rest w
       → (q′ : List ℕ) × (q ≡ ks ++ q′) × (runPlan step q′ z ≡ some w)
   forced-split [] q x z w e r h = (q, refl, rw (← e) r)
-  forced-split (k ∷ ks) [] x z w (y, b, o, e, f) r h = absurd (b (rw (unsome r) h))
-  forced-split (k ∷ ks) (j ∷ q) x z w (y, b, o, e, f) r h = let (y′, e′, r′) = bind-inv (step x j) (runPlan step q) w r in go y′ e′ r′ (λ r″. forced-split ks q y z w f r″ h)
+  forced-split (k ∷ ks) [] x z w (y, b, o, e, f) r h = absurd (b (rw (some-injective r) h))
+  forced-split (k ∷ ks) (j ∷ q) x z w (y, b, o, e, f) r h = let (y′, e′, r′) = bind-gives (step x j) (runPlan step q) w r in go y′ e′ r′ (λ r″. forced-split ks q y z w f r″ h)
     where
       go : (y′ : X) → step x j ≡ some y′ → runPlan step q y′ ≡ some w → (runPlan step q y ≡ some w → (q′ : List ℕ) × (q ≡ ks ++ q′) × (runPlan step q′ z ≡ some w))
           → (q′ : List ℕ) × (j ∷ q ≡ k ∷ (ks ++ q′)) × (runPlan step q′ z ≡ some w)
       go y′ e′ r′ ih =
           let jk : j ≡ k = o j y′ e′ in
-          let yy : y′ ≡ y = same-some {o = step x k} (subst (λ (m : ℕ). step x m ≡ some y′) jk e′) e in
+          let yy : y′ ≡ y = some-unique {o = step x k} (subst (λ (m : ℕ). step x m ≡ some y′) jk e′) e in
           let (q′, eq, r″) = ih (subst (λ (u : X). runPlan step q u ≡ some w) yy r′) in
           (q′, (λ i. jk i ∷ eq i), r″)
 
   pub stuck-end : (q : List ℕ) (z w : X) → Stuck step Rest z → runPlan step q z ≡ some w → Rest w → ⊥
-  stuck-end [] z w (b, n) r h = b (rw (unsome r) h)
-  stuck-end (j ∷ q) z w (b, n) r h = let (y, e, r′) = bind-inv (step z j) (runPlan step q) w r in n j y e
+  stuck-end [] z w (b, n) r h = b (rw (some-injective r) h)
+  stuck-end (j ∷ q) z w (b, n) r h = let (y, e, r′) = bind-gives (step z j) (runPlan step q) w r in n j y e
 
 pub keep-quiet : (own : ℕ → Option ℕ) (ks ls : List ℕ) → All (λ (k : ℕ). own k ≡ none) ks → keep own (ks ++ ls) ≡ keep own ls
 keep-quiet own [] ls h = refl
@@ -70,14 +66,14 @@ module _ {S X : Type 0} (stepS : S → ℕ → Option S) (step : X → ℕ → O
       × (length (expandFrom stepS opn tail p s) ≡ totalPrice stepS price p s)
 
   there : (p : List ℕ) (s s′ : S) → Good s → runPlan stepS p s ≡ some s′ → There p s s′
-  there [] s s′ g e = (subst Good (unsome e) g, ap (λ (u : S). some (emb u)) (unsome e), refl, refl)
-  there (a ∷ p) s s′ g e = let (t, e₁, e₂) = bind-inv (stepS s a) (runPlan stepS p) s′ e in go t e₁ (L .outcomes s g a) (λ gt. there p t s′ gt e₂)
+  there [] s s′ g e = (subst Good (some-injective e) g, ap (λ (u : S). some (emb u)) (some-injective e), refl, refl)
+  there (a ∷ p) s s′ g e = let (t, e₁, e₂) = bind-gives (stepS s a) (runPlan stepS p) s′ e in go t e₁ (L .outcomes s g a) (λ gt. there p t s′ gt e₂)
     where
       go : (t : S) → stepS s a ≡ some t → Outcome stepS step Rest emb Good opn own tail price stuck s a → (Good t → There p t s′) → There (a ∷ p) s s′
-      go t e₁ (notOpened n _) k = absurd (not-both n e₁)
-      go t e₁ (hangs y z n _ _ _) k = absurd (not-both n e₁)
+      go t e₁ (notOpened n _) k = absurd (none-not-some n e₁)
+      go t e₁ (hangs y z n _ _ _) k = absurd (none-not-some n e₁)
       go t e₁ (completes t′ y et gt eo f ow qu pr) k =
-          let tt′ : t′ ≡ t = same-some et e₁ in
+          let tt′ : t′ ≡ t = some-unique et e₁ in
           let (g′, r, kp, ln) = k (subst Good tt′ gt) in
           let ex : List ℕ = expandFrom stepS opn tail p t in (
             g′,
@@ -90,11 +86,11 @@ module _ {S X : Type 0} (stepS : S → ℕ → Option S) (step : X → ℕ → O
   Back q s w = (s′ : S) × (runPlan stepS (keep own q) s ≡ some s′) × (w ≡ emb s′) × (expandFrom stepS opn tail (keep own q) s ≡ q)
 
   back : (n : ℕ) (q : List ℕ) → length q ≤ n → (s : S) (w : X) → Good s → runPlan step q (emb s) ≡ some w → Rest w → Back q s w
-  back zero [] l s w g r h = (s, refl, sym (unsome r), refl)
-  back (suc n) [] l s w g r h = (s, refl, sym (unsome r), refl)
+  back zero [] l s w g r h = (s, refl, sym (some-injective r), refl)
+  back (suc n) [] l s w g r h = (s, refl, sym (some-injective r), refl)
   back zero (k ∷ q) l s w g r h = absurd (omega arith)
   back (suc n) (k ∷ q) l s w g r h =
-      let (y, e, r′) = bind-inv (step (emb s) k) (runPlan step q) w r in
+      let (y, e, r′) = bind-gives (step (emb s) k) (runPlan step q) w r in
       let (a, ka) = L .onlyOpenings s k y e in
       go y e r′ a ka (L .outcomes s g a) (λ q′ l′ s′ g′ r″. back n q′ l′ s′ w g′ r″ h)
     where
@@ -111,10 +107,10 @@ module _ {S X : Type 0} (stepS : S → ℕ → Option S) (step : X → ℕ → O
           → ((q′ : List ℕ) → length q′ ≤ n → (s′ : S) → Good s′ → runPlan step q′ (emb s′) ≡ some w → Back q′ s′ w) → Back (k ∷ q) s w
       go y e r′ a ka (notOpened _ no′) ih = absurd (no′ y (at a ka y e))
       go y e r′ a ka (hangs y₁ z _ e₁ f st) ih =
-          let (q′, eq, r″) = forced-split step Rest (stuck s a) q y₁ z w f (along y y₁ (same-some (at a ka y e) e₁) r′) h in
+          let (q′, eq, r″) = forced-split step Rest (stuck s a) q y₁ z w f (along y y₁ (some-unique (at a ka y e) e₁) r′) h in
           absurd (stuck-end step Rest q′ z w st r″ h)
       go y e r′ a ka (completes s₁ y₁ es g₁ e₁ f ow qu pr) ih =
-          let (q′, eq, r″) = forced-split step Rest (tail s a) q y₁ (emb s₁) w f (along y y₁ (same-some (at a ka y e) e₁) r′) h in
+          let (q′, eq, r″) = forced-split step Rest (tail s a) q y₁ (emb s₁) w f (along y y₁ (some-unique (at a ka y e) e₁) r′) h in
           finish (tail s a) q′ eq qu refl (ih q′ (shorter (tail s a) q′ eq) s₁ g₁ r″)
         where
           finish : (ks q′ : List ℕ) → q ≡ ks ++ q′ → All (λ (m : ℕ). own m ≡ none) ks → tail s a ≡ ks → Back q′ s₁ w → Back (k ∷ q) s w

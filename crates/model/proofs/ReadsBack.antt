@@ -23,7 +23,7 @@ use Rattle.model.specs.Lowering.{startCommands, modeCommands, modeCondit
 use Rattle.model.specs.TaskOk.{ValuesIn, InRange, AmountOk, ModeOk, ConditionOk, ConditionsOk, RestrictedActionOk, RestrictedTaskOk}
 use Rattle.model.specs.InTask.{MeasureIn}
 use Rattle.model.proofs.CommandBytes.{Ok, twos-fits}
-use Rattle.model.proofs.Walk.{accepts, commands-back}
+use Rattle.model.proofs.Walk.{trail-accepted, trail-commands}
 use Rattle.model.proofs.StageWalk.{all-map}
 use Rattle.model.proofs.ReadingLaws.{length-keys}
 use Rattle.model.proofs.TrailOfTask.{const-back, trail, var-in}
@@ -214,6 +214,6 @@ module _ (r : RestrictedTask) (F : RestrictedTaskOk r) where
   pub reads-back : readRestricted (encodeFile r) ≡ given r
   unfolding encodeFile
   reads-back =
-      ap (λ (v : Verdict). onVerdict v (restrictedTaskOf (draftOf (commandsOf restrictedLimits (encodeAll (fileCommands r) ++ encode End))))) (accepts restrictedLimits (fileCommands r) (file-ok r F) (trail r F))
-      ∙ ap (λ (cs : List Command). given (restrictedTaskOf (draftOf cs))) (commands-back restrictedLimits (fileCommands r) (file-ok r F) (trail r F))
+      ap (λ (v : Verdict). onVerdict v (restrictedTaskOf (draftOf (commandsOf restrictedLimits (encodeAll (fileCommands r) ++ encode End))))) (trail-accepted restrictedLimits (fileCommands r) (file-ok r F) (trail r F))
+      ∙ ap (λ (cs : List Command). given (restrictedTaskOf (draftOf cs))) (trail-commands restrictedLimits (fileCommands r) (file-ok r F) (trail r F))
       ∙ ap given task-back

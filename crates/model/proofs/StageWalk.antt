@@ -7,7 +7,7 @@ use native.Mathlib.Nat.{suc-add, zero-add, add-zero, mod-lt, div-add-mod, mul-le
 use native.Mathlib.Omega.{arith}
 use mathlib.Core.Bool.{_&&_, Bool, true, false, not, cond}
 use mathlib.Core.Option.{Option, none, some, Option·none-ne-some}
-use mathlib.Core.List.{List, [], _∷_, _++_}
+use mathlib.Core.List.{append-assoc, List, [], _∷_, _++_}
 use lib.ListN.{length, length-append, getElem?, replicate}
 use lib.Dec.{T, eqb, eqb→eq, eqb-refl, T-not}
 use lib.IntN.{ℤ, pos, negsuc, negℤ, _+ℤ_, _*ℤ_}
@@ -20,34 +20,34 @@ use Rattle.model.specs.Stages.{Name, NamedAction, StageKind, byOne, byUn
 use Rattle.model.specs.Expansion.{sameName, additionTo, addTo, plus, strokes, unitsIn, timesAdded, afterStrokes, afterStage, stageWalk}
 use Rattle.model.specs.NamedSystems.{NamedState, applies, apply, tryNamed, stepNamed, walkToDeadEnd, passes, afterStages}
 use Rattle.integers.specs.Division.{floor, remainder}
-use Rattle.model.proofs.Pairing.{app-assoc, bind-inv, unsome, forced-app}
+use Rattle.model.proofs.Pairing.{bind-gives, some-injective, forced-app}
 use Rattle.integers.proofs.Parts.{ints, sum-parts, mul-up, mul-down, neg-up, neg-down}
 
-pub both-in : (a b : Bool) → T a → T b → T ((a && b))
-both-in true b s t = t
-both-in false b s t = s
+pub and-intro : (a b : Bool) → T a → T b → T ((a && b))
+and-intro true b s t = t
+and-intro false b s t = s
 
-pub both-out : (a b : Bool) → T ((a && b)) → T a × T b
-both-out true b t = (tt, t)
-both-out false b t = absurd t
+pub and-parts : (a b : Bool) → T ((a && b)) → T a × T b
+and-parts true b t = (tt, t)
+and-parts false b t = absurd t
 
 pub applies-in : (r : NamedAction) (x : NamedState) → x .control ≡ r .control → T (modesHold (r .modeConditions) (x .mode)) → T (conditionsHold (r .conditions) (x .value)) → T (applies r x)
-applies-in r x e p c = both-in (eqb (x .control) (r .control)) (((modesHold (r .modeConditions) (x .mode)) && (conditionsHold (r .conditions) (x .value))))
-    (subst (λ (n : ℕ). T (eqb (x .control) n)) e (eqb-refl (x .control))) (both-in (modesHold (r .modeConditions) (x .mode)) (conditionsHold (r .conditions) (x .value)) p c)
+applies-in r x e p c = and-intro (eqb (x .control) (r .control)) (((modesHold (r .modeConditions) (x .mode)) && (conditionsHold (r .conditions) (x .value))))
+    (subst (λ (n : ℕ). T (eqb (x .control) n)) e (eqb-refl (x .control))) (and-intro (modesHold (r .modeConditions) (x .mode)) (conditionsHold (r .conditions) (x .value)) p c)
 
 pub applies-out : (r : NamedAction) (x : NamedState) → T (applies r x) → (x .control ≡ r .control) × T (modesHold (r .modeConditions) (x .mode)) × T (conditionsHold (r .conditions) (x .value))
 applies-out r x t =
-    let (a, b) = both-out (eqb (x .control) (r .control)) (((modesHold (r .modeConditions) (x .mode)) && (conditionsHold (r .conditions) (x .value)))) t in
-    let (c, d) = both-out (modesHold (r .modeConditions) (x .mode)) (conditionsHold (r .conditions) (x .value)) b in
+    let (a, b) = and-parts (eqb (x .control) (r .control)) (((modesHold (r .modeConditions) (x .mode)) && (conditionsHold (r .conditions) (x .value)))) t in
+    let (c, d) = and-parts (modesHold (r .modeConditions) (x .mode)) (conditionsHold (r .conditions) (x .value)) b in
     (eqb→eq (x .control) (r .control) a, c, d)
 
-pub given-inv : {A : Type 0} (b : Bool) (a y : A) → provided b a ≡ some y → T b × (a ≡ y)
-given-inv true a y e = (tt, unsome e)
-given-inv false a y e = absurd (Option·none-ne-some y e)
+pub provided-gives : {A : Type 0} (b : Bool) (a y : A) → provided b a ≡ some y → T b × (a ≡ y)
+provided-gives true a y e = (tt, some-injective e)
+provided-gives false a y e = absurd (Option·none-ne-some y e)
 
-pub given-yes : {A : Type 0} (b : Bool) (a : A) → T b → provided b a ≡ some a
-given-yes true a t = refl
-given-yes false a t = absurd t
+pub provided-holds : {A : Type 0} (b : Bool) (a : A) → T b → provided b a ≡ some a
+provided-holds true a t = refl
+provided-holds false a t = absurd t
 
 -- ---- rows of a list
 pub get-past : {A : Type 0} (pre g : List A) (i : ℕ) → getElem? (pre ++ g) (length pre + i) ≡ getElem? g i
@@ -67,7 +67,7 @@ get-split (x ∷ pre) g (suc k) r e = go (get-split pre g k r e)
 
 pub all-get : {A : Type 0} (Q : A → Type 0) (l : List A) (k : ℕ) (r : A) → All Q l → getElem? l k ≡ some r → Q r
 all-get Q [] k r h e = absurd (Option·none-ne-some r e)
-all-get Q (x ∷ l) zero r (h, hs) e = subst Q (unsome e) h
+all-get Q (x ∷ l) zero r (h, hs) e = subst Q (some-injective e) h
 all-get Q (x ∷ l) (suc k) r (h, hs) e = all-get Q l k r hs e
 
 pub all-app : {A : Type 0} (Q : A → Type 0) (l m : List A) → All Q l → All Q m → All Q (l ++ m)
@@ -95,8 +95,8 @@ Off x u = T (applies u x) → ⊥
 module _ (R pre post : List NamedAction) (r : NamedAction) (split : R ≡ pre ++ (r ∷ post)) (x : NamedState) (off₁ : All (Off x) pre) (off₂ : All (Off x) post) where
   sole : T (applies r x) → (stepNamed R x (length pre) ≡ some (apply r x)) × Only (stepNamed R) Rest x (length pre)
   sole t = (
-    there ∙ given-yes (applies r x) (apply r x) t,
-    λ k y e. let (u, e₁, e₂) = bind-inv (getElem? R k) (tryNamed x) y e in only k u e₁ (given-inv (applies u x) (apply u x) y e₂ .0),
+    there ∙ provided-holds (applies r x) (apply r x) t,
+    λ k y e. let (u, e₁, e₂) = bind-gives (getElem? R k) (tryNamed x) y e in only k u e₁ (provided-gives (applies u x) (apply u x) y e₂ .0),
   )
     where
       there : stepNamed R x (length pre) ≡ tryNamed x r
@@ -114,7 +114,7 @@ module _ (R pre post : List NamedAction) (r : NamedAction) (split : R ≡ pre ++
           go (inr (i, q, f)) = later i q f
 
 none-on : (R : List NamedAction) (x : NamedState) → All (Off x) R → (k : ℕ) (y : NamedState) → ¬ (stepNamed R x k ≡ some y)
-none-on R x h k y e = let (u, e₁, e₂) = bind-inv (getElem? R k) (tryNamed x) y e in all-get (Off x) R k u h e₁ (given-inv (applies u x) (apply u x) y e₂ .0)
+none-on R x h k y e = let (u, e₁, e₂) = bind-gives (getElem? R k) (tryNamed x) y e in all-get (Off x) R k u h e₁ (provided-gives (applies u x) (apply u x) y e₂ .0)
 
 away-off : (s : ℕ) (l : List NamedAction) (v : Name → ℤ) (m : ℕ → ℕ) → Away s l → All (Off (at v m s)) l
 away-off s l v m h = all-map (λ (r : NamedAction). r .control ≢ s) (Off (at v m s)) (λ r n t. n (sym (applies-out r (at v m s) t .0))) l h
@@ -224,28 +224,28 @@ module _ (R pre post : List NamedAction) (s nx : ℕ) (d : Stage) (split : R ≡
 
   -- what the rows ask of the counter
   fall-says : (v : Name → ℤ) → T (applies (falling s d) (at v m s)) → T (leZ (pos (suc (leftOver (d .kind)))) (v (d .counter)))
-  fall-says v t = both-out (leZ (pos (suc (leftOver (d .kind)))) (v (d .counter))) true (applies-out (falling s d) (at v m s) t .2) .0
+  fall-says v t = and-parts (leZ (pos (suc (leftOver (d .kind)))) (v (d .counter))) true (applies-out (falling s d) (at v m s) t .2) .0
 
   rise-says : (v : Name → ℤ) → T (applies (rising s d) (at v m s)) → T (leZ (v (d .counter)) (negsuc 0))
-  rise-says v t = both-out (leZ (v (d .counter)) (negsuc 0)) true (applies-out (rising s d) (at v m s) t .2) .0
+  rise-says v t = and-parts (leZ (v (d .counter)) (negsuc 0)) true (applies-out (rising s d) (at v m s) t .2) .0
 
   turn-says : (v : Name → ℤ) → T (applies (turn s d nx) (at v m s)) → T (leZ (pos 0) (v (d .counter))) × T (leZ (v (d .counter)) (pos (leftOver (d .kind)))) × T (conditionsHold (d .turnConditions) v)
   turn-says v t =
-      let (a, b) = both-out (leZ (pos 0) (v (d .counter))) (((leZ (v (d .counter)) (pos (leftOver (d .kind)))) && (conditionsHold (d .turnConditions) v))) (applies-out (turn s d nx) (at v m s) t .2) in
-      let (b₁, b₂) = both-out (leZ (v (d .counter)) (pos (leftOver (d .kind)))) (conditionsHold (d .turnConditions) v) b in
+      let (a, b) = and-parts (leZ (pos 0) (v (d .counter))) (((leZ (v (d .counter)) (pos (leftOver (d .kind)))) && (conditionsHold (d .turnConditions) v))) (applies-out (turn s d nx) (at v m s) t .2) in
+      let (b₁, b₂) = and-parts (leZ (v (d .counter)) (pos (leftOver (d .kind)))) (conditionsHold (d .turnConditions) v) b in
       (a, b₁, b₂)
 
   on-fall : (v : Name → ℤ) → T (leZ (pos (suc (leftOver (d .kind)))) (v (d .counter))) → On v (length pre) (d .additions) s
   on-fall v h = sole R pre (rising s d ∷ turn s d nx ∷ post) (falling s d) split (at v m s) (pre-off v)
       ((λ t. omega (ints, h, rise-says v t)), ((λ t. omega (ints, h, turn-says v t .1)), post-off v))
-      (applies-in (falling s d) (at v m s) refl tt (both-in (leZ (pos (suc (leftOver (d .kind)))) (v (d .counter))) true h tt))
+      (applies-in (falling s d) (at v m s) refl tt (and-intro (leZ (pos (suc (leftOver (d .kind)))) (v (d .counter))) true h tt))
 
   on-rise : (v : Name → ℤ) → T (leZ (v (d .counter)) (negsuc 0)) → On v (suc (length pre)) (opposite (d .additions)) s
   on-rise v h = subst (λ (n : ℕ). On v n (opposite (d .additions)) s) (length-append pre (falling s d ∷ []) ∙ omega arith)
-      (sole R (pre ++ (falling s d ∷ [])) (turn s d nx ∷ post) (rising s d) (split ∙ sym (app-assoc pre (falling s d ∷ []) (rising s d ∷ turn s d nx ∷ post))) (at v m s)
+      (sole R (pre ++ (falling s d ∷ [])) (turn s d nx ∷ post) (rising s d) (split ∙ sym (append-assoc pre (falling s d ∷ []) (rising s d ∷ turn s d nx ∷ post))) (at v m s)
       (all-app (Off (at v m s)) pre (falling s d ∷ []) (pre-off v) ((λ t. omega (ints, h, fall-says v t)), tt))
       ((λ t. omega (ints, h, turn-says v t .0)), post-off v)
-      (applies-in (rising s d) (at v m s) refl tt (both-in (leZ (v (d .counter)) (negsuc 0)) true h tt)))
+      (applies-in (rising s d) (at v m s) refl tt (and-intro (leZ (v (d .counter)) (negsuc 0)) true h tt)))
 
   -- the same row k times over
   phase : (n : ℕ) (es : List (Name × ℤ)) (k : ℕ) (v : Name → ℤ) → ((j : ℕ) → j < k → On (times j es v) n es s)
@@ -290,18 +290,18 @@ module _ (R pre post : List NamedAction) (s nx : ℕ) (d : Stage) (split : R ≡
 
     turned : (v : Name → ℤ) → T (conditionsHold (d .turnConditions) (afterStrokes d v)) → Forced (stepNamed R) Rest (at (afterStrokes d v) m s) ((length pre + turnPlace (d .kind)) ∷ []) (at (afterStage d v) m nx)
     turned v h =
-        let (e, o) = sole R (pre ++ strokeActions s d) post (turn s d nx) (split ∙ sym (app-assoc pre (strokeActions s d) (turn s d nx ∷ post))) (at (afterStrokes d v) m s)
+        let (e, o) = sole R (pre ++ strokeActions s d) post (turn s d nx) (split ∙ sym (append-assoc pre (strokeActions s d) (turn s d nx ∷ post))) (at (afterStrokes d v) m s)
         (all-app (Off (at (afterStrokes d v) m s)) pre (strokeActions s d) (pre-off (afterStrokes d v)) (body-off v)) (post-off (afterStrokes d v))
         (applies-in (turn s d nx) (at (afterStrokes d v) m s) refl tt
-        (both-in (leZ (pos 0) (afterStrokes d v (d .counter))) (((leZ (afterStrokes d v (d .counter)) (pos (leftOver (d .kind)))) && (conditionsHold (d .turnConditions) (afterStrokes d v)))) (rested v .0)
-        (both-in (leZ (afterStrokes d v (d .counter)) (pos (leftOver (d .kind)))) (conditionsHold (d .turnConditions) (afterStrokes d v)) (rested v .1) h))) in
+        (and-intro (leZ (pos 0) (afterStrokes d v (d .counter))) (((leZ (afterStrokes d v (d .counter)) (pos (leftOver (d .kind)))) && (conditionsHold (d .turnConditions) (afterStrokes d v)))) (rested v .0)
+        (and-intro (leZ (afterStrokes d v (d .counter)) (pos (leftOver (d .kind)))) (conditionsHold (d .turnConditions) (afterStrokes d v)) (rested v .1) h))) in
         subst (λ (n : ℕ). Forced (stepNamed R) Rest (at (afterStrokes d v) m s) (n ∷ []) (at (afterStage d v) m nx))
         (length-append pre (strokeActions s d) ∙ ap (λ (n : ℕ). length pre + n) (body-length s d)) (at (afterStage d v) m nx, busy, o, e, refl)
 
     halted : (v : Name → ℤ) → T (not (conditionsHold (d .turnConditions) (afterStrokes d v))) → Stuck (stepNamed R) Rest (at (afterStrokes d v) m s)
     halted v h = (
       busy,
-      none-on R (at (afterStrokes d v) m s) (subst (All (Off (at (afterStrokes d v) m s))) (sym (split ∙ sym (app-assoc pre (strokeActions s d) (turn s d nx ∷ post))))
+      none-on R (at (afterStrokes d v) m s) (subst (All (Off (at (afterStrokes d v) m s))) (sym (split ∙ sym (append-assoc pre (strokeActions s d) (turn s d nx ∷ post))))
           (all-app (Off (at (afterStrokes d v) m s)) (pre ++ strokeActions s d) (turn s d nx ∷ post)
           (all-app (Off (at (afterStrokes d v) m s)) pre (strokeActions s d) (pre-off (afterStrokes d v)) (body-off v))
           ((λ t. T-not (conditionsHold (d .turnConditions) (afterStrokes d v)) h (turn-says (afterStrokes d v) t .2)), post-off (afterStrokes d v)))),
@@ -343,20 +343,20 @@ past-mono s t h l p = all-map (λ (r : NamedAction). (r .control ≡ 0) ⊎ (t �
 needs-s : (s : ℕ) (d : Stage) (nx : ℕ) → All (λ (r : NamedAction). r .control ≡ s) (stageActions s d nx)
 needs-s s d nx = (refl, (refl, (refl, tt)))
 
-pub rows-from : (s : ℕ) (ds : List Stage) → All (λ (r : NamedAction). s ≤ r .control) (stagesActions s ds)
-rows-from s [] = tt
-rows-from s (d ∷ ds) = all-app (λ (r : NamedAction). s ≤ r .control) (stageActions s d (firstStage (suc s) ds)) (stagesActions (suc s) ds)
+pub stages-from : (s : ℕ) (ds : List Stage) → All (λ (r : NamedAction). s ≤ r .control) (stagesActions s ds)
+stages-from s [] = tt
+stages-from s (d ∷ ds) = all-app (λ (r : NamedAction). s ≤ r .control) (stageActions s d (firstStage (suc s) ds)) (stagesActions (suc s) ds)
     (all-map (λ (r : NamedAction). r .control ≡ s) (λ (r : NamedAction). s ≤ r .control) (λ r h. omega arith) (stageActions s d (firstStage (suc s) ds)) (needs-s s d (firstStage (suc s) ds)))
-    (all-map (λ (r : NamedAction). suc s ≤ r .control) (λ (r : NamedAction). s ≤ r .control) (λ r h. omega arith) (stagesActions (suc s) ds) (rows-from (suc s) ds))
+    (all-map (λ (r : NamedAction). suc s ≤ r .control) (λ (r : NamedAction). s ≤ r .control) (λ r h. omega arith) (stagesActions (suc s) ds) (stages-from (suc s) ds))
 
-pub rows-past : (s : ℕ) (ds : List Stage) → Past s (stagesActions s ds)
-rows-past s ds = all-map (λ (r : NamedAction). s ≤ r .control) (λ (r : NamedAction). (r .control ≡ 0) ⊎ (s ≤ r .control)) (λ r h. inr h) (stagesActions s ds) (rows-from s ds)
+pub stages-past : (s : ℕ) (ds : List Stage) → Past s (stagesActions s ds)
+stages-past s ds = all-map (λ (r : NamedAction). s ≤ r .control) (λ (r : NamedAction). (r .control ≡ 0) ⊎ (s ≤ r .control)) (λ r h. inr h) (stagesActions s ds) (stages-from s ds)
 
-pub rows-under : (s : ℕ) (ds : List Stage) → Under (s + length ds) (stagesActions s ds)
-rows-under s [] = tt
-rows-under s (d ∷ ds) = all-app (λ (r : NamedAction). r .control < s + suc (length ds)) (stageActions s d (firstStage (suc s) ds)) (stagesActions (suc s) ds)
+pub stages-under : (s : ℕ) (ds : List Stage) → Under (s + length ds) (stagesActions s ds)
+stages-under s [] = tt
+stages-under s (d ∷ ds) = all-app (λ (r : NamedAction). r .control < s + suc (length ds)) (stageActions s d (firstStage (suc s) ds)) (stagesActions (suc s) ds)
     (all-map (λ (r : NamedAction). r .control ≡ s) (λ (r : NamedAction). r .control < s + suc (length ds)) (λ r h. omega arith) (stageActions s d (firstStage (suc s) ds)) (needs-s s d (firstStage (suc s) ds)))
-    (under-mono (suc s + length ds) (s + suc (length ds)) (omega arith) (stagesActions (suc s) ds) (rows-under (suc s) ds))
+    (under-mono (suc s + length ds) (s + suc (length ds)) (omega arith) (stagesActions (suc s) ds) (stages-under (suc s) ds))
 
 module _ (R : List NamedAction) (m : ℕ → ℕ) where
   -- one stage of a run, and where the next one stands
@@ -374,9 +374,9 @@ module _ (R : List NamedAction) (m : ℕ → ℕ) where
       → Place pre post s d ds
   place pre post s d ds e h u p = record {
     here = here;
-    nextControl = here ∙ sym (app-assoc pre (stageActions s d (firstStage (suc s) ds)) (stagesActions (suc s) ds ++ post));
+    nextControl = here ∙ sym (append-assoc pre (stageActions s d (firstStage (suc s) ds)) (stagesActions (suc s) ds ++ post));
     off₁ = under-away s pre u;
-    off₂ = all-app (λ (r : NamedAction). r .control ≢ s) (stagesActions (suc s) ds) post (past-away s h (stagesActions (suc s) ds) (rows-past (suc s) ds))
+    off₂ = all-app (λ (r : NamedAction). r .control ≢ s) (stagesActions (suc s) ds) post (past-away s h (stagesActions (suc s) ds) (stages-past (suc s) ds))
         (past-away s h post (past-mono (suc s) (s + suc (length ds)) (omega arith) post p));
     busy = omega arith;
     under = all-app (λ (r : NamedAction). r .control < suc s) pre (stageActions s d (firstStage (suc s) ds)) (under-mono s (suc s) (omega arith) pre u)
@@ -386,27 +386,27 @@ module _ (R : List NamedAction) (m : ℕ → ℕ) where
   }
     where
       here : R ≡ pre ++ (stageActions s d (firstStage (suc s) ds) ++ (stagesActions (suc s) ds ++ post))
-      here = e ∙ ap (λ (l : List NamedAction). pre ++ l) (app-assoc (stageActions s d (firstStage (suc s) ds)) (stagesActions (suc s) ds) post)
+      here = e ∙ ap (λ (l : List NamedAction). pre ++ l) (append-assoc (stageActions s d (firstStage (suc s) ds)) (stagesActions (suc s) ds) post)
 
-  pub walk-ok : (ds : List Stage) (s : ℕ) (pre post : List NamedAction) (v : Name → ℤ) → R ≡ pre ++ (stagesActions s ds ++ post) → 1 ≤ s → Under s pre → Past (s + length ds) post
+  pub stages-walked : (ds : List Stage) (s : ℕ) (pre post : List NamedAction) (v : Name → ℤ) → R ≡ pre ++ (stagesActions s ds ++ post) → 1 ≤ s → Under s pre → Past (s + length ds) post
       → All Fine ds → T (passes ds v) → Forced (stepNamed R) Rest (at v m (firstStage s ds)) (stageWalk (length pre) ds v) (at (afterStages ds v) m 0)
-  walk-ok [] s pre post v e h u p f t = refl
-  walk-ok (d ∷ ds) s pre post v e h u p (f, fs) t =
+  stages-walked [] s pre post v e h u p f t = refl
+  stages-walked (d ∷ ds) s pre post v e h u p (f, fs) t =
       let L : Place pre post s d ds = place pre post s d ds e h u p in
-      let (t₁, t₂) = both-out (conditionsHold (d .turnConditions) (afterStrokes d v)) (passes ds (afterStage d v)) t in
+      let (t₁, t₂) = and-parts (conditionsHold (d .turnConditions) (afterStrokes d v)) (passes ds (afterStage d v)) t in
       onward R pre (stagesActions (suc s) ds ++ post) s (firstStage (suc s) ds) d (L .here) (L .off₁) (L .off₂) (L .busy) m f v
       (stageWalk (suc (length pre + turnPlace (d .kind))) ds (afterStage d v)) (at (afterStages ds (afterStage d v)) m 0) t₁
       (subst (λ (b : ℕ). Forced (stepNamed R) Rest (at (afterStage d v) m (firstStage (suc s) ds)) (stageWalk b ds (afterStage d v)) (at (afterStages ds (afterStage d v)) m 0)) (L .lengths)
-      (walk-ok ds (suc s) (pre ++ stageActions s d (firstStage (suc s) ds)) post (afterStage d v) (L .nextControl) (omega arith) (L .under) (L .past) fs t₂))
+      (stages-walked ds (suc s) (pre ++ stageActions s d (firstStage (suc s) ds)) post (afterStage d v) (L .nextControl) (omega arith) (L .under) (L .past) fs t₂))
 
   -- up to the turn of the first stage whose test fails, and no further
-  pub walk-stuck : (ds : List Stage) (s : ℕ) (pre post : List NamedAction) (v : Name → ℤ) → R ≡ pre ++ (stagesActions s ds ++ post) → 1 ≤ s → Under s pre → Past (s + length ds) post
+  pub stages-hang : (ds : List Stage) (s : ℕ) (pre post : List NamedAction) (v : Name → ℤ) → R ≡ pre ++ (stagesActions s ds ++ post) → 1 ≤ s → Under s pre → Past (s + length ds) post
       → All Fine ds → T (not (passes ds v)) → (z : NamedState) × Forced (stepNamed R) Rest (at v m (firstStage s ds)) (walkToDeadEnd (length pre) ds v) z × Stuck (stepNamed R) Rest z
-  walk-stuck [] s pre post v e h u p f t = absurd t
-  walk-stuck (d ∷ ds) s pre post v e h u p (f, fs) t =
+  stages-hang [] s pre post v e h u p f t = absurd t
+  stages-hang (d ∷ ds) s pre post v e h u p (f, fs) t =
       let L : Place pre post s d ds = place pre post s d ds e h u p in
       go L (conditionsHold (d .turnConditions) (afterStrokes d v)) refl t
-      (walk-stuck ds (suc s) (pre ++ stageActions s d (firstStage (suc s) ds)) post (afterStage d v) (L .nextControl) (omega arith) (L .under) (L .past) fs)
+      (stages-hang ds (suc s) (pre ++ stageActions s d (firstStage (suc s) ds)) post (afterStage d v) (L .nextControl) (omega arith) (L .under) (L .past) fs)
     where
       go : Place pre post s d ds → (b : Bool) → conditionsHold (d .turnConditions) (afterStrokes d v) ≡ b → T (not ((b && (passes ds (afterStage d v)))))
           → (T (not (passes ds (afterStage d v)))

@@ -16,38 +16,38 @@ use Rattle.model.specs.Expansion.{addTo}
 use Rattle.model.specs.Steps.{valuesWithin, valuesWithinBounds, modesBelowSizes, soundRestricted, integerAt, naturalAt, addAll, setAll, appliesRestricted, applyRestricted, tryRestricted, restrictedStep}
 use Rattle.model.specs.Tasks.{State, RestrictedAction}
 use Rattle.model.specs.TaskOk.{ValuesIn}
-use Rattle.model.proofs.Pairing.{bind-inv}
-use Rattle.model.proofs.StageWalk.{both-in, given-inv, all-get}
+use Rattle.model.proofs.Pairing.{bind-gives}
+use Rattle.model.proofs.StageWalk.{and-intro, provided-gives, all-get}
 use Rattle.model.proofs.Arrays.{get-set}
 
 -- ---- values
-abbrev pub lookZ : List (ℕ × ℤ) → ℕ → Option ℤ
-lookZ [] i = none
-lookZ (e ∷ es) i = cond (eqb (e .0) i) (some (e .1)) (lookZ es i)
+abbrev pub additionAt : List (ℕ × ℤ) → ℕ → Option ℤ
+additionAt [] i = none
+additionAt (e ∷ es) i = cond (eqb (e .0) i) (some (e .1)) (additionAt es i)
 
-abbrev pub OnceZ : List (ℕ × ℤ) → Type 0
-OnceZ [] = Unit {0}
-OnceZ (e ∷ es) = (lookZ es (e .0) ≡ none) × OnceZ es
+abbrev pub AdditionsOnce : List (ℕ × ℤ) → Type 0
+AdditionsOnce [] = Unit {0}
+AdditionsOnce (e ∷ es) = (additionAt es (e .0) ≡ none) × AdditionsOnce es
 
 -- an element after an action's additions
-add-at : (es : List (ℕ × ℤ)) (n : ℕ) (l : List ℤ) → length l ≡ n → All (λ (e : ℕ × ℤ). e .0 < n) es → OnceZ es → (i : ℕ) → integerAt (addAll es l) i ≡ addTo (lookZ es i) (integerAt l i)
+add-at : (es : List (ℕ × ℤ)) (n : ℕ) (l : List ℤ) → length l ≡ n → All (λ (e : ℕ × ℤ). e .0 < n) es → AdditionsOnce es → (i : ℕ) → integerAt (addAll es l) i ≡ addTo (additionAt es i) (integerAt l i)
 add-at [] n l h j o i = refl
 add-at (e ∷ es) n l h (j, js) (o, os) i = add-at es n (set l (e .0) (integerAt l (e .0) +ℤ e .1)) (length-set l (e .0) (integerAt l (e .0) +ℤ e .1) ∙ h) js os i
-    ∙ ap (addTo (lookZ es i)) (get-set l (e .0) i (integerAt l (e .0) +ℤ e .1) (pos 0) (omega (arith, h, j))) ∙ pick (eqb (e .0) i) refl
+    ∙ ap (addTo (additionAt es i)) (get-set l (e .0) i (integerAt l (e .0) +ℤ e .1) (pos 0) (omega (arith, h, j))) ∙ pick (eqb (e .0) i) refl
   where
-    pick : (b : Bool) → eqb (e .0) i ≡ b → addTo (lookZ es i) (cond b (integerAt l (e .0) +ℤ e .1) (integerAt l i)) ≡ addTo (cond b (some (e .1)) (lookZ es i)) (integerAt l i)
+    pick : (b : Bool) → eqb (e .0) i ≡ b → addTo (additionAt es i) (cond b (integerAt l (e .0) +ℤ e .1) (integerAt l i)) ≡ addTo (cond b (some (e .1)) (additionAt es i)) (integerAt l i)
     pick true q = let s : e .0 ≡ i = eqb→eq (e .0) i (subst T (sym q) tt) in
-        ap (λ (r : Option ℤ). addTo r (integerAt l (e .0) +ℤ e .1)) (ap (lookZ es) (sym s) ∙ o) ∙ ap (λ (k : ℕ). integerAt l k +ℤ e .1) s
+        ap (λ (r : Option ℤ). addTo r (integerAt l (e .0) +ℤ e .1)) (ap (additionAt es) (sym s) ∙ o) ∙ ap (λ (k : ℕ). integerAt l k +ℤ e .1) s
     pick false q = refl
 
 pub abs-sum : (a b : ℤ) → natAbs (a +ℤ b) ≤ natAbs a + natAbs b
 abs-sum a b = omega (ints, abs a, abs b, abs (a +ℤ b), sum-parts a b)
 
-look-small : (C : ℕ) (es : List (ℕ × ℤ)) → All (λ (e : ℕ × ℤ). natAbs (e .1) ≤ C) es → (B : ℕ) (z : ℤ) (i : ℕ) → natAbs z ≤ B → natAbs (addTo (lookZ es i) z) ≤ B + C
+look-small : (C : ℕ) (es : List (ℕ × ℤ)) → All (λ (e : ℕ × ℤ). natAbs (e .1) ≤ C) es → (B : ℕ) (z : ℤ) (i : ℕ) → natAbs z ≤ B → natAbs (addTo (additionAt es i) z) ≤ B + C
 look-small C [] h B z i l = omega arith
 look-small C (e ∷ es) (h, hs) B z i l = go (eqb (e .0) i) (look-small C es hs B z i l)
   where
-    go : (b : Bool) → natAbs (addTo (lookZ es i) z) ≤ B + C → natAbs (addTo (cond b (some (e .1)) (lookZ es i)) z) ≤ B + C
+    go : (b : Bool) → natAbs (addTo (additionAt es i) z) ≤ B + C → natAbs (addTo (cond b (some (e .1)) (additionAt es i)) z) ≤ B + C
     go true k = omega (arith, abs-sum z (e .1))
     go false k = k
 
@@ -62,7 +62,7 @@ small-all F (z ∷ l) h = ap₂ _&&_ (true-of (leb (natAbs z) F) (le→leb (natA
 -- what the reader has seen to: variables declared, none twice, constants up to C
 pub record AddsIn (n C : ℕ) (a : RestrictedAction) : Type 0 where
   pub inside : All (λ (e : ℕ × ℤ). e .0 < n) (a .additions)
-  pub once : OnceZ (a .additions)
+  pub once : AdditionsOnce (a .additions)
   pub upTo : All (λ (e : ℕ × ℤ). natAbs (e .1) ≤ C) (a .additions)
 
 add-length : (es : List (ℕ × ℤ)) (l : List ℤ) → length (addAll es l) ≡ length l
@@ -93,9 +93,9 @@ set-below (e ∷ es) sizes l (i, is) h = set-below es sizes (set l (e .0) (e .1)
         go true s = subst (λ (k : ℕ). e .1 < naturalAt sizes k) (eqb→eq (e .0) j (subst T (sym s) tt)) (i .1)
         go false s = h j (omega (arith, q, length-set l (e .0) (e .1)))
 
-pub vals-in : (lo hi : ℕ → ℤ) (l : List ℤ) → ((j : ℕ) → T (leZ (lo j) (integerAt l j)) × T (leZ (integerAt l j) (hi j))) → valuesWithinBounds lo hi l ≡ true
-vals-in lo hi [] h = refl
-vals-in lo hi (z ∷ l) h = ap₂ _&&_ (true-of (((leZ (lo 0) z) && (leZ z (hi 0)))) (both-in (leZ (lo 0) z) (leZ z (hi 0)) (h 0 .0) (h 0 .1))) (vals-in (λ j. lo (suc j)) (λ j. hi (suc j)) l (λ j. h (suc j)))
+pub values-in-bounds : (lo hi : ℕ → ℤ) (l : List ℤ) → ((j : ℕ) → T (leZ (lo j) (integerAt l j)) × T (leZ (integerAt l j) (hi j))) → valuesWithinBounds lo hi l ≡ true
+values-in-bounds lo hi [] h = refl
+values-in-bounds lo hi (z ∷ l) h = ap₂ _&&_ (true-of (((leZ (lo 0) z) && (leZ z (hi 0)))) (and-intro (leZ (lo 0) z) (leZ z (hi 0)) (h 0 .0) (h 0 .1))) (values-in-bounds (λ j. lo (suc j)) (λ j. hi (suc j)) l (λ j. h (suc j)))
 
 -- ---- a restricted run, of a task with n variables and modes of the sizes: after i steps
 abbrev pub WithinAfter : ℕ → List ℕ → ℕ → State → Type 0
@@ -106,8 +106,8 @@ within-is-sound n sizes i x l (a, b, v, h) = ap₂ _&&_ (small-all 2_000_000_000
 
 pub step-within : (n : ℕ) (sizes : List ℕ) (R : List RestrictedAction) → All (AddsIn n 1_000_000_000) R → All (λ (a : RestrictedAction). ValuesIn sizes (a .modeEffects)) R
     → (i : ℕ) (x y : State) (k : ℕ) → WithinAfter n sizes i x → restrictedStep R x k ≡ some y → WithinAfter n sizes (suc i) y
-step-within n sizes R adds sets i x y k (a, b, v, h) e = let (r, e₁, e₂) = bind-inv (getElem? R k) (tryRestricted x) y e in
-    go r (all-get (AddsIn n 1_000_000_000) R k r adds e₁) (all-get (λ (a : RestrictedAction). ValuesIn sizes (a .modeEffects)) R k r sets e₁) (given-inv (appliesRestricted r x) (applyRestricted r x) y e₂ .1)
+step-within n sizes R adds sets i x y k (a, b, v, h) e = let (r, e₁, e₂) = bind-gives (getElem? R k) (tryRestricted x) y e in
+    go r (all-get (AddsIn n 1_000_000_000) R k r adds e₁) (all-get (λ (a : RestrictedAction). ValuesIn sizes (a .modeEffects)) R k r sets e₁) (provided-gives (appliesRestricted r x) (applyRestricted r x) y e₂ .1)
   where
     go : (r : RestrictedAction) → AddsIn n 1_000_000_000 r → ValuesIn sizes (r .modeEffects) → applyRestricted r x ≡ y → WithinAfter n sizes (suc i) y
     go r A s q = subst (WithinAfter n sizes (suc i)) q (

@@ -70,13 +70,13 @@ module _ (l : Limits) (cs : List Command) (o : All Ok cs) (t : Trail l begin cs)
   few : length cs < suc (length (encodeAll cs ++ encode End))
   few = omega (arith, count cs, length-append (encodeAll cs) (encode End))
 
-  pub accepts : verdictOf l (encodeAll cs ++ encode End) ≡ Accepted (endState l begin cs .variables) (endState l begin cs .modes) (endState l begin cs .actions)
+  pub trail-accepted : verdictOf l (encodeAll cs ++ encode End) ≡ Accepted (endState l begin cs .variables) (endState l begin cs .modes) (endState l begin cs .actions)
   unfolding verdictOf
-  accepts = run-trail l cs (length (encodeAll cs ++ encode End)) (suc (length (encodeAll cs ++ encode End))) begin 0 few o t
+  trail-accepted = run-trail l cs (length (encodeAll cs ++ encode End)) (suc (length (encodeAll cs ++ encode End))) begin 0 few o t
 
-  pub commands-back : commandsOf l (encodeAll cs ++ encode End) ≡ cs
+  pub trail-commands : commandsOf l (encodeAll cs ++ encode End) ≡ cs
   unfolding commandsOf
-  commands-back = trace-trail l cs (suc (length (encodeAll cs ++ encode End))) begin few o t
+  trail-commands = trace-trail l cs (suc (length (encodeAll cs ++ encode End))) begin few o t
 
 -- ---- an accepted file's commands are such a trail
 seek-at : (b : ℕ) (rs : List Row) (i : ℕ) → seek b rs i < i + length rs → (j : ℕ) × (seek b rs i ≡ i + j) × (getD rs j (row 0 []) .byte ≡ b)
