@@ -10,13 +10,13 @@ use mathlib.Core.List.{List, [], _∷_, _++_}
 use lib.ListN.{length}
 use lib.Dec.{T}
 use Rattle.integers.specs.All.{All}
-use Rattle.integers.specs.Numbers.{Bytes}
 use Rattle.lists.specs.Answer.{Answer, given, then, lent}
+use Rattle.integers.specs.Numbers.{Bytes}
 use Rattle.model.specs.Systems.{runPlan, totalPrice, guarded}
 use Rattle.model.specs.Walks.{Pairing}
 use Rattle.model.specs.Steps.{conditionsHold, modesHold, integerAt, naturalAt, restrictedStep, soundSource, soundRestricted, sizesOf, lowerBounds, upperBounds, sourceStart, stepSource, sourceGoalHolds, restrictedGoalHolds}
-use Rattle.model.specs.Stages.{opening, sourceNumber, stageCount}
 use Rattle.model.specs.Tasks.{State, SourceTask, RestrictedTask}
+use Rattle.model.specs.Stages.{opening, sourceNumber, stageCount}
 use Rattle.model.specs.Lowering.{helpersAtRest, lowerTask, lowerFile}
 use Rattle.model.specs.Expansion.{stageStepsFrom, priceFrom, expandTask, projectTask}
 use Rattle.model.specs.InTask.{SourceGoal, LoweredGoal}
@@ -28,16 +28,16 @@ use Rattle.model.specs.Claim.{PlansPair, RoundTrip}
 use Rattle.model.proofs.StageWalk.{and-intro, and-parts}
 use Rattle.model.proofs.AcceptedPairing.{plans-pair-off-for-accepted}
 use Rattle.model.proofs.ReadsBack.{reads-back}
-use Rattle.model.proofs.AcceptedOk.{accepted-source-ok}
 use Rattle.model.proofs.LoweredOk.{accepted, lowered-task-ok, lowered-sizes}
 use Rattle.model.proofs.Answers.{given-injective, then-gives, written-at-the-front}
 use Rattle.model.proofs.JudgedPlans.{judged, judges, run-count, priced, capped, plan-reads-back, plan-read, source-step-counts, restricted-step-counts, keep-few, few-all}
+use Rattle.model.proofs.AcceptedOk.{accepted-source-ok}
 
 -- a call's result, written into any output, is handed to the second call, which gives the first plan
 round-trip : (first : Answer (List ℕ)) (second : List ℕ → Answer (List ℕ)) (plan bytes : List ℕ) → first ≡ given bytes → second bytes ≡ given plan → RoundTrip first second plan
 round-trip first second plan bytes e f old n after w out = ap (lent out) (ap second (written-at-the-front old after n bytes (sym (ap (lent old) e) ∙ w)) ∙ f)
 
-each-app : (f : ℕ × ℕ → ℕ) (xs ys : List (ℕ × ℕ)) → each f (xs ++ ys) ≡ each f xs ++ each f ys
+pub each-app : (f : ℕ × ℕ → ℕ) (xs ys : List (ℕ × ℕ)) → each f (xs ++ ys) ≡ each f xs ++ each f ys
 each-app f [] ys = refl
 each-app f (x ∷ xs) ys = ap (λ (z : List ℕ). f x ∷ z) (each-app f xs ys)
 

@@ -1,11 +1,11 @@
 -- Judging is running a plan whose numbers are actions, with the goal at the end; pricing sums; plans and their bytes are the same.
 -- Assumes nothing.
 use mathlib.Core.Path.{_≡_, refl, sym, ap, ap₂, _∙_, subst}
-use Prim.Native.Nat.{ℕ, zero, suc, _+_, _*_, _%_, _≤_, _<_}
+use Prim.Native.Nat.{ℕ, suc, _+_, _%_, _≤_, _<_}
 use native.Mathlib.Omega.{arith}
 use native.Mathlib.Nat.{add-zero}
 use mathlib.Core.Bool.{Bool, true, false, not, cond}
-use mathlib.Core.Option.{Option, none, some, Option·none-ne-some}
+use mathlib.Core.Option.{Option, none, some}
 use mathlib.Core.List.{List, [], _∷_, _++_}
 use lib.ListN.{length, getElem?}
 use lib.Dec.{T, eqb, ltb, ltb→lt, nltb→le}
@@ -21,6 +21,7 @@ use Rattle.model.specs.Steps.{trySource, tryRestricted, sourceStep, rest
 use Rattle.model.specs.Plans.{planBytes, planNumbers, readPlan}
 use Rattle.model.specs.Judging.{ifApplies, judge, ifGoesOn, pricesFrom}
 use Rattle.model.proofs.Pairing.{bind-gives, some-injective}
+use Rattle.model.proofs.StageWalk.{found-below-length}
 use Rattle.model.proofs.Answers.{Gives, given-injective}
 
 -- ---- judging is running, with numbers of actions, and a goal at the end
@@ -87,6 +88,23 @@ module _ {X : Type 0} (step : X → ℕ → Option X) (price : X → ℕ → ℕ
           let b : sum + price x k ≤ 1_000_000 = omega (arith, h, q) in
           rw (le-ltb 1_000_000 (sum + price x k) b, e₁) (rec (omega (arith, h, q)) ∙ ap given (tidy sum (price x k) (totalPrice step price ks z)))
 
+  -- a sum that is given with the limit asked for is within it
+  pub within-limit : (ks : List ℕ) (i sum : ℕ) (x y : X) (c : ℕ) → sum ≤ 1_000_000 → runPlan step ks x ≡ some y → pricesFrom step price true i sum ks x ≡ given c → sum + totalPrice step price ks x ≤ 1_000_000
+  unfolding pricesFrom
+  within-limit [] i sum x y c l e h = omega arith
+  within-limit (k ∷ ks) i sum x y c l e h = let (z, e₁, e₂) = bind-gives (step x k) (runPlan step ks) y e in
+      go z e₁ (ltb 1_000_000 (sum + price x k)) refl h (λ l′ h′. within-limit ks (suc i) (sum + price x k) z y c l′ e₂ h′)
+    where
+      go : (z : X) → step x k ≡ some z → (b : Bool) → ltb 1_000_000 (sum + price x k) ≡ b
+          → cond b (refused 9 i) (ifGoesOn (step x k) (pricesFrom step price true (suc i) (sum + price x k) ks) (sum + price x k)) ≡ given c
+          → (sum + price x k ≤ 1_000_000 → pricesFrom step price true (suc i) (sum + price x k) ks z ≡ given c → (sum + price x k) + totalPrice step price ks z ≤ 1_000_000)
+          → sum + totalPrice step price (k ∷ ks) x ≤ 1_000_000
+      go z e₁ true q h rec = absurd (subst Gives (sym h) tt)
+      go z e₁ false q h rec =
+          let l′ : sum + price x k ≤ 1_000_000 = nltb→le 1_000_000 (sum + price x k) (subst (λ (b : Bool). T (not b)) (sym q) tt) in
+          let g : (sum + price x k) + totalPrice step price ks z ≤ 1_000_000 = rec l′ (sym (ap (λ (o : Option X). ifGoesOn o (pricesFrom step price true (suc i) (sum + price x k) ks) (sum + price x k)) e₁) ∙ h) in
+          omega (arith, g, ap (λ (o : Option X). price x k + orZero o (totalPrice step price ks)) e₁)
+
 -- ---- plans and their bytes
 pub plan-reads-back : (p : List ℕ) → All (λ (k : ℕ). k < 65_536) p → length p ≤ 1_000_000 → readPlan (planBytes p) ≡ given p
 unfolding readPlan
@@ -116,11 +134,6 @@ plan-read s p h e = go (eqb (length s % 2) 1) refl (ltb 2_000_000 (length s)) re
         (w, omega (arith, length-numbers 2 p, ap length w, nltb→le 2_000_000 (length s) (subst (λ (x : Bool). T (not x)) (sym r) tt)))
 
 -- ---- a step that is made is an action's
-found-below-length : {A : Type 0} (l : List A) (k : ℕ) (a : A) → getElem? l k ≡ some a → k < length l
-found-below-length [] k a e = absurd (Option·none-ne-some a e)
-found-below-length (x ∷ l) zero a e = omega arith
-found-below-length (x ∷ l) (suc k) a e = omega (arith, found-below-length l k a e)
-
 pub source-step-counts : (ok : State → Bool) (lo hi : ℕ → ℤ) (acts : List SourceAction) (x : State) (k : ℕ) (y : State) → guarded ok (sourceStep lo hi acts) x k ≡ some y → k < length acts
 source-step-counts ok lo hi acts x k y e =
     let (z, e₁, e₂) = bind-gives (sourceStep lo hi acts x k) (λ y. cond (ok x) (cond (ok y) (some y) none) none) y e in

@@ -10,6 +10,8 @@ pub mod CommandsOk
 pub mod Figure
 pub mod FileBytes
 pub mod Follow
+pub mod Followed
+pub mod Forced
 pub mod GuardedPairing
 pub mod Guards
 pub mod JudgedPlans
@@ -17,7 +19,6 @@ pub mod LoweredOk
 pub mod MacroPlace
 pub mod NamedPairing
 pub mod NumberedPairing
-pub mod Operational
 pub mod Outcomes
 pub mod Pairing
 pub mod ReadingLaws

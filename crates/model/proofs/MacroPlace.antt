@@ -7,7 +7,7 @@ use native.Mathlib.Nat.{suc-add}
 use native.Mathlib.Omega.{arith}
 use mathlib.Core.Bool.{Bool, true, false, not, cond}
 use mathlib.Core.Option.{Option, none, some, Option·none-ne-some}
-use mathlib.Core.List.{append-assoc, List, [], _∷_, _++_}
+use mathlib.Core.List.{List, [], _∷_, _++_, append-assoc}
 use lib.ListN.{length, length-append, length-replicate, replicate, getElem?}
 use lib.Dec.{T, ltb, ltb→lt, lt→ltb, not-T}
 use lib.IntN.{ℤ, pos, negsuc, natAbs}
@@ -18,7 +18,7 @@ use Rattle.model.specs.Tasks.{SourceAction}
 use Rattle.model.specs.Expansion.{strokes, unitsIn, afterStrokes, afterStage, stageWalk}
 use Rattle.model.specs.NamedSystems.{walkToDeadEnd, stagesPrice, priceToDeadEnd}
 use Rattle.model.proofs.Pairing.{some-injective}
-use Rattle.model.proofs.StageWalk.{body-length, stage-length, Under, Past, stages-from, stages-past, stages-under, under-mono, past-mono, all-app, all-map, all-get, get-split, get-past}
+use Rattle.model.proofs.StageWalk.{body-length, stage-length, Under, Past, stages-from, stages-past, stages-under, under-mono, past-mono, all-app, all-map, all-get, get-split, get-past, found-below-length}
 
 pub stages-length : (s : ℕ) (ds : List Stage) → length (stagesActions s ds) ≡ countActions ds
 stages-length s [] = refl
@@ -117,26 +117,6 @@ module _ (lo hi : ℕ → ℤ) where
         after = omega (arith, w .after);
       }
 
-  -- a row at rest is the first of some source action
-  pub first-of : (acts : List SourceAction) (s k : ℕ) (r : NamedAction) → 1 ≤ s → getElem? (lowerActions lo hi s acts) k ≡ some r → r .control ≡ 0 → (a : ℕ) × (k ≡ opening lo hi acts a)
-  first-of [] s k r h e z = absurd (Option·none-ne-some r e)
-  first-of (a₀ ∷ acts) s k r h e z = go k e (get-split (macro lo hi s a₀) (lowerActions lo hi (s + length (stagesOf lo hi (a₀ .effect))) acts) k r e)
-      (λ i f. first-of acts (s + length (stagesOf lo hi (a₀ .effect))) i r (omega arith) f z)
-    where
-      inner : (i : ℕ) → getElem? (stagesActions s (stagesOf lo hi (a₀ .effect))) i ≡ some r → ⊥
-      inner i f = clash (all-get (λ (u : NamedAction). s ≤ u .control) (stagesActions s (stagesOf lo hi (a₀ .effect))) i r (stages-from s (stagesOf lo hi (a₀ .effect))) f)
-        where
-          clash : s ≤ r .control → ⊥
-          clash q = omega arith
-
-      go : (k : ℕ) → getElem? (lowerActions lo hi s (a₀ ∷ acts)) k ≡ some r
-          → (getElem? (macro lo hi s a₀) k ≡ some r) ⊎ ((i : ℕ) × (k ≡ length (macro lo hi s a₀) + i) × (getElem? (lowerActions lo hi (s + length (stagesOf lo hi (a₀ .effect))) acts) i ≡ some r))
-          → ((i : ℕ) → getElem? (lowerActions lo hi (s + length (stagesOf lo hi (a₀ .effect))) acts) i ≡ some r → (a : ℕ) × (i ≡ opening lo hi acts a))
-          → (a : ℕ) × (k ≡ opening lo hi (a₀ ∷ acts) a)
-      go zero e q ih = (zero, refl)
-      go (suc k) e (inl f) ih = absurd (inner k f)
-      go (suc k) e (inr (i, q, f)) ih = let (a, ea) = ih i f in (suc a, q ∙ ap₂ (λ (x y : ℕ). x + y) (macro-length s a₀) ea)
-
   pub no-opening-past-the-last : (acts : List SourceAction) (s k : ℕ) → getElem? acts k ≡ none → getElem? (lowerActions lo hi s acts) (opening lo hi acts k) ≡ none
   no-opening-past-the-last [] s k e = refl
   no-opening-past-the-last (a ∷ acts) s zero e = absurd (Option·none-ne-some a (sym e))
@@ -161,6 +141,47 @@ module _ (lo hi : ℕ → ℤ) where
     where
       n : ℕ
       n = countActions (stagesOf lo hi (a .effect))
+
+  -- an action of R is the opening of a source action, has its number and needs control 0; or it is of a stage, has no source number and needs
+  -- that stage's control
+  abbrev pub OpensOrOfAStage : List SourceAction → ℕ → NamedAction → Type 0
+  OpensOrOfAStage acts k r = ((a : ℕ) × (sourceNumber lo hi acts k ≡ some a) × (opening lo hi acts a ≡ k) × (r .control ≡ 0)) ⊎ ((sourceNumber lo hi acts k ≡ none) × (1 ≤ r .control))
+
+  pub opens-or-of-a-stage : (acts : List SourceAction) (s k : ℕ) (r : NamedAction) → 1 ≤ s → getElem? (lowerActions lo hi s acts) k ≡ some r → OpensOrOfAStage acts k r
+  opens-or-of-a-stage [] s k r h e = absurd (Option·none-ne-some r e)
+  opens-or-of-a-stage (a₀ ∷ acts) s zero r h e = inl (zero, refl, refl, ap (λ (u : NamedAction). u .control) (sym (some-injective e)))
+  opens-or-of-a-stage (a₀ ∷ acts) s (suc k) r h e = go (get-split (stagesActions s ds) (lowerActions lo hi (s + length ds) acts) k r e)
+      (λ i f. opens-or-of-a-stage acts (s + length ds) i r (omega arith) f)
+    where
+      ds : List Stage
+      ds = stagesOf lo hi (a₀ .effect)
+
+      go : (getElem? (stagesActions s ds) k ≡ some r) ⊎ ((i : ℕ) × (k ≡ length (stagesActions s ds) + i) × (getElem? (lowerActions lo hi (s + length ds) acts) i ≡ some r))
+          → ((i : ℕ) → getElem? (lowerActions lo hi (s + length ds) acts) i ≡ some r → OpensOrOfAStage acts i r) → OpensOrOfAStage (a₀ ∷ acts) (suc k) r
+      go (inl f) ih = inr (
+        drop-it (ltb (suc k) (macroSize lo hi a₀)) (later (sourceNumber lo hi acts (suc k - macroSize lo hi a₀)))
+            (lt→ltb (suc k) (macroSize lo hi a₀) (omega (arith, found-below-length (stagesActions s ds) k r f, stages-length s ds))),
+        omega (arith, all-get (λ (u : NamedAction). s ≤ u .control) (stagesActions s ds) k r (stages-from s ds) f),
+      )
+      go (inr (i, q, f)) ih = on (ih i f)
+        where
+          at : suc k ≡ macroSize lo hi a₀ + i
+          at = omega (arith, q, stages-length s ds)
+
+          number : sourceNumber lo hi (a₀ ∷ acts) (suc k) ≡ later (sourceNumber lo hi acts i)
+          number = ap (sourceNumber lo hi (a₀ ∷ acts)) at ∙ source-past a₀ acts i
+
+          on : OpensOrOfAStage acts i r → OpensOrOfAStage (a₀ ∷ acts) (suc k) r
+          on (inl (a, n, o, c)) = inl (suc a, number ∙ ap later n, ap (λ (j : ℕ). macroSize lo hi a₀ + j) o ∙ sym at, c)
+          on (inr (n, c)) = inr (number ∙ ap later n, c)
+
+  -- a row at rest is the first of some source action
+  pub first-of : (acts : List SourceAction) (s k : ℕ) (r : NamedAction) → 1 ≤ s → getElem? (lowerActions lo hi s acts) k ≡ some r → r .control ≡ 0 → (a : ℕ) × (k ≡ opening lo hi acts a)
+  first-of acts s k r h e z = go (opens-or-of-a-stage acts s k r h e)
+    where
+      go : OpensOrOfAStage acts k r → (a : ℕ) × (k ≡ opening lo hi acts a)
+      go (inl (a, n, o, c)) = (a, sym o)
+      go (inr (n, c)) = absurd (omega arith)
 
   pub opening-has-its-source : (acts : List SourceAction) (k : ℕ) (a : SourceAction) → getElem? acts k ≡ some a → sourceNumber lo hi acts (opening lo hi acts k) ≡ some k
   opening-has-its-source [] k a e = absurd (Option·none-ne-some a e)

@@ -1,15 +1,16 @@
--- Whole plans pair off wherever each source step becomes one forced walk from rest to rest.
+-- Whole plans pair off wherever each source step becomes one forced walk from rest to rest. And the pairing in one line.
 -- Assumes nothing.
 use mathlib.Core.Path.{_≡_, refl, sym, ap, ap₂, _∙_, subst}
+use mathlib.Core.Logic.{_↔_}
 use Prim.Native.Nat.{ℕ, zero, suc, _≤_}
 use native.Mathlib.Omega.{arith}
 use mathlib.Core.Option.{Option, none, some, Option·none-ne-some, Option·some-injective}
 use mathlib.Core.List.{List, [], _∷_, _++_}
 use lib.ListN.{length, length-append}
-use Rattle.model.specs.Systems.{bind, runPlan, keep, expandFrom, totalPrice}
 use Rattle.integers.specs.All.{All}
-use Rattle.model.specs.Walks.{Forced, Stuck, Outcome, notOpened, hangs, completes, Lowers}
-use Rattle.model.specs.Walks
+use Rattle.model.specs.Systems.{bind, runPlan, keep, expandFrom, totalPrice}
+use Rattle.model.specs.Walks.{Pairing, Forced, Stuck, Outcome, notOpened, hangs, completes, Lowers}
+use Rattle.model.specs.NamedSystems.{atRest, stepNamedSource}
 
 pub bind-gives : {A B : Type 0} (o : Option A) (f : A → Option B) (z : B) → bind o f ≡ some z → (y : A) × (o ≡ some y) × (f y ≡ some z)
 bind-gives none f z e = absurd (Option·none-ne-some z e)
@@ -120,7 +121,7 @@ module _ {S X : Type 0} (stepS : S → ℕ → Option S) (step : X → ℕ → O
               (s′, rw (K, es) rs, we, rw (K, es) (λ i. sym ka i ∷ (ap₂ (λ (u v : List ℕ). u ++ v) et ex ∙ sym eq) i))
 
   pub pairing : (s₀ : S) (GoalS : S → Type 0) (GoalR : X → Type 0) (lim : ℕ) → Good s₀ → ((s : S) → GoalS s → GoalR (emb s)) → ((s : S) → GoalR (emb s) → GoalS s)
-      → ((x : X) → GoalR x → Rest x) → Walks.Pairing stepS step emb opn own tail price s₀ GoalS GoalR lim
+      → ((x : X) → GoalR x → Rest x) → Pairing stepS step emb opn own tail price s₀ GoalS GoalR lim
   pairing s₀ GoalS GoalR lim g up down at-rest = record {
     forth = λ p s′ r h l. let (_, e, k, n) = there p s₀ s′ g r in (e, up s′ h, k, n);
     lengths = λ p s′ r. let (_, e, k, n) = there p s₀ s′ g r in n;

@@ -7,21 +7,21 @@ use native.Mathlib.Nat.{suc-add, zero-add, add-zero, mod-lt, div-add-mod, mul-le
 use native.Mathlib.Omega.{arith}
 use mathlib.Core.Bool.{_&&_, Bool, true, false, not, cond}
 use mathlib.Core.Option.{Option, none, some, Option·none-ne-some}
-use mathlib.Core.List.{append-assoc, List, [], _∷_, _++_}
+use mathlib.Core.List.{List, [], _∷_, _++_, append-assoc}
 use lib.ListN.{length, length-append, getElem?, replicate}
 use lib.Dec.{T, eqb, eqb→eq, eqb-refl, T-not}
 use lib.IntN.{ℤ, pos, negsuc, negℤ, _+ℤ_, _*ℤ_}
 use lib.Signed.{leZ}
-use Rattle.model.specs.Systems.{bind, provided}
 use Rattle.integers.specs.All.{All}
+use Rattle.integers.specs.Division.{floor, remainder}
+use Rattle.integers.proofs.Parts.{ints, sum-parts, mul-up, mul-down, neg-up, neg-down}
+use Rattle.model.specs.Systems.{bind, provided}
 use Rattle.model.specs.Walks.{Only, Forced, Stuck}
 use Rattle.model.specs.Steps.{conditionsHold, modesHold}
 use Rattle.model.specs.Stages.{Name, NamedAction, StageKind, byOne, byUnit, leftOver, Stage, opposite, falling, rising, turn, strokeActions, stageActions, turnPlace, firstStage, stagesActions}
 use Rattle.model.specs.Expansion.{sameName, additionTo, addTo, plus, strokes, unitsIn, timesAdded, afterStrokes, afterStage, stageWalk}
 use Rattle.model.specs.NamedSystems.{NamedState, applies, apply, tryNamed, stepNamed, walkToDeadEnd, passes, afterStages}
-use Rattle.integers.specs.Division.{floor, remainder}
 use Rattle.model.proofs.Pairing.{bind-gives, some-injective, forced-app}
-use Rattle.integers.proofs.Parts.{ints, sum-parts, mul-up, mul-down, neg-up, neg-down}
 
 pub and-intro : (a b : Bool) → T a → T b → T ((a && b))
 and-intro true b s t = t
@@ -64,6 +64,11 @@ get-split (x ∷ pre) g (suc k) r e = go (get-split pre g k r e)
         → (getElem? pre k ≡ some r) ⊎ ((i : ℕ) × (suc k ≡ suc (length pre) + i) × (getElem? g i ≡ some r))
     go (inl h) = inl h
     go (inr (i, h, f)) = inr (i, ap suc h ∙ sym (suc-add (length pre) i), f)
+
+pub found-below-length : {A : Type 0} (l : List A) (k : ℕ) (a : A) → getElem? l k ≡ some a → k < length l
+found-below-length [] k a e = absurd (Option·none-ne-some a e)
+found-below-length (x ∷ l) zero a e = omega arith
+found-below-length (x ∷ l) (suc k) a e = omega (arith, found-below-length l k a e)
 
 pub all-get : {A : Type 0} (Q : A → Type 0) (l : List A) (k : ℕ) (r : A) → All Q l → getElem? l k ≡ some r → Q r
 all-get Q [] k r h e = absurd (Option·none-ne-some r e)

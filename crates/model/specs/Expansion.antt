@@ -8,11 +8,11 @@ use lib.Dec.{eqb}
 use lib.ListN.{length, getElem?, replicate}
 use lib.IntN.{ℤ, pos, negsuc, natAbs, _+ℤ_, _*ℤ_}
 use Rattle.integers.specs.Division.{floor, quotientOf, residueOf}
-use Rattle.model.specs.Systems.{orEmpty, orZero, expandFrom, keep, follow}
+use Rattle.model.specs.Systems.{orEmpty, orZero, expandFrom, keep, followPlan}
 use Rattle.model.specs.Tasks.{Effect, noEffect, addEffect, linearEffect, quotientEffect, residueEffect, SourceAction, SourceTask, RestrictedTask, State}
-use Rattle.model.specs.Steps.{integerAt, naturalAt, linear, lowerBounds, upperBounds, sourceStart, stepSource, stepRestricted}
+use Rattle.model.specs.Steps.{integerAt, naturalAt, linear, lowerBounds, upperBounds, sourceStart, stepSource, restrictedStart, stepRestricted}
 use Rattle.model.specs.Stages.{Name, source, helperA, helperB, hold, usesLeft, StageKind, byOne, byUnit, Stage, turnPlace, openingAdditions, stagesOf, opening, sourceNumber}
-use Rattle.model.specs.Lowering.{helpersAtRest, lowerTask}
+use Rattle.model.specs.Lowering.{lowerTask}
 
 -- ---- values by name, and what additions make of them
 abbrev pub sameName : Name → Name → Bool
@@ -127,19 +127,14 @@ priceFrom acts x = priceOver acts (integerAt (x .values))
 abbrev pub expandTask : SourceTask → List ℕ → List ℕ
 expandTask t p = expandFrom (stepSource t) (opening (lowerBounds t) (upperBounds t) (t .actions)) (stageStepsFrom (lowerBounds t) (upperBounds t) (t .actions)) p (sourceStart t)
 
--- ".. then, while control is not 0, the one action that applies": the same, said by R's own steps
+-- The same, said by R's own steps: "from R's start, for each source step its single action or its opening, then, while control is not 0, the
+-- one action that applies", for at most 1,000,000 steps
 abbrev pub controlAtRest : SourceTask → State → Bool
 controlAtRest t x = eqb (naturalAt (x .modes) (length (t .modes))) 0
 
-abbrev pub followFrom : SourceTask → Option State → List ℕ
-followFrom t none = []
-followFrom t (some y) = follow (stepRestricted (lowerTask t)) (controlAtRest t) (length (lowerTask t .actions)) 1_000_000 y
-
-abbrev pub followedSteps : SourceTask → State → ℕ → List ℕ
-followedSteps t x k = followFrom t (stepRestricted (lowerTask t) (helpersAtRest x) (opening (lowerBounds t) (upperBounds t) (t .actions) k))
-
 abbrev pub expandByFollowing : SourceTask → List ℕ → List ℕ
-expandByFollowing t p = expandFrom (stepSource t) (opening (lowerBounds t) (upperBounds t) (t .actions)) (followedSteps t) p (sourceStart t)
+expandByFollowing t p =
+    followPlan (stepRestricted (lowerTask t)) (controlAtRest t) (opening (lowerBounds t) (upperBounds t) (t .actions)) (length (lowerTask t .actions)) 1_000_000 p (restrictedStart (lowerTask t))
 
 -- "Projecting keeps the openings and single actions as source numbers, in their order, and drops the rest."
 abbrev pub projectTask : SourceTask → List ℕ → List ℕ

@@ -46,7 +46,8 @@ abbrev pub totalPrice : {S : Type 0} → (S → ℕ → Option S) → (S → ℕ
 totalPrice step price [] s = zero
 totalPrice step price (a ∷ p) s = price s a + orZero (step s a) (totalPrice step price p)
 
--- ---- "while control is not 0, the one action that applies": of `count` actions, for at most so many steps
+-- ---- "for each source step its single action or its opening, then, while control is not 0, the one action that applies"
+-- the one action of `count` that applies, and the state after it
 abbrev pub orNext : {X : Type 0} → Option X → ℕ → Option (ℕ × X) → Option (ℕ × X)
 orNext none n r = r
 orNext (some y) n r = some (n, y)
@@ -55,6 +56,14 @@ abbrev pub soleApplying : {X : Type 0} → (X → ℕ → Option X) → X → �
 soleApplying step x zero = none
 soleApplying step x (suc n) = orNext (step x n) n (soleApplying step x n)
 
-abbrev pub follow : {X : Type 0} → (X → ℕ → Option X) → (X → Bool) → ℕ → ℕ → X → List ℕ
-follow step atRest count zero x = []
-follow step atRest count (suc most) x = cond (atRest x) [] (orEmpty (soleApplying step x count) (λ p. p .0 ∷ follow step atRest count most (p .1)))
+-- the next step of a plan and the steps behind it, where one is left
+abbrev pub nextStep : List ℕ → (ℕ → List ℕ → List ℕ) → List ℕ
+nextStep [] f = []
+nextStep (a ∷ p) f = f a p
+
+-- from state x, at most so many actions in all: at rest the opening of the plan's next step, elsewhere the one action that applies
+abbrev pub followPlan : {X : Type 0} → (X → ℕ → Option X) → (X → Bool) → (ℕ → ℕ) → ℕ → ℕ → List ℕ → X → List ℕ
+followPlan step atRest opening count zero p x = []
+followPlan step atRest opening count (suc most) p x = cond (atRest x)
+    (nextStep p (λ a rest. opening a ∷ orEmpty (step x (opening a)) (followPlan step atRest opening count most rest)))
+    (orEmpty (soleApplying step x count) (λ n. n .0 ∷ followPlan step atRest opening count most p (n .1)))
