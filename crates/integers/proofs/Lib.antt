@@ -1,1 +1,5 @@
 pub mod Numbers
+pub mod Parts
+pub mod Products
+pub mod Division
+pub mod Cases

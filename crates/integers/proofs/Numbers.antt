@@ -7,10 +7,11 @@ use Prim.Native.Nat.{ℕ, zero, suc, _+_, _-_, _*_, _/_, _%_, _^_, _≤_, _<_}
 use native.Mathlib.Nat.{div-add-mod', div-lt-iff-lt-mul, mod-lt, pow-suc}
 use native.Mathlib.Omega.{arith}
 use lib.Dec.{lit<, ltb}
-use lib.ListN.{length}
+use lib.ListN.{length, getD}
+use lib.Seq.{drop-cons}
 use lib.IntN.{ℤ, pos, negsuc, natAbs}
 use borrow.Author.Tests.{lt-ltb, le-ltb, ltb-true, ltb-false}
-use Rattle.integers.specs.Numbers.{Bytes, bytesOf, numberOf, bitsOf, signedOf}
+use Rattle.integers.specs.Numbers.{Bytes, bytesOf, numberOf, numberAt, bitsOf, signedOf}
 
 -- ---- the bytes of a number
 pub length-bytes : (width n : ℕ) → length (bytesOf width n) ≡ width
@@ -37,6 +38,10 @@ bytes-number (b ∷ rest) (h, t) =
 pub number-small : (l : List ℕ) → Bytes l → numberOf l < 256 ^ length l
 number-small [] h = omega arith
 number-small (b ∷ rest) (h, t) = rw pow-suc (omega (arith, number-small rest t))
+
+-- the number at a place: its first byte, and the number of a lesser width at the next place
+pub number-step : (s : List ℕ) (place width : ℕ) → place < length s → numberAt s place (suc width) ≡ getD s place 0 + 256 * numberAt s (suc place) width
+number-step s place width h = rw (drop-cons s place 0 h)
 
 -- ---- two's complement
 pub signed-low : (width bits : ℕ) → 2 * bits < 256 ^ width → signedOf width bits ≡ pos bits
