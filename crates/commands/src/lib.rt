@@ -3,11 +3,13 @@
 
 ghost use mathlib.Core.Path.{_≡_};
 ghost use mathlib.Core.List.{[], _∷_};
-ghost use Prim.Native.Nat.{_<_, _≤_};
-ghost use lib.ListN.{length, take};
-ghost use Rattle.integers.specs.Numbers.{bytesOf};
+ghost use Prim.Native.Nat.{_+_, _^_, _<_, _≤_};
+ghost use lib.ListN.{length, getD, take};
+ghost use Rattle.integers.specs.Numbers.{bytesOf, numberAt};
+ghost use Rattle.commands.specs.Table.{letterV, letterU, letterM, letterC, letterP, letterE, plusSign, letterL, letterT, letterQ, letterR};
 ghost use Rattle.commands.specs.Table.{rows, rowAt, widthAt, sizeOfRow, sizeOfByte};
 ghost use Rattle.commands.specs.Rows.{written};
+ghost use Rattle.commands.specs.Reading.{commandAt};
 ghost use Rattle.commands.specs.Encoding.{atWidths, encode};
 
 // A command with its operands as the file has them: one case a command byte of either kind of file, plus the refusal.
@@ -103,10 +105,218 @@ fn row_width(i: usize, j: usize) -> usize
     widths[j] as usize
 }
 
-// The length of a command in bytes, its own byte with it.
+// The length of a command of row i in bytes, its own byte with it.
 fn row_size(i: usize) -> usize
     requires { ⌜ i < rows ⌝ }
     ensures { λ r. ⌜ (r ≡ sizeOfRow i) × (0 < r) × (r ≤ 13) ⌝ }
 {
     1 + row_width(i, 0) + row_width(i, 1) + row_width(i, 2)
+}
+
+// The operands of a command of row i whose bytes are all there: they stand one behind another after its byte.
+fn first_operand(rest: &[u8], i: usize) -> u32
+    requires { ⌜ (i < rows) × (sizeOfRow i ≤ length (now rest)) ⌝ }
+    ensures { λ r. ⌜ (r ≡ numberAt (now (rest .entry)) 1 (widthAt i 0)) × (r < 256 ^ widthAt i 0) ⌝ }
+{
+    integers::number_at(rest, 1, row_width(i, 0))
+}
+
+fn second_operand(rest: &[u8], i: usize) -> u32
+    requires { ⌜ (i < rows) × (sizeOfRow i ≤ length (now rest)) ⌝ }
+    ensures { λ r. ⌜ (r ≡ numberAt (now (rest .entry)) (1 + widthAt i 0) (widthAt i 1)) × (r < 256 ^ widthAt i 1) ⌝ }
+{
+    integers::number_at(rest, 1 + row_width(i, 0), row_width(i, 1))
+}
+
+fn third_operand(rest: &[u8], i: usize) -> u32
+    requires { ⌜ (i < rows) × (sizeOfRow i ≤ length (now rest)) ⌝ }
+    ensures { λ r. ⌜ (r ≡ numberAt (now (rest .entry)) (1 + widthAt i 0 + widthAt i 1) (widthAt i 2)) × (r < 256 ^ widthAt i 2) ⌝ }
+{
+    let place = 1 + row_width(i, 0) + row_width(i, 1);
+    integers::number_at(rest, place, row_width(i, 2))
+}
+
+// One reader a kind of command, for a caller that has seen its byte: the command, or the refusal 2 where its operands are not all there.
+pub fn read_variable(rest: &[u8]) -> Command
+    requires { ⌜ (0 < length (now rest)) × (getD (now rest) 0 0 ≡ letterV) ⌝ }
+    ensures { λ r. ⌜ r ≡ commandAt (now (rest .entry)) ⌝ }
+{
+    if rest.len() < row_size(ROW_VARIABLE) {
+        return Command::Refused(2);
+    }
+    let x = first_operand(rest, ROW_VARIABLE);
+    let y = second_operand(rest, ROW_VARIABLE);
+    let z = third_operand(rest, ROW_VARIABLE);
+    Command::Variable(x, y, z)
+}
+
+pub fn read_start(rest: &[u8]) -> Command
+    requires { ⌜ (0 < length (now rest)) × (getD (now rest) 0 0 ≡ letterU) ⌝ }
+    ensures { λ r. ⌜ r ≡ commandAt (now (rest .entry)) ⌝ }
+{
+    if rest.len() < row_size(ROW_START) {
+        return Command::Refused(2);
+    }
+    let x = first_operand(rest, ROW_START);
+    Command::Start(x)
+}
+
+pub fn read_mode(rest: &[u8]) -> Command
+    requires { ⌜ (0 < length (now rest)) × (getD (now rest) 0 0 ≡ letterM) ⌝ }
+    ensures { λ r. ⌜ r ≡ commandAt (now (rest .entry)) ⌝ }
+{
+    if rest.len() < row_size(ROW_MODE) {
+        return Command::Refused(2);
+    }
+    let x = first_operand(rest, ROW_MODE) as u16;
+    let y = second_operand(rest, ROW_MODE) as u16;
+    Command::Mode(x, y)
+}
+
+pub fn read_condition(rest: &[u8]) -> Command
+    requires { ⌜ (0 < length (now rest)) × (getD (now rest) 0 0 ≡ letterC) ⌝ }
+    ensures { λ r. ⌜ r ≡ commandAt (now (rest .entry)) ⌝ }
+{
+    if rest.len() < row_size(ROW_CONDITION) {
+        return Command::Refused(2);
+    }
+    let x = first_operand(rest, ROW_CONDITION) as u8;
+    let y = second_operand(rest, ROW_CONDITION) as u8;
+    let z = third_operand(rest, ROW_CONDITION);
+    Command::Condition(x, y, z)
+}
+
+pub fn read_mode_condition(rest: &[u8]) -> Command
+    requires { ⌜ (0 < length (now rest)) × (getD (now rest) 0 0 ≡ letterP) ⌝ }
+    ensures { λ r. ⌜ r ≡ commandAt (now (rest .entry)) ⌝ }
+{
+    if rest.len() < row_size(ROW_MODE_CONDITION) {
+        return Command::Refused(2);
+    }
+    let x = first_operand(rest, ROW_MODE_CONDITION) as u8;
+    let y = second_operand(rest, ROW_MODE_CONDITION) as u16;
+    Command::ModeCondition(x, y)
+}
+
+pub fn read_mode_effect(rest: &[u8]) -> Command
+    requires { ⌜ (0 < length (now rest)) × (getD (now rest) 0 0 ≡ letterE) ⌝ }
+    ensures { λ r. ⌜ r ≡ commandAt (now (rest .entry)) ⌝ }
+{
+    if rest.len() < row_size(ROW_MODE_EFFECT) {
+        return Command::Refused(2);
+    }
+    let x = first_operand(rest, ROW_MODE_EFFECT) as u8;
+    let y = second_operand(rest, ROW_MODE_EFFECT) as u16;
+    Command::ModeEffect(x, y)
+}
+
+pub fn read_add(rest: &[u8]) -> Command
+    requires { ⌜ (0 < length (now rest)) × (getD (now rest) 0 0 ≡ plusSign) ⌝ }
+    ensures { λ r. ⌜ r ≡ commandAt (now (rest .entry)) ⌝ }
+{
+    if rest.len() < row_size(ROW_ADD) {
+        return Command::Refused(2);
+    }
+    let x = first_operand(rest, ROW_ADD) as u8;
+    let y = second_operand(rest, ROW_ADD);
+    Command::Add(x, y)
+}
+
+pub fn read_linear(rest: &[u8]) -> Command
+    requires { ⌜ (0 < length (now rest)) × (getD (now rest) 0 0 ≡ letterL) ⌝ }
+    ensures { λ r. ⌜ r ≡ commandAt (now (rest .entry)) ⌝ }
+{
+    if rest.len() < row_size(ROW_LINEAR) {
+        return Command::Refused(2);
+    }
+    let x = first_operand(rest, ROW_LINEAR) as u8;
+    let y = second_operand(rest, ROW_LINEAR);
+    Command::Linear(x, y)
+}
+
+pub fn read_term(rest: &[u8]) -> Command
+    requires { ⌜ (0 < length (now rest)) × (getD (now rest) 0 0 ≡ letterT) ⌝ }
+    ensures { λ r. ⌜ r ≡ commandAt (now (rest .entry)) ⌝ }
+{
+    if rest.len() < row_size(ROW_TERM) {
+        return Command::Refused(2);
+    }
+    let x = first_operand(rest, ROW_TERM) as u8;
+    let y = second_operand(rest, ROW_TERM);
+    Command::Term(x, y)
+}
+
+pub fn read_quotient(rest: &[u8]) -> Command
+    requires { ⌜ (0 < length (now rest)) × (getD (now rest) 0 0 ≡ letterQ) ⌝ }
+    ensures { λ r. ⌜ r ≡ commandAt (now (rest .entry)) ⌝ }
+{
+    if rest.len() < row_size(ROW_QUOTIENT) {
+        return Command::Refused(2);
+    }
+    let x = first_operand(rest, ROW_QUOTIENT) as u8;
+    let y = second_operand(rest, ROW_QUOTIENT) as u8;
+    let z = third_operand(rest, ROW_QUOTIENT);
+    Command::Quotient(x, y, z)
+}
+
+pub fn read_residue(rest: &[u8]) -> Command
+    requires { ⌜ (0 < length (now rest)) × (getD (now rest) 0 0 ≡ letterR) ⌝ }
+    ensures { λ r. ⌜ r ≡ commandAt (now (rest .entry)) ⌝ }
+{
+    if rest.len() < row_size(ROW_RESIDUE) {
+        return Command::Refused(2);
+    }
+    let x = first_operand(rest, ROW_RESIDUE) as u8;
+    let y = second_operand(rest, ROW_RESIDUE) as u8;
+    let z = third_operand(rest, ROW_RESIDUE);
+    Command::Residue(x, y, z)
+}
+
+// The command at the front of what remains of a file; 1 where no command has the byte, 2 where nothing remains or operands are missing.
+pub fn read(rest: &[u8]) -> Command
+    ensures { λ r. ⌜ r ≡ commandAt (now (rest .entry)) ⌝ }
+{
+    if rest.len() == 0 {
+        return Command::Refused(2);
+    }
+    match rest[0] {
+        b'V' => read_variable(rest),
+        b'U' => read_start(rest),
+        b'M' => read_mode(rest),
+        b'A' => Command::Action,
+        b'C' => read_condition(rest),
+        b'P' => read_mode_condition(rest),
+        b'E' => read_mode_effect(rest),
+        b'+' => read_add(rest),
+        b'L' => read_linear(rest),
+        b'T' => read_term(rest),
+        b'Q' => read_quotient(rest),
+        b'R' => read_residue(rest),
+        b'G' => Command::Goal,
+        b'Z' => Command::End,
+        _ => Command::Refused(1),
+    }
+}
+
+// The length of the command that begins with a byte; 1 where no command does.
+pub fn size_of(byte: u8) -> usize
+    ensures { λ r. ⌜ (r ≡ sizeOfByte byte) × (0 < r) × (r ≤ 13) ⌝ }
+{
+    match byte {
+        b'V' => row_size(ROW_VARIABLE),
+        b'U' => row_size(ROW_START),
+        b'M' => row_size(ROW_MODE),
+        b'A' => row_size(ROW_ACTION),
+        b'C' => row_size(ROW_CONDITION),
+        b'P' => row_size(ROW_MODE_CONDITION),
+        b'E' => row_size(ROW_MODE_EFFECT),
+        b'+' => row_size(ROW_ADD),
+        b'L' => row_size(ROW_LINEAR),
+        b'T' => row_size(ROW_TERM),
+        b'Q' => row_size(ROW_QUOTIENT),
+        b'R' => row_size(ROW_RESIDUE),
+        b'G' => row_size(ROW_GOAL),
+        b'Z' => row_size(ROW_END),
+        _ => 1,
+    }
 }
