@@ -1,0 +1,68 @@
+-- `lists::put_bytes` meets its contract: the loop writes each of the first n bytes as a list of one. Assumes nothing.
+use mathlib.Core.Path.{_≡_, refl, sym}
+use Prim.Native.Nat.{_-_}
+use native.Mathlib.Omega.{arith}
+use borrow.Author.Needs.{needs}
+use lib.ListN.{length, getD}
+use Rattle.lists.specs.Writing.{Room}
+use Rattle.lists.proofs.Each.{single, flat-single}
+use Rattle.lists.proofs.Loops.{there-all}
+use Rattle.lists.proofs.Writing.{room-as, wrote-as}
+use Rattle.lists.proofs.WritingLoops.{Going, going-start, going-room, going-next, going-end, going-long}
+use Rattle.lists.proofs.put_bytes.Statement.{statement}
+use Rattle.lists.proofs.put_bytes.Tie as tie
+
+abbrev Inv-loop : tie.InvT-loop
+Inv-loop out₀ at n bytes place₀ i₀ out place i = Going single n bytes n out₀ at out place i
+
+abbrev μ-loop : tie.MeasureT-loop
+μ-loop out₀ at n bytes place₀ i₀ out place i = n - i
+
+-- the byte that a turn writes has room
+fits : (c : tie.In-loop Inv-loop μ-loop) → Room (c .before .loop .out) (c .before .loop .place) (single (getD (c .before .before .args .t3) (c .before .loop .i) 0))
+fits c = going-room 0 (c .before .loop .inv) (c .loop-test .taken) (room-as (sym (flat-single _)) (c .before .before .pre .1))
+
+loop-holds : tie.Need-loop-holds Inv-loop μ-loop
+loop-holds c =
+    let e : length (c .args .t3) ≡ 16 = search needs in
+    going-start (there-all _ _ (omega arith))
+
+array-read-out : tie.Need-array-read-out Inv-loop μ-loop
+array-read-out c = search needs
+
+slice-write-out : tie.Need-slice-write-out Inv-loop μ-loop
+slice-write-out c = omega (arith, fits c)
+
+add-place : tie.Need-add-place Inv-loop μ-loop
+add-place c = omega (arith, fits c, going-long (c .before .loop .inv))
+
+add-i : tie.Need-add-i Inv-loop μ-loop
+add-i c = search needs
+
+loop-less : tie.Need-loop-less Inv-loop μ-loop
+loop-less c = search needs
+
+loop-again : tie.Need-loop-again Inv-loop μ-loop
+loop-again c = going-next 0 (c .before .loop .inv) (c .loop-test .taken) (record { place = refl; bytes = refl })
+
+same-length : tie.Need-same-length Inv-loop μ-loop
+same-length c = going-long (c .before .loop .inv)
+
+returns : tie.Need-returns Inv-loop μ-loop
+returns c = wrote-as (flat-single _) (going-end (c .before .loop .inv) (c .loop-test .left))
+
+pub put-bytes-spec : {M : Type 1} → statement M
+put-bytes-spec =
+    tie.close
+    (tie.spec
+    Inv-loop
+    μ-loop
+    loop-holds
+    array-read-out
+    slice-write-out
+    add-place
+    add-i
+    loop-less
+    loop-again
+    same-length
+    returns)
