@@ -6,6 +6,7 @@ ghost use mathlib.Core.List.{[], _∷_};
 ghost use Prim.Native.Nat.{_+_, _^_, _<_, _≤_};
 ghost use lib.ListN.{length, getD, take};
 ghost use Rattle.integers.specs.Numbers.{bytesOf, numberAt};
+ghost use Rattle.lists.specs.Writing.{splice};
 ghost use Rattle.commands.specs.Table.{letterV, letterU, letterM, letterC, letterP, letterE, plusSign, letterL, letterT, letterQ, letterR};
 ghost use Rattle.commands.specs.Table.{rows, rowAt, widthAt, sizeOfRow, sizeOfByte};
 ghost use Rattle.commands.specs.Rows.{written};
@@ -318,5 +319,124 @@ pub fn size_of(byte: u8) -> usize
         b'G' => row_size(ROW_GOAL),
         b'Z' => row_size(ROW_END),
         _ => 1,
+    }
+}
+
+// The bytes of one command: the first `length` of `bytes`.
+pub struct Coded {
+    pub bytes: [u8; 16],
+    pub length: usize,
+}
+
+// The bytes with a number of one, two or four bytes stored from a place on.
+fn with_byte(mut bytes: [u8; 16], at: usize, n: u8) -> [u8; 16]
+    requires { ⌜ at < 16 ⌝ }
+    ensures { λ r. ⌜ r ≡ splice bytes at (bytesOf 1 n) ⌝ }
+{
+    bytes[at] = n;
+    bytes
+}
+
+fn with_half(mut bytes: [u8; 16], at: usize, n: u16) -> [u8; 16]
+    requires { ⌜ at + 1 < 16 ⌝ }
+    ensures { λ r. ⌜ r ≡ splice bytes at (bytesOf 2 n) ⌝ }
+{
+    bytes[at] = (n % 256) as u8;
+    let second = at + 1;
+    bytes[second] = (n / 256 % 256) as u8;
+    bytes
+}
+
+fn with_word(mut bytes: [u8; 16], at: usize, n: u32) -> [u8; 16]
+    requires { ⌜ at + 3 < 16 ⌝ }
+    ensures { λ r. ⌜ r ≡ splice bytes at (bytesOf 4 n) ⌝ }
+{
+    bytes[at] = (n % 256) as u8;
+    let second = at + 1;
+    let upper = n / 256;
+    bytes[second] = (upper % 256) as u8;
+    let third = second + 1;
+    let top = upper / 256;
+    bytes[third] = (top % 256) as u8;
+    let fourth = third + 1;
+    bytes[fourth] = (top / 256 % 256) as u8;
+    bytes
+}
+
+// A command byte and its operands, one function for each choice of widths.
+fn coded_alone(byte: u8) -> Coded
+    ensures { λ r. ⌜ (take (r .length) (r .bytes) ≡ atWidths (1 ∷ []) (byte ∷ [])) × (r .length ≤ 16) ⌝ }
+{
+    let bytes = with_byte([0; 16], 0, byte);
+    Coded { bytes, length: 1 }
+}
+
+fn coded_word(byte: u8, x: u32) -> Coded
+    ensures { λ r. ⌜ (take (r .length) (r .bytes) ≡ atWidths (1 ∷ 4 ∷ []) (byte ∷ x ∷ [])) × (r .length ≤ 16) ⌝ }
+{
+    let bytes = with_word(with_byte([0; 16], 0, byte), 1, x);
+    Coded { bytes, length: 5 }
+}
+
+fn coded_words(byte: u8, x: u32, y: u32, z: u32) -> Coded
+    ensures { λ r. ⌜ (take (r .length) (r .bytes) ≡ atWidths (1 ∷ 4 ∷ 4 ∷ 4 ∷ []) (byte ∷ x ∷ y ∷ z ∷ [])) × (r .length ≤ 16) ⌝ }
+{
+    let front = with_word(with_byte([0; 16], 0, byte), 1, x);
+    let bytes = with_word(with_word(front, 5, y), 9, z);
+    Coded { bytes, length: 13 }
+}
+
+fn coded_halves(byte: u8, x: u16, y: u16) -> Coded
+    ensures { λ r. ⌜ (take (r .length) (r .bytes) ≡ atWidths (1 ∷ 2 ∷ 2 ∷ []) (byte ∷ x ∷ y ∷ [])) × (r .length ≤ 16) ⌝ }
+{
+    let front = with_byte([0; 16], 0, byte);
+    let bytes = with_half(with_half(front, 1, x), 3, y);
+    Coded { bytes, length: 5 }
+}
+
+fn coded_byte_half(byte: u8, x: u8, y: u16) -> Coded
+    ensures { λ r. ⌜ (take (r .length) (r .bytes) ≡ atWidths (1 ∷ 1 ∷ 2 ∷ []) (byte ∷ x ∷ y ∷ [])) × (r .length ≤ 16) ⌝ }
+{
+    let front = with_byte([0; 16], 0, byte);
+    let bytes = with_half(with_byte(front, 1, x), 2, y);
+    Coded { bytes, length: 4 }
+}
+
+fn coded_byte_word(byte: u8, x: u8, y: u32) -> Coded
+    ensures { λ r. ⌜ (take (r .length) (r .bytes) ≡ atWidths (1 ∷ 1 ∷ 4 ∷ []) (byte ∷ x ∷ y ∷ [])) × (r .length ≤ 16) ⌝ }
+{
+    let front = with_byte([0; 16], 0, byte);
+    let bytes = with_word(with_byte(front, 1, x), 2, y);
+    Coded { bytes, length: 6 }
+}
+
+fn coded_bytes_word(byte: u8, x: u8, y: u8, z: u32) -> Coded
+    ensures { λ r. ⌜ (take (r .length) (r .bytes) ≡ atWidths (1 ∷ 1 ∷ 1 ∷ 4 ∷ []) (byte ∷ x ∷ y ∷ z ∷ [])) × (r .length ≤ 16) ⌝ }
+{
+    let front = with_byte(with_byte([0; 16], 0, byte), 1, x);
+    let bytes = with_word(with_byte(front, 2, y), 3, z);
+    Coded { bytes, length: 7 }
+}
+
+// The bytes of a command. A refusal is no command, and has the byte 0.
+pub fn code_of(c: Command) -> Coded
+    ensures { λ r. ⌜ (take (r .length) (r .bytes) ≡ encode c) × (r .length ≤ 16) ⌝ }
+{
+    match c {
+        Command::Variable(x, y, z) => coded_words(row_byte(ROW_VARIABLE), x, y, z),
+        Command::Start(x) => coded_word(row_byte(ROW_START), x),
+        Command::Mode(x, y) => coded_halves(row_byte(ROW_MODE), x, y),
+        Command::Action => coded_alone(row_byte(ROW_ACTION)),
+        Command::Condition(x, y, z) => coded_bytes_word(row_byte(ROW_CONDITION), x, y, z),
+        Command::ModeCondition(x, y) => coded_byte_half(row_byte(ROW_MODE_CONDITION), x, y),
+        Command::ModeEffect(x, y) => coded_byte_half(row_byte(ROW_MODE_EFFECT), x, y),
+        Command::Add(x, y) => coded_byte_word(row_byte(ROW_ADD), x, y),
+        Command::Linear(x, y) => coded_byte_word(row_byte(ROW_LINEAR), x, y),
+        Command::Term(x, y) => coded_byte_word(row_byte(ROW_TERM), x, y),
+        Command::Quotient(x, y, z) => coded_bytes_word(row_byte(ROW_QUOTIENT), x, y, z),
+        Command::Residue(x, y, z) => coded_bytes_word(row_byte(ROW_RESIDUE), x, y, z),
+        Command::Goal => coded_alone(row_byte(ROW_GOAL)),
+        Command::End => coded_alone(row_byte(ROW_END)),
+        Command::Refused(_) => coded_alone(0),
     }
 }
