@@ -3,13 +3,13 @@
 
 ghost use mathlib.Core.Path.{_≡_};
 ghost use mathlib.Core.List.{[], _∷_};
-ghost use Prim.Native.Nat.{_+_, _^_, _<_, _≤_};
+ghost use Prim.Native.Nat.{_+_, _<_, _≤_};
 ghost use lib.ListN.{length, getD, take};
-ghost use Rattle.integers.specs.Numbers.{bytesOf, numberAt};
+ghost use Rattle.integers.specs.Numbers.{bytesOf};
 ghost use Rattle.lists.specs.Writing.{splice};
 ghost use Rattle.commands.specs.Table.{letterV, letterU, letterM, letterC, letterP, letterE, plusSign, letterL, letterT, letterQ, letterR};
-ghost use Rattle.commands.specs.Table.{rows, rowAt, widthAt, sizeOfRow, sizeOfByte};
-ghost use Rattle.commands.specs.Rows.{written};
+ghost use Rattle.commands.specs.Table.{rows, rowAt, sizeOfByte};
+ghost use Rattle.commands.specs.Rows.{written, Narrow, sizeOfWidths, Read};
 ghost use Rattle.commands.specs.Reading.{commandAt};
 ghost use Rattle.commands.specs.Encoding.{atWidths, encode};
 
@@ -33,57 +33,96 @@ pub enum Command {
     Refused(u8),
 }
 
-// A row of the table: a command byte, how many operands follow it, and the width of each in bytes (0 where there is none).
-struct Row(u8, u8, [u8; 3]);
-
-// The rows by the command.
-const ROW_VARIABLE: usize = 0;
-
-const ROW_START: usize = 1;
-
-const ROW_MODE: usize = 2;
-
-const ROW_ACTION: usize = 3;
-
-const ROW_CONDITION: usize = 4;
-
-const ROW_MODE_CONDITION: usize = 5;
-
-const ROW_MODE_EFFECT: usize = 6;
-
-const ROW_ADD: usize = 7;
-
-const ROW_LINEAR: usize = 8;
-
-const ROW_TERM: usize = 9;
-
-const ROW_QUOTIENT: usize = 10;
-
-const ROW_RESIDUE: usize = 11;
-
-const ROW_GOAL: usize = 12;
-
-const ROW_END: usize = 13;
-
-// The command bytes with the widths of their operands: the one list that reading and writing go by.
-const TABLE: [Row; 14] = [
-    Row(b'V', 3, [4, 4, 4]),
-    Row(b'U', 1, [4, 0, 0]),
-    Row(b'M', 2, [2, 2, 0]),
-    Row(b'A', 0, [0, 0, 0]),
-    Row(b'C', 3, [1, 1, 4]),
-    Row(b'P', 2, [1, 2, 0]),
-    Row(b'E', 2, [1, 2, 0]),
-    Row(b'+', 2, [1, 4, 0]),
-    Row(b'L', 2, [1, 4, 0]),
-    Row(b'T', 2, [1, 4, 0]),
-    Row(b'Q', 3, [1, 1, 4]),
-    Row(b'R', 3, [1, 1, 4]),
-    Row(b'G', 0, [0, 0, 0]),
-    Row(b'Z', 0, [0, 0, 0]),
+// The one list that reading and writing go by. A row for each command: its byte, how many operands follow, and the width of each in
+// bytes, 0 where there is no operand.
+const TABLE: [[u8; 5]; 14] = [
+    [b'V', 3, 4, 4, 4],
+    [b'U', 1, 4, 0, 0],
+    [b'M', 2, 2, 2, 0],
+    [b'A', 0, 0, 0, 0],
+    [b'C', 3, 1, 1, 4],
+    [b'P', 2, 1, 2, 0],
+    [b'E', 2, 1, 2, 0],
+    [b'+', 2, 1, 4, 0],
+    [b'L', 2, 1, 4, 0],
+    [b'T', 2, 1, 4, 0],
+    [b'Q', 3, 1, 1, 4],
+    [b'R', 3, 1, 1, 4],
+    [b'G', 0, 0, 0, 0],
+    [b'Z', 0, 0, 0, 0],
 ];
 
-fn row_at(i: usize) -> Row
+// The rows by the command.
+const VARIABLE: usize = 0;
+
+const START: usize = 1;
+
+const MODE: usize = 2;
+
+const ACTION: usize = 3;
+
+const CONDITION: usize = 4;
+
+const MODE_CONDITION: usize = 5;
+
+const MODE_EFFECT: usize = 6;
+
+const ADD: usize = 7;
+
+const LINEAR: usize = 8;
+
+const TERM: usize = 9;
+
+const QUOTIENT: usize = 10;
+
+const RESIDUE: usize = 11;
+
+const GOAL: usize = 12;
+
+const END: usize = 13;
+
+// The widths of the operands by the command, taken from the table when the crate is compiled.
+const VARIABLE_WIDTHS: [u8; 3] = [TABLE[VARIABLE][2], TABLE[VARIABLE][3], TABLE[VARIABLE][4]];
+
+const START_WIDTHS: [u8; 3] = [TABLE[START][2], TABLE[START][3], TABLE[START][4]];
+
+const MODE_WIDTHS: [u8; 3] = [TABLE[MODE][2], TABLE[MODE][3], TABLE[MODE][4]];
+
+const ACTION_WIDTHS: [u8; 3] = [TABLE[ACTION][2], TABLE[ACTION][3], TABLE[ACTION][4]];
+
+const CONDITION_WIDTHS: [u8; 3] = [
+    TABLE[CONDITION][2],
+    TABLE[CONDITION][3],
+    TABLE[CONDITION][4],
+];
+
+const MODE_CONDITION_WIDTHS: [u8; 3] = [
+    TABLE[MODE_CONDITION][2],
+    TABLE[MODE_CONDITION][3],
+    TABLE[MODE_CONDITION][4],
+];
+
+const MODE_EFFECT_WIDTHS: [u8; 3] = [
+    TABLE[MODE_EFFECT][2],
+    TABLE[MODE_EFFECT][3],
+    TABLE[MODE_EFFECT][4],
+];
+
+const ADD_WIDTHS: [u8; 3] = [TABLE[ADD][2], TABLE[ADD][3], TABLE[ADD][4]];
+
+const LINEAR_WIDTHS: [u8; 3] = [TABLE[LINEAR][2], TABLE[LINEAR][3], TABLE[LINEAR][4]];
+
+const TERM_WIDTHS: [u8; 3] = [TABLE[TERM][2], TABLE[TERM][3], TABLE[TERM][4]];
+
+const QUOTIENT_WIDTHS: [u8; 3] = [TABLE[QUOTIENT][2], TABLE[QUOTIENT][3], TABLE[QUOTIENT][4]];
+
+const RESIDUE_WIDTHS: [u8; 3] = [TABLE[RESIDUE][2], TABLE[RESIDUE][3], TABLE[RESIDUE][4]];
+
+const GOAL_WIDTHS: [u8; 3] = [TABLE[GOAL][2], TABLE[GOAL][3], TABLE[GOAL][4]];
+
+const END_WIDTHS: [u8; 3] = [TABLE[END][2], TABLE[END][3], TABLE[END][4]];
+
+fn row_at(i: usize) -> [u8; 5]
     requires { ⌜ i < rows ⌝ }
     ensures { λ r. ⌜ r ≡ written (rowAt i) ⌝ }
 {
@@ -94,47 +133,40 @@ fn row_byte(i: usize) -> u8
     requires { ⌜ i < rows ⌝ }
     ensures { λ r. ⌜ r ≡ rowAt i .byte ⌝ }
 {
-    row_at(i).0
+    let row = row_at(i);
+    row[0]
 }
 
-// The width of operand j, and 0 where the command has no such operand.
-fn row_width(i: usize, j: usize) -> usize
-    requires { ⌜ (i < rows) × (j < 3) ⌝ }
-    ensures { λ r. ⌜ (r ≡ widthAt i j) × (r ≤ 4) ⌝ }
+// The length of a command in bytes, its own byte with it.
+fn size(widths: [u8; 3]) -> usize
+    requires { ⌜ Narrow widths ⌝ }
+    ensures { λ r. ⌜ (r ≡ sizeOfWidths widths) × (0 < r) × (r ≤ 13) ⌝ }
 {
-    let widths = row_at(i).2;
-    widths[j] as usize
+    1 + widths[0] as usize + widths[1] as usize + widths[2] as usize
 }
 
-// The length of a command of row i in bytes, its own byte with it.
-fn row_size(i: usize) -> usize
-    requires { ⌜ i < rows ⌝ }
-    ensures { λ r. ⌜ (r ≡ sizeOfRow i) × (0 < r) × (r ≤ 13) ⌝ }
+// The operands of a command whose bytes are all there: they stand one behind another after its byte.
+fn first_operand(rest: &[u8], widths: [u8; 3]) -> u32
+    requires { ⌜ Narrow widths × (sizeOfWidths widths ≤ length (now rest)) ⌝ }
+    ensures { λ r. ⌜ Read (now (rest .entry)) 1 (getD widths 0 0) r ⌝ }
 {
-    1 + row_width(i, 0) + row_width(i, 1) + row_width(i, 2)
+    integers::number_at(rest, 1, widths[0] as usize)
 }
 
-// The operands of a command of row i whose bytes are all there: they stand one behind another after its byte.
-fn first_operand(rest: &[u8], i: usize) -> u32
-    requires { ⌜ (i < rows) × (sizeOfRow i ≤ length (now rest)) ⌝ }
-    ensures { λ r. ⌜ (r ≡ numberAt (now (rest .entry)) 1 (widthAt i 0)) × (r < 256 ^ widthAt i 0) ⌝ }
+fn second_operand(rest: &[u8], widths: [u8; 3]) -> u32
+    requires { ⌜ Narrow widths × (sizeOfWidths widths ≤ length (now rest)) ⌝ }
+    ensures { λ r. ⌜ Read (now (rest .entry)) (1 + getD widths 0 0) (getD widths 1 0) r ⌝ }
 {
-    integers::number_at(rest, 1, row_width(i, 0))
+    let place = 1 + widths[0] as usize;
+    integers::number_at(rest, place, widths[1] as usize)
 }
 
-fn second_operand(rest: &[u8], i: usize) -> u32
-    requires { ⌜ (i < rows) × (sizeOfRow i ≤ length (now rest)) ⌝ }
-    ensures { λ r. ⌜ (r ≡ numberAt (now (rest .entry)) (1 + widthAt i 0) (widthAt i 1)) × (r < 256 ^ widthAt i 1) ⌝ }
+fn third_operand(rest: &[u8], widths: [u8; 3]) -> u32
+    requires { ⌜ Narrow widths × (sizeOfWidths widths ≤ length (now rest)) ⌝ }
+    ensures { λ r. ⌜ Read (now (rest .entry)) (1 + getD widths 0 0 + getD widths 1 0) (getD widths 2 0) r ⌝ }
 {
-    integers::number_at(rest, 1 + row_width(i, 0), row_width(i, 1))
-}
-
-fn third_operand(rest: &[u8], i: usize) -> u32
-    requires { ⌜ (i < rows) × (sizeOfRow i ≤ length (now rest)) ⌝ }
-    ensures { λ r. ⌜ (r ≡ numberAt (now (rest .entry)) (1 + widthAt i 0 + widthAt i 1) (widthAt i 2)) × (r < 256 ^ widthAt i 2) ⌝ }
-{
-    let place = 1 + row_width(i, 0) + row_width(i, 1);
-    integers::number_at(rest, place, row_width(i, 2))
+    let place = 1 + widths[0] as usize + widths[1] as usize;
+    integers::number_at(rest, place, widths[2] as usize)
 }
 
 // One reader a kind of command, for a caller that has seen its byte: the command, or the refusal 2 where its operands are not all there.
@@ -142,12 +174,12 @@ pub fn read_variable(rest: &[u8]) -> Command
     requires { ⌜ (0 < length (now rest)) × (getD (now rest) 0 0 ≡ letterV) ⌝ }
     ensures { λ r. ⌜ r ≡ commandAt (now (rest .entry)) ⌝ }
 {
-    if rest.len() < row_size(ROW_VARIABLE) {
+    if rest.len() < size(VARIABLE_WIDTHS) {
         return Command::Refused(2);
     }
-    let x = first_operand(rest, ROW_VARIABLE);
-    let y = second_operand(rest, ROW_VARIABLE);
-    let z = third_operand(rest, ROW_VARIABLE);
+    let x = first_operand(rest, VARIABLE_WIDTHS);
+    let y = second_operand(rest, VARIABLE_WIDTHS);
+    let z = third_operand(rest, VARIABLE_WIDTHS);
     Command::Variable(x, y, z)
 }
 
@@ -155,10 +187,10 @@ pub fn read_start(rest: &[u8]) -> Command
     requires { ⌜ (0 < length (now rest)) × (getD (now rest) 0 0 ≡ letterU) ⌝ }
     ensures { λ r. ⌜ r ≡ commandAt (now (rest .entry)) ⌝ }
 {
-    if rest.len() < row_size(ROW_START) {
+    if rest.len() < size(START_WIDTHS) {
         return Command::Refused(2);
     }
-    let x = first_operand(rest, ROW_START);
+    let x = first_operand(rest, START_WIDTHS);
     Command::Start(x)
 }
 
@@ -166,11 +198,11 @@ pub fn read_mode(rest: &[u8]) -> Command
     requires { ⌜ (0 < length (now rest)) × (getD (now rest) 0 0 ≡ letterM) ⌝ }
     ensures { λ r. ⌜ r ≡ commandAt (now (rest .entry)) ⌝ }
 {
-    if rest.len() < row_size(ROW_MODE) {
+    if rest.len() < size(MODE_WIDTHS) {
         return Command::Refused(2);
     }
-    let x = first_operand(rest, ROW_MODE) as u16;
-    let y = second_operand(rest, ROW_MODE) as u16;
+    let x = first_operand(rest, MODE_WIDTHS) as u16;
+    let y = second_operand(rest, MODE_WIDTHS) as u16;
     Command::Mode(x, y)
 }
 
@@ -178,12 +210,12 @@ pub fn read_condition(rest: &[u8]) -> Command
     requires { ⌜ (0 < length (now rest)) × (getD (now rest) 0 0 ≡ letterC) ⌝ }
     ensures { λ r. ⌜ r ≡ commandAt (now (rest .entry)) ⌝ }
 {
-    if rest.len() < row_size(ROW_CONDITION) {
+    if rest.len() < size(CONDITION_WIDTHS) {
         return Command::Refused(2);
     }
-    let x = first_operand(rest, ROW_CONDITION) as u8;
-    let y = second_operand(rest, ROW_CONDITION) as u8;
-    let z = third_operand(rest, ROW_CONDITION);
+    let x = first_operand(rest, CONDITION_WIDTHS) as u8;
+    let y = second_operand(rest, CONDITION_WIDTHS) as u8;
+    let z = third_operand(rest, CONDITION_WIDTHS);
     Command::Condition(x, y, z)
 }
 
@@ -191,11 +223,11 @@ pub fn read_mode_condition(rest: &[u8]) -> Command
     requires { ⌜ (0 < length (now rest)) × (getD (now rest) 0 0 ≡ letterP) ⌝ }
     ensures { λ r. ⌜ r ≡ commandAt (now (rest .entry)) ⌝ }
 {
-    if rest.len() < row_size(ROW_MODE_CONDITION) {
+    if rest.len() < size(MODE_CONDITION_WIDTHS) {
         return Command::Refused(2);
     }
-    let x = first_operand(rest, ROW_MODE_CONDITION) as u8;
-    let y = second_operand(rest, ROW_MODE_CONDITION) as u16;
+    let x = first_operand(rest, MODE_CONDITION_WIDTHS) as u8;
+    let y = second_operand(rest, MODE_CONDITION_WIDTHS) as u16;
     Command::ModeCondition(x, y)
 }
 
@@ -203,11 +235,11 @@ pub fn read_mode_effect(rest: &[u8]) -> Command
     requires { ⌜ (0 < length (now rest)) × (getD (now rest) 0 0 ≡ letterE) ⌝ }
     ensures { λ r. ⌜ r ≡ commandAt (now (rest .entry)) ⌝ }
 {
-    if rest.len() < row_size(ROW_MODE_EFFECT) {
+    if rest.len() < size(MODE_EFFECT_WIDTHS) {
         return Command::Refused(2);
     }
-    let x = first_operand(rest, ROW_MODE_EFFECT) as u8;
-    let y = second_operand(rest, ROW_MODE_EFFECT) as u16;
+    let x = first_operand(rest, MODE_EFFECT_WIDTHS) as u8;
+    let y = second_operand(rest, MODE_EFFECT_WIDTHS) as u16;
     Command::ModeEffect(x, y)
 }
 
@@ -215,11 +247,11 @@ pub fn read_add(rest: &[u8]) -> Command
     requires { ⌜ (0 < length (now rest)) × (getD (now rest) 0 0 ≡ plusSign) ⌝ }
     ensures { λ r. ⌜ r ≡ commandAt (now (rest .entry)) ⌝ }
 {
-    if rest.len() < row_size(ROW_ADD) {
+    if rest.len() < size(ADD_WIDTHS) {
         return Command::Refused(2);
     }
-    let x = first_operand(rest, ROW_ADD) as u8;
-    let y = second_operand(rest, ROW_ADD);
+    let x = first_operand(rest, ADD_WIDTHS) as u8;
+    let y = second_operand(rest, ADD_WIDTHS);
     Command::Add(x, y)
 }
 
@@ -227,11 +259,11 @@ pub fn read_linear(rest: &[u8]) -> Command
     requires { ⌜ (0 < length (now rest)) × (getD (now rest) 0 0 ≡ letterL) ⌝ }
     ensures { λ r. ⌜ r ≡ commandAt (now (rest .entry)) ⌝ }
 {
-    if rest.len() < row_size(ROW_LINEAR) {
+    if rest.len() < size(LINEAR_WIDTHS) {
         return Command::Refused(2);
     }
-    let x = first_operand(rest, ROW_LINEAR) as u8;
-    let y = second_operand(rest, ROW_LINEAR);
+    let x = first_operand(rest, LINEAR_WIDTHS) as u8;
+    let y = second_operand(rest, LINEAR_WIDTHS);
     Command::Linear(x, y)
 }
 
@@ -239,11 +271,11 @@ pub fn read_term(rest: &[u8]) -> Command
     requires { ⌜ (0 < length (now rest)) × (getD (now rest) 0 0 ≡ letterT) ⌝ }
     ensures { λ r. ⌜ r ≡ commandAt (now (rest .entry)) ⌝ }
 {
-    if rest.len() < row_size(ROW_TERM) {
+    if rest.len() < size(TERM_WIDTHS) {
         return Command::Refused(2);
     }
-    let x = first_operand(rest, ROW_TERM) as u8;
-    let y = second_operand(rest, ROW_TERM);
+    let x = first_operand(rest, TERM_WIDTHS) as u8;
+    let y = second_operand(rest, TERM_WIDTHS);
     Command::Term(x, y)
 }
 
@@ -251,12 +283,12 @@ pub fn read_quotient(rest: &[u8]) -> Command
     requires { ⌜ (0 < length (now rest)) × (getD (now rest) 0 0 ≡ letterQ) ⌝ }
     ensures { λ r. ⌜ r ≡ commandAt (now (rest .entry)) ⌝ }
 {
-    if rest.len() < row_size(ROW_QUOTIENT) {
+    if rest.len() < size(QUOTIENT_WIDTHS) {
         return Command::Refused(2);
     }
-    let x = first_operand(rest, ROW_QUOTIENT) as u8;
-    let y = second_operand(rest, ROW_QUOTIENT) as u8;
-    let z = third_operand(rest, ROW_QUOTIENT);
+    let x = first_operand(rest, QUOTIENT_WIDTHS) as u8;
+    let y = second_operand(rest, QUOTIENT_WIDTHS) as u8;
+    let z = third_operand(rest, QUOTIENT_WIDTHS);
     Command::Quotient(x, y, z)
 }
 
@@ -264,12 +296,12 @@ pub fn read_residue(rest: &[u8]) -> Command
     requires { ⌜ (0 < length (now rest)) × (getD (now rest) 0 0 ≡ letterR) ⌝ }
     ensures { λ r. ⌜ r ≡ commandAt (now (rest .entry)) ⌝ }
 {
-    if rest.len() < row_size(ROW_RESIDUE) {
+    if rest.len() < size(RESIDUE_WIDTHS) {
         return Command::Refused(2);
     }
-    let x = first_operand(rest, ROW_RESIDUE) as u8;
-    let y = second_operand(rest, ROW_RESIDUE) as u8;
-    let z = third_operand(rest, ROW_RESIDUE);
+    let x = first_operand(rest, RESIDUE_WIDTHS) as u8;
+    let y = second_operand(rest, RESIDUE_WIDTHS) as u8;
+    let z = third_operand(rest, RESIDUE_WIDTHS);
     Command::Residue(x, y, z)
 }
 
@@ -304,20 +336,20 @@ pub fn size_of(byte: u8) -> usize
     ensures { λ r. ⌜ (r ≡ sizeOfByte byte) × (0 < r) × (r ≤ 13) ⌝ }
 {
     match byte {
-        b'V' => row_size(ROW_VARIABLE),
-        b'U' => row_size(ROW_START),
-        b'M' => row_size(ROW_MODE),
-        b'A' => row_size(ROW_ACTION),
-        b'C' => row_size(ROW_CONDITION),
-        b'P' => row_size(ROW_MODE_CONDITION),
-        b'E' => row_size(ROW_MODE_EFFECT),
-        b'+' => row_size(ROW_ADD),
-        b'L' => row_size(ROW_LINEAR),
-        b'T' => row_size(ROW_TERM),
-        b'Q' => row_size(ROW_QUOTIENT),
-        b'R' => row_size(ROW_RESIDUE),
-        b'G' => row_size(ROW_GOAL),
-        b'Z' => row_size(ROW_END),
+        b'V' => size(VARIABLE_WIDTHS),
+        b'U' => size(START_WIDTHS),
+        b'M' => size(MODE_WIDTHS),
+        b'A' => size(ACTION_WIDTHS),
+        b'C' => size(CONDITION_WIDTHS),
+        b'P' => size(MODE_CONDITION_WIDTHS),
+        b'E' => size(MODE_EFFECT_WIDTHS),
+        b'+' => size(ADD_WIDTHS),
+        b'L' => size(LINEAR_WIDTHS),
+        b'T' => size(TERM_WIDTHS),
+        b'Q' => size(QUOTIENT_WIDTHS),
+        b'R' => size(RESIDUE_WIDTHS),
+        b'G' => size(GOAL_WIDTHS),
+        b'Z' => size(END_WIDTHS),
         _ => 1,
     }
 }
@@ -423,20 +455,20 @@ pub fn code_of(c: Command) -> Coded
     ensures { λ r. ⌜ (take (r .length) (r .bytes) ≡ encode c) × (r .length ≤ 16) ⌝ }
 {
     match c {
-        Command::Variable(x, y, z) => coded_words(row_byte(ROW_VARIABLE), x, y, z),
-        Command::Start(x) => coded_word(row_byte(ROW_START), x),
-        Command::Mode(x, y) => coded_halves(row_byte(ROW_MODE), x, y),
-        Command::Action => coded_alone(row_byte(ROW_ACTION)),
-        Command::Condition(x, y, z) => coded_bytes_word(row_byte(ROW_CONDITION), x, y, z),
-        Command::ModeCondition(x, y) => coded_byte_half(row_byte(ROW_MODE_CONDITION), x, y),
-        Command::ModeEffect(x, y) => coded_byte_half(row_byte(ROW_MODE_EFFECT), x, y),
-        Command::Add(x, y) => coded_byte_word(row_byte(ROW_ADD), x, y),
-        Command::Linear(x, y) => coded_byte_word(row_byte(ROW_LINEAR), x, y),
-        Command::Term(x, y) => coded_byte_word(row_byte(ROW_TERM), x, y),
-        Command::Quotient(x, y, z) => coded_bytes_word(row_byte(ROW_QUOTIENT), x, y, z),
-        Command::Residue(x, y, z) => coded_bytes_word(row_byte(ROW_RESIDUE), x, y, z),
-        Command::Goal => coded_alone(row_byte(ROW_GOAL)),
-        Command::End => coded_alone(row_byte(ROW_END)),
+        Command::Variable(x, y, z) => coded_words(row_byte(VARIABLE), x, y, z),
+        Command::Start(x) => coded_word(row_byte(START), x),
+        Command::Mode(x, y) => coded_halves(row_byte(MODE), x, y),
+        Command::Action => coded_alone(row_byte(ACTION)),
+        Command::Condition(x, y, z) => coded_bytes_word(row_byte(CONDITION), x, y, z),
+        Command::ModeCondition(x, y) => coded_byte_half(row_byte(MODE_CONDITION), x, y),
+        Command::ModeEffect(x, y) => coded_byte_half(row_byte(MODE_EFFECT), x, y),
+        Command::Add(x, y) => coded_byte_word(row_byte(ADD), x, y),
+        Command::Linear(x, y) => coded_byte_word(row_byte(LINEAR), x, y),
+        Command::Term(x, y) => coded_byte_word(row_byte(TERM), x, y),
+        Command::Quotient(x, y, z) => coded_bytes_word(row_byte(QUOTIENT), x, y, z),
+        Command::Residue(x, y, z) => coded_bytes_word(row_byte(RESIDUE), x, y, z),
+        Command::Goal => coded_alone(row_byte(GOAL)),
+        Command::End => coded_alone(row_byte(END)),
         Command::Refused(_) => coded_alone(0),
     }
 }

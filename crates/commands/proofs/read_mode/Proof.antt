@@ -8,13 +8,13 @@ use borrow.Author.Needs.{needs}
 use Rattle.commands.proofs.read_mode.Statement.{statement}
 use Rattle.commands.proofs.read_mode.Tie as tie
 
-row-size-requires : tie.Need-row-size-requires
-row-size-requires c κs = search needs
+size-requires : tie.Need-size-requires
+size-requires c κs = search needs
 
 returns : tie.Need-returns
 returns c =
     let s = c .before .before .before in
-    sym (short-as (now (s .args .rest)) 2 (lit< tt) (s .pre .0) (s .pre .1) (rw (← c .before .row-size .ensures .0) (c .if1 .taken)))
+    sym (short-as (now (s .args .rest)) 2 (lit< tt) (s .pre .0) (s .pre .1) (rw (← c .before .size .ensures .0) (c .if1 .taken)))
 
 first-operand-requires : tie.Need-first-operand-requires
 first-operand-requires c κs = search needs
@@ -32,14 +32,14 @@ returns-2 : tie.Need-returns-2
 returns-2 c =
     let t = c .before .before in
     let s = t .before .before .before in
-    (λ i. Mode (c .before .first-operand .ensures .0 i) (c .second-operand .ensures .0 i))
-    ∙ sym (whole-as (now (s .args .rest)) 2 (lit< tt) (s .pre .0) (s .pre .1) (rw (← t .before .row-size .ensures .0) (t .if1 .left)))
+    (λ i. Mode (c .before .first-operand .ensures .is i) (c .second-operand .ensures .is i))
+    ∙ sym (whole-as (now (s .args .rest)) 2 (lit< tt) (s .pre .0) (s .pre .1) (rw (← t .before .size .ensures .0) (t .if1 .left)))
 
 pub read-mode-spec : {M : Type 1} → statement M
 read-mode-spec =
     tie.close
     (tie.spec
-    row-size-requires
+    size-requires
     returns
     first-operand-requires
     cast-x

@@ -8,13 +8,13 @@ use borrow.Author.Needs.{needs}
 use Rattle.commands.proofs.read_residue.Statement.{statement}
 use Rattle.commands.proofs.read_residue.Tie as tie
 
-row-size-requires : tie.Need-row-size-requires
-row-size-requires c κs = search needs
+size-requires : tie.Need-size-requires
+size-requires c κs = search needs
 
 returns : tie.Need-returns
 returns c =
     let s = c .before .before .before in
-    sym (short-as (now (s .args .rest)) 11 (lit< tt) (s .pre .0) (s .pre .1) (rw (← c .before .row-size .ensures .0) (c .if1 .taken)))
+    sym (short-as (now (s .args .rest)) 11 (lit< tt) (s .pre .0) (s .pre .1) (rw (← c .before .size .ensures .0) (c .if1 .taken)))
 
 first-operand-requires : tie.Need-first-operand-requires
 first-operand-requires c κs = search needs
@@ -35,14 +35,14 @@ returns-2 : tie.Need-returns-2
 returns-2 c =
     let t = c .before .before .before in
     let s = t .before .before .before in
-    (λ i. Residue (c .before .before .first-operand .ensures .0 i) (c .before .second-operand .ensures .0 i) (c .third-operand .ensures .0 i))
-    ∙ sym (whole-as (now (s .args .rest)) 11 (lit< tt) (s .pre .0) (s .pre .1) (rw (← t .before .row-size .ensures .0) (t .if1 .left)))
+    (λ i. Residue (c .before .before .first-operand .ensures .is i) (c .before .second-operand .ensures .is i) (c .third-operand .ensures .is i))
+    ∙ sym (whole-as (now (s .args .rest)) 11 (lit< tt) (s .pre .0) (s .pre .1) (rw (← t .before .size .ensures .0) (t .if1 .left)))
 
 pub read-residue-spec : {M : Type 1} → statement M
 read-residue-spec =
     tie.close
     (tie.spec
-    row-size-requires
+    size-requires
     returns
     first-operand-requires
     cast-x
