@@ -150,7 +150,7 @@ edges-is (c ∷ cs) zero at h o = absurd (omega (arith, h))
 edges-is (c ∷ cs) (suc n) at h (o, os) =
     ap (edges (suc n) at) (append-assoc (encode c) (encodeAll cs) (encode End))
     ∙ ap (λ (b : Bool). cond b [] (rest (sizeOfByte (byteOf c)) (drop (sizeOfByte (byteOf c)) (encode c ++ (encodeAll cs ++ encode End))))) (ne-eqb (length (encode c ++ (encodeAll cs ++ encode End))) 0 (λ e. omega (arith, e)))
-    ∙ ap₂ rest (size-encode c o) (drop-encode c o (encodeAll cs ++ encode End))
+    ∙ ap₂ rest (size-encode c o) (drop-encode c (encodeAll cs ++ encode End) o)
     ∙ ap (λ (z : List ℕ). cond (eqb (byteOf c) 71) (at ∷ []) (cond (eqb (byteOf c) 65) (at ∷ z) z)) (edges-is cs n (at + length (encode c)) (omega (arith, h)) os)
   where
     rest : ℕ → List ℕ → List ℕ
@@ -330,7 +330,7 @@ find (Refused number ∷ cs) k at d g (o, os) h = absurd (o .0)
 -- ---- reading the bytes of commands
 in-one : (n : ℕ) (c : Command) (rest : List ℕ) → Fits c → commandsIn (suc n) (encode c ++ rest) ≡ c ∷ commandsIn n rest
 unfolding commandsIn
-in-one n c rest o = rw (ne-eqb (length (encode c ++ rest)) 0 (λ e. omega (arith, e)), read-encode c o rest, drop-encode c o rest) refl
+in-one n c rest o = rw (ne-eqb (length (encode c ++ rest)) 0 (λ e. omega (arith, e)), read-encode c rest o, drop-encode c rest o) refl
 
 in-all : (cs : List Command) (n : ℕ) → length cs ≤ n → All Fits cs → commandsIn n (encodeAll cs) ≡ cs
 unfolding commandsIn

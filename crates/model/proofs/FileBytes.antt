@@ -46,9 +46,9 @@ module _ (l : Limits) where
           → Whole s (gather (λ q. commandsFrom l k q (drop (sizeOfByte (getD s 0 0)) s)) (commandAt s) q o)
       step q Going f h rec =
           let (_, _, kn) = take-inv l p s (subst Alive (sym f) tt) in
-          let e : s ≡ encode (commandAt s) ++ drop (sizeOfByte (getD s 0 0)) s = encode-read s kn b in
+          let e : s ≡ encode (commandAt s) ++ drop (sizeOfByte (getD s 0 0)) s = encode-read s b kn in
           let (w, os) = rec q h in
-          (e ∙ ap (λ (z : List ℕ). encode (commandAt s) ++ z) w ∙ sym (append-assoc (encode (commandAt s)) (encodeAll (commandsFrom l k q (drop (sizeOfByte (getD s 0 0)) s))) (encode End)), (read-fits s kn b, os))
+          (e ∙ ap (λ (z : List ℕ). encode (commandAt s) ++ z) w ∙ sym (append-assoc (encode (commandAt s)) (encodeAll (commandsFrom l k q (drop (sizeOfByte (getD s 0 0)) s))) (encode End)), (read-fits s b kn, os))
       step q Ended f h rec =
           let (_, b′, kn) = take-inv l p s (subst Alive (sym f) tt) in
           let z : commandAt s ≡ End = end-only l p (commandAt s) (sym (ap (λ (t : Taken). t .progress) b′) ∙ f) in

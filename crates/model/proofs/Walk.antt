@@ -22,18 +22,18 @@ use Rattle.model.specs.Trail.{Trail, endState}
 -- ---- from commands to bytes and back
 pub take-encode : (l : Limits) (p : ReadingState) (c : Command) (rest : List ℕ) → Fits c → allowed l p (byteOf c) ≡ true → takeOf l p (encode c ++ rest) ≡ ruleOf l p c
 unfolding takeOf
-take-encode l p c rest o a = rw (ne-eqb (length (encode c ++ rest)) 0 (λ e. omega arith), a, read-encode c o rest) refl
+take-encode l p c rest o a = rw (ne-eqb (length (encode c ++ rest)) 0 (λ e. omega arith), a, read-encode c rest o) refl
 
 module _ (l : Limits) where
   run-one : (len k : ℕ) (p : ReadingState) (at : ℕ) (c : Command) (rest : List ℕ) → Fits c → allowed l p (byteOf c) ≡ true → ruleOf l p c .progress ≡ Going
       → verdictFrom l len (suc k) p at (encode c ++ rest) ≡ verdictFrom l len k (ruleOf l p c .state) (at + sizeOfByte (byteOf c)) rest
   unfolding verdictFrom
-  run-one len k p at c rest o a g = rw (take-encode l p c rest o a, g, drop-encode c o rest) refl
+  run-one len k p at c rest o a g = rw (take-encode l p c rest o a, g, drop-encode c rest o) refl
 
   trace-one : (k : ℕ) (p : ReadingState) (c : Command) (rest : List ℕ) → Fits c → allowed l p (byteOf c) ≡ true → ruleOf l p c .progress ≡ Going
       → commandsFrom l (suc k) p (encode c ++ rest) ≡ c ∷ commandsFrom l k (ruleOf l p c .state) rest
   unfolding commandsFrom
-  trace-one k p c rest o a g = rw (take-encode l p c rest o a, g, drop-encode c o rest, read-encode c o rest) refl
+  trace-one k p c rest o a g = rw (take-encode l p c rest o a, g, drop-encode c rest o, read-encode c rest o) refl
 
   end-allowed : (p : ReadingState) → p .section ≡ 3 → allowed l p 90 ≡ true
   end-allowed p e = eq-eqb (p .section) 3 e
