@@ -2,7 +2,7 @@
 -- Assumes nothing.
 use mathlib.Core.Path.{_≡_}
 use Prim.Native.Nat.{ℕ}
-use mathlib.Core.List.{List, _++_}
+use mathlib.Core.List.{List, [], _++_}
 use lib.ListN.{length, take}
 use lib.IntN.{ℤ}
 use Rattle.commands.specs.declared.Command.{Command}
@@ -35,3 +35,10 @@ KeepsConditions room n variables relations constants n′ variables′ relations
 abbrev pub KeepsPairs : {A : Type 0} (none : A) (room n : ℕ) (firsts : List ℕ) (seconds : List A) (n′ : ℕ) (firsts′ : List ℕ) (seconds′ : List A) → List (ℕ × A) → Type 0
 KeepsPairs {A} none room n firsts seconds n′ firsts′ seconds′ more =
     (all : List (ℕ × A)) → PairsKept none room n firsts seconds all → PairsKept none room n′ firsts′ seconds′ (all ++ more)
+
+-- from none on, all of a list are kept, so far as there is room
+abbrev pub FillsConditions : (room : ℕ) (variables relations : List ℕ) (constants : List ℤ) (n : ℕ) (variables′ relations′ : List ℕ) (constants′ : List ℤ) → List (NumericCondition ℕ) → Type 0
+FillsConditions room variables relations constants n variables′ relations′ constants′ all = ConditionsKept room 0 variables relations constants [] → ConditionsKept room n variables′ relations′ constants′ all
+
+abbrev pub FillsPairs : {A : Type 0} (none : A) (room : ℕ) (firsts : List ℕ) (seconds : List A) (n : ℕ) (firsts′ : List ℕ) (seconds′ : List A) → List (ℕ × A) → Type 0
+FillsPairs none room firsts seconds n firsts′ seconds′ all = PairsKept none room 0 firsts seconds [] → PairsKept none room n firsts′ seconds′ all
