@@ -1,0 +1,55 @@
+-- What the decoded values say, in the words of the model.
+-- Assumes nothing.
+use Prim.Native.Nat.{ℕ}
+use mathlib.Core.List.{List, [], _∷_}
+use lib.ListN.{getD, take}
+use lib.IntN.{ℤ, pos}
+use Rattle.integers.specs.Relation.{relationOf}
+use Rattle.lists.specs.Each.{tabulate}
+use Rattle.model.specs.Tasks.{variable, NumericCondition, RestrictedAction}
+use Rattle.model.specs.Limits.{sourceLimits, restrictedLimits}
+use Rattle.actions.specs.declared.RestrictedAction.{RestrictedAction as DecodedRestricted}
+
+-- for how much of an action or goal, of either kind, there is room: the restricted limits, which are the wider ones
+abbrev pub conditionRoom : ℕ
+conditionRoom = restrictedLimits .conditions
+
+abbrev pub modeConditionRoom : ℕ
+modeConditionRoom = restrictedLimits .modeConditions
+
+abbrev pub modeEffectRoom : ℕ
+modeEffectRoom = restrictedLimits .modes
+
+abbrev pub additionRoom : ℕ
+additionRoom = restrictedLimits .additions
+
+-- condition i of those that stand in arrays of variables, relations and constants; and the first n of them
+abbrev pub conditionAt : List ℕ → List ℕ → List ℤ → ℕ → NumericCondition ℕ
+conditionAt variables relations constants i = record { measured = variable (getD variables i 0); relation = relationOf (getD relations i 0); constant = getD constants i (pos 0) }
+
+abbrev pub conditionsIs : ℕ → List ℕ → List ℕ → List ℤ → List (NumericCondition ℕ)
+conditionsIs n variables relations constants = tabulate n (conditionAt variables relations constants)
+
+-- pair i of those that stand in two arrays; and the first n of them
+abbrev pub pairAt : {A : Type 0} → A → List ℕ → List A → ℕ → ℕ × A
+pairAt none firsts seconds i = (getD firsts i 0, getD seconds i none)
+
+abbrev pub pairsIs : {A : Type 0} → A → ℕ → List ℕ → List A → List (ℕ × A)
+pairsIs none n firsts seconds = tabulate n (pairAt none firsts seconds)
+
+abbrev pub restrictedActionIs : DecodedRestricted → RestrictedAction
+restrictedActionIs a = record {
+  modeConditions = pairsIs 0 (a .«mode_condition_count») (a .«mode_condition_modes») (a .«mode_condition_values»);
+  conditions = conditionsIs (a .«condition_count») (a .«condition_variables») (a .«condition_relations») (a .«condition_constants»);
+  modeEffects = pairsIs 0 (a .«mode_effect_count») (a .«mode_effect_modes») (a .«mode_effect_values»);
+  additions = pairsIs (pos 0) (a .«addition_count») (a .«addition_variables») (a .«addition_amounts»);
+}
+
+-- as much of an action as there is room for
+abbrev pub fittingRestricted : RestrictedAction → RestrictedAction
+fittingRestricted a = record {
+  modeConditions = take modeConditionRoom (a .modeConditions);
+  conditions = take conditionRoom (a .conditions);
+  modeEffects = take modeEffectRoom (a .modeEffects);
+  additions = take additionRoom (a .additions);
+}
