@@ -1,0 +1,4 @@
+pub mod Every
+pub mod Rows
+pub mod Known
+pub mod Encoding

@@ -1,9 +1,10 @@
 -- The bytes of a command: its byte, then its operands at the widths that the table gives.
 -- Assumes nothing.
-use Prim.Native.Nat.{ℕ, _<_}
+use Prim.Native.Nat.{ℕ, _^_, _<_}
 use mathlib.Core.List.{List, [], _∷_, _++_}
+use lib.Dec.{T, ltb}
 use Rattle.integers.specs.Numbers.{bytesOf}
-use Rattle.commands.specs.Table.{rowAt}
+use Rattle.commands.specs.Table.{rows, rowAt}
 use Rattle.commands.specs.declared.Command.{Command}
 use Rattle.commands.specs.declared.Command.the-variants.{Variable, Start, Mode, Action, Condition, ModeCondition, ModeEffect, Add, Linear, Term, Quotient, Residue, Goal, End, Refused}
 
@@ -58,3 +59,18 @@ encode c = byteOf c ∷ atWidths (rowAt (rowNumber c) .widths) (operands c)
 abbrev pub encodeAll : List Command → List ℕ
 encodeAll [] = []
 encodeAll (c ∷ cs) = encode c ++ encodeAll cs
+
+-- a command of the table, and no refusal
+abbrev pub NoRefusal : Command → Type 0
+NoRefusal c = T (ltb (rowNumber c) rows)
+
+-- as many numbers as widths, and each below 256 to the power of its width
+abbrev pub InWidths : List ℕ → List ℕ → Type 0
+InWidths [] [] = Unit {0}
+InWidths [] (v ∷ vs) = ⊥
+InWidths (w ∷ ws) [] = ⊥
+InWidths (w ∷ ws) (v ∷ vs) = (v < 256 ^ w) × InWidths ws vs
+
+-- a command whose operands fit the widths that the table gives them; no refusal is one
+abbrev pub Fits : Command → Type 0
+Fits c = NoRefusal c × InWidths (rowAt (rowNumber c) .widths) (operands c)

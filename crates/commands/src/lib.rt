@@ -1,6 +1,18 @@
 // The commands of a task file: reading one from the front of what remains, its size, its bytes. It knows nothing of what a
 // command means, nor of where in a file it may stand.
 
+ghost use mathlib.Core.Path.{_≡_};
+ghost use mathlib.Core.List.{[], _∷_};
+ghost use Prim.Native.Nat.{_+_, _<_, _≤_};
+ghost use lib.ListN.{length, getD, take};
+ghost use Rattle.integers.specs.Numbers.{bytesOf};
+ghost use Rattle.lists.specs.Writing.{splice};
+ghost use Rattle.commands.specs.Table.{letterV, letterU, letterM, letterC, letterP, letterE, plusSign, letterL, letterT, letterQ, letterR};
+ghost use Rattle.commands.specs.Table.{rows, rowAt, sizeOfByte};
+ghost use Rattle.commands.specs.Rows.{written, Narrow, sizeOfWidths, Read};
+ghost use Rattle.commands.specs.Reading.{commandAt};
+ghost use Rattle.commands.specs.Encoding.{atWidths, encode};
+
 // A command with its operands as the file has them: one case a command byte of either kind of file, plus the refusal.
 // A constant is the bits of a two's complement number; `integers::signed` reads it.
 pub enum Command {
@@ -19,4 +31,444 @@ pub enum Command {
     Goal,
     End,
     Refused(u8),
+}
+
+// The one list that reading and writing go by. A row for each command: its byte, how many operands follow, and the width of each in
+// bytes, 0 where there is no operand.
+const TABLE: [[u8; 5]; 14] = [
+    [b'V', 3, 4, 4, 4],
+    [b'U', 1, 4, 0, 0],
+    [b'M', 2, 2, 2, 0],
+    [b'A', 0, 0, 0, 0],
+    [b'C', 3, 1, 1, 4],
+    [b'P', 2, 1, 2, 0],
+    [b'E', 2, 1, 2, 0],
+    [b'+', 2, 1, 4, 0],
+    [b'L', 2, 1, 4, 0],
+    [b'T', 2, 1, 4, 0],
+    [b'Q', 3, 1, 1, 4],
+    [b'R', 3, 1, 1, 4],
+    [b'G', 0, 0, 0, 0],
+    [b'Z', 0, 0, 0, 0],
+];
+
+// The rows by the command.
+const VARIABLE: usize = 0;
+
+const START: usize = 1;
+
+const MODE: usize = 2;
+
+const ACTION: usize = 3;
+
+const CONDITION: usize = 4;
+
+const MODE_CONDITION: usize = 5;
+
+const MODE_EFFECT: usize = 6;
+
+const ADD: usize = 7;
+
+const LINEAR: usize = 8;
+
+const TERM: usize = 9;
+
+const QUOTIENT: usize = 10;
+
+const RESIDUE: usize = 11;
+
+const GOAL: usize = 12;
+
+const END: usize = 13;
+
+// The widths of the operands by the command, taken from the table when the crate is compiled.
+const VARIABLE_WIDTHS: [u8; 3] = [TABLE[VARIABLE][2], TABLE[VARIABLE][3], TABLE[VARIABLE][4]];
+
+const START_WIDTHS: [u8; 3] = [TABLE[START][2], TABLE[START][3], TABLE[START][4]];
+
+const MODE_WIDTHS: [u8; 3] = [TABLE[MODE][2], TABLE[MODE][3], TABLE[MODE][4]];
+
+const ACTION_WIDTHS: [u8; 3] = [TABLE[ACTION][2], TABLE[ACTION][3], TABLE[ACTION][4]];
+
+const CONDITION_WIDTHS: [u8; 3] = [
+    TABLE[CONDITION][2],
+    TABLE[CONDITION][3],
+    TABLE[CONDITION][4],
+];
+
+const MODE_CONDITION_WIDTHS: [u8; 3] = [
+    TABLE[MODE_CONDITION][2],
+    TABLE[MODE_CONDITION][3],
+    TABLE[MODE_CONDITION][4],
+];
+
+const MODE_EFFECT_WIDTHS: [u8; 3] = [
+    TABLE[MODE_EFFECT][2],
+    TABLE[MODE_EFFECT][3],
+    TABLE[MODE_EFFECT][4],
+];
+
+const ADD_WIDTHS: [u8; 3] = [TABLE[ADD][2], TABLE[ADD][3], TABLE[ADD][4]];
+
+const LINEAR_WIDTHS: [u8; 3] = [TABLE[LINEAR][2], TABLE[LINEAR][3], TABLE[LINEAR][4]];
+
+const TERM_WIDTHS: [u8; 3] = [TABLE[TERM][2], TABLE[TERM][3], TABLE[TERM][4]];
+
+const QUOTIENT_WIDTHS: [u8; 3] = [TABLE[QUOTIENT][2], TABLE[QUOTIENT][3], TABLE[QUOTIENT][4]];
+
+const RESIDUE_WIDTHS: [u8; 3] = [TABLE[RESIDUE][2], TABLE[RESIDUE][3], TABLE[RESIDUE][4]];
+
+const GOAL_WIDTHS: [u8; 3] = [TABLE[GOAL][2], TABLE[GOAL][3], TABLE[GOAL][4]];
+
+const END_WIDTHS: [u8; 3] = [TABLE[END][2], TABLE[END][3], TABLE[END][4]];
+
+fn row_at(i: usize) -> [u8; 5]
+    requires { ⌜ i < rows ⌝ }
+    ensures { λ r. ⌜ r ≡ written (rowAt i) ⌝ }
+{
+    TABLE[i]
+}
+
+fn row_byte(i: usize) -> u8
+    requires { ⌜ i < rows ⌝ }
+    ensures { λ r. ⌜ r ≡ rowAt i .byte ⌝ }
+{
+    let row = row_at(i);
+    row[0]
+}
+
+// The length of a command in bytes, its own byte with it.
+fn size(widths: [u8; 3]) -> usize
+    requires { ⌜ Narrow widths ⌝ }
+    ensures { λ r. ⌜ (r ≡ sizeOfWidths widths) × (0 < r) × (r ≤ 13) ⌝ }
+{
+    1 + widths[0] as usize + widths[1] as usize + widths[2] as usize
+}
+
+// The operands of a command whose bytes are all there: they stand one behind another after its byte.
+fn first_operand(rest: &[u8], widths: [u8; 3]) -> u32
+    requires { ⌜ Narrow widths × (sizeOfWidths widths ≤ length (now rest)) ⌝ }
+    ensures { λ r. ⌜ Read (now (rest .entry)) 1 (getD widths 0 0) r ⌝ }
+{
+    integers::number_at(rest, 1, widths[0] as usize)
+}
+
+fn second_operand(rest: &[u8], widths: [u8; 3]) -> u32
+    requires { ⌜ Narrow widths × (sizeOfWidths widths ≤ length (now rest)) ⌝ }
+    ensures { λ r. ⌜ Read (now (rest .entry)) (1 + getD widths 0 0) (getD widths 1 0) r ⌝ }
+{
+    let place = 1 + widths[0] as usize;
+    integers::number_at(rest, place, widths[1] as usize)
+}
+
+fn third_operand(rest: &[u8], widths: [u8; 3]) -> u32
+    requires { ⌜ Narrow widths × (sizeOfWidths widths ≤ length (now rest)) ⌝ }
+    ensures { λ r. ⌜ Read (now (rest .entry)) (1 + getD widths 0 0 + getD widths 1 0) (getD widths 2 0) r ⌝ }
+{
+    let place = 1 + widths[0] as usize + widths[1] as usize;
+    integers::number_at(rest, place, widths[2] as usize)
+}
+
+// One reader a kind of command, for a caller that has seen its byte: the command, or the refusal 2 where its operands are not all there.
+pub fn read_variable(rest: &[u8]) -> Command
+    requires { ⌜ (0 < length (now rest)) × (getD (now rest) 0 0 ≡ letterV) ⌝ }
+    ensures { λ r. ⌜ r ≡ commandAt (now (rest .entry)) ⌝ }
+{
+    if rest.len() < size(VARIABLE_WIDTHS) {
+        return Command::Refused(2);
+    }
+    let x = first_operand(rest, VARIABLE_WIDTHS);
+    let y = second_operand(rest, VARIABLE_WIDTHS);
+    let z = third_operand(rest, VARIABLE_WIDTHS);
+    Command::Variable(x, y, z)
+}
+
+pub fn read_start(rest: &[u8]) -> Command
+    requires { ⌜ (0 < length (now rest)) × (getD (now rest) 0 0 ≡ letterU) ⌝ }
+    ensures { λ r. ⌜ r ≡ commandAt (now (rest .entry)) ⌝ }
+{
+    if rest.len() < size(START_WIDTHS) {
+        return Command::Refused(2);
+    }
+    let x = first_operand(rest, START_WIDTHS);
+    Command::Start(x)
+}
+
+pub fn read_mode(rest: &[u8]) -> Command
+    requires { ⌜ (0 < length (now rest)) × (getD (now rest) 0 0 ≡ letterM) ⌝ }
+    ensures { λ r. ⌜ r ≡ commandAt (now (rest .entry)) ⌝ }
+{
+    if rest.len() < size(MODE_WIDTHS) {
+        return Command::Refused(2);
+    }
+    let x = first_operand(rest, MODE_WIDTHS) as u16;
+    let y = second_operand(rest, MODE_WIDTHS) as u16;
+    Command::Mode(x, y)
+}
+
+pub fn read_condition(rest: &[u8]) -> Command
+    requires { ⌜ (0 < length (now rest)) × (getD (now rest) 0 0 ≡ letterC) ⌝ }
+    ensures { λ r. ⌜ r ≡ commandAt (now (rest .entry)) ⌝ }
+{
+    if rest.len() < size(CONDITION_WIDTHS) {
+        return Command::Refused(2);
+    }
+    let x = first_operand(rest, CONDITION_WIDTHS) as u8;
+    let y = second_operand(rest, CONDITION_WIDTHS) as u8;
+    let z = third_operand(rest, CONDITION_WIDTHS);
+    Command::Condition(x, y, z)
+}
+
+pub fn read_mode_condition(rest: &[u8]) -> Command
+    requires { ⌜ (0 < length (now rest)) × (getD (now rest) 0 0 ≡ letterP) ⌝ }
+    ensures { λ r. ⌜ r ≡ commandAt (now (rest .entry)) ⌝ }
+{
+    if rest.len() < size(MODE_CONDITION_WIDTHS) {
+        return Command::Refused(2);
+    }
+    let x = first_operand(rest, MODE_CONDITION_WIDTHS) as u8;
+    let y = second_operand(rest, MODE_CONDITION_WIDTHS) as u16;
+    Command::ModeCondition(x, y)
+}
+
+pub fn read_mode_effect(rest: &[u8]) -> Command
+    requires { ⌜ (0 < length (now rest)) × (getD (now rest) 0 0 ≡ letterE) ⌝ }
+    ensures { λ r. ⌜ r ≡ commandAt (now (rest .entry)) ⌝ }
+{
+    if rest.len() < size(MODE_EFFECT_WIDTHS) {
+        return Command::Refused(2);
+    }
+    let x = first_operand(rest, MODE_EFFECT_WIDTHS) as u8;
+    let y = second_operand(rest, MODE_EFFECT_WIDTHS) as u16;
+    Command::ModeEffect(x, y)
+}
+
+pub fn read_add(rest: &[u8]) -> Command
+    requires { ⌜ (0 < length (now rest)) × (getD (now rest) 0 0 ≡ plusSign) ⌝ }
+    ensures { λ r. ⌜ r ≡ commandAt (now (rest .entry)) ⌝ }
+{
+    if rest.len() < size(ADD_WIDTHS) {
+        return Command::Refused(2);
+    }
+    let x = first_operand(rest, ADD_WIDTHS) as u8;
+    let y = second_operand(rest, ADD_WIDTHS);
+    Command::Add(x, y)
+}
+
+pub fn read_linear(rest: &[u8]) -> Command
+    requires { ⌜ (0 < length (now rest)) × (getD (now rest) 0 0 ≡ letterL) ⌝ }
+    ensures { λ r. ⌜ r ≡ commandAt (now (rest .entry)) ⌝ }
+{
+    if rest.len() < size(LINEAR_WIDTHS) {
+        return Command::Refused(2);
+    }
+    let x = first_operand(rest, LINEAR_WIDTHS) as u8;
+    let y = second_operand(rest, LINEAR_WIDTHS);
+    Command::Linear(x, y)
+}
+
+pub fn read_term(rest: &[u8]) -> Command
+    requires { ⌜ (0 < length (now rest)) × (getD (now rest) 0 0 ≡ letterT) ⌝ }
+    ensures { λ r. ⌜ r ≡ commandAt (now (rest .entry)) ⌝ }
+{
+    if rest.len() < size(TERM_WIDTHS) {
+        return Command::Refused(2);
+    }
+    let x = first_operand(rest, TERM_WIDTHS) as u8;
+    let y = second_operand(rest, TERM_WIDTHS);
+    Command::Term(x, y)
+}
+
+pub fn read_quotient(rest: &[u8]) -> Command
+    requires { ⌜ (0 < length (now rest)) × (getD (now rest) 0 0 ≡ letterQ) ⌝ }
+    ensures { λ r. ⌜ r ≡ commandAt (now (rest .entry)) ⌝ }
+{
+    if rest.len() < size(QUOTIENT_WIDTHS) {
+        return Command::Refused(2);
+    }
+    let x = first_operand(rest, QUOTIENT_WIDTHS) as u8;
+    let y = second_operand(rest, QUOTIENT_WIDTHS) as u8;
+    let z = third_operand(rest, QUOTIENT_WIDTHS);
+    Command::Quotient(x, y, z)
+}
+
+pub fn read_residue(rest: &[u8]) -> Command
+    requires { ⌜ (0 < length (now rest)) × (getD (now rest) 0 0 ≡ letterR) ⌝ }
+    ensures { λ r. ⌜ r ≡ commandAt (now (rest .entry)) ⌝ }
+{
+    if rest.len() < size(RESIDUE_WIDTHS) {
+        return Command::Refused(2);
+    }
+    let x = first_operand(rest, RESIDUE_WIDTHS) as u8;
+    let y = second_operand(rest, RESIDUE_WIDTHS) as u8;
+    let z = third_operand(rest, RESIDUE_WIDTHS);
+    Command::Residue(x, y, z)
+}
+
+// The command at the front of what remains of a file; 1 where no command has the byte, 2 where nothing remains or operands are missing.
+pub fn read(rest: &[u8]) -> Command
+    ensures { λ r. ⌜ r ≡ commandAt (now (rest .entry)) ⌝ }
+{
+    if rest.len() == 0 {
+        return Command::Refused(2);
+    }
+    match rest[0] {
+        b'V' => read_variable(rest),
+        b'U' => read_start(rest),
+        b'M' => read_mode(rest),
+        b'A' => Command::Action,
+        b'C' => read_condition(rest),
+        b'P' => read_mode_condition(rest),
+        b'E' => read_mode_effect(rest),
+        b'+' => read_add(rest),
+        b'L' => read_linear(rest),
+        b'T' => read_term(rest),
+        b'Q' => read_quotient(rest),
+        b'R' => read_residue(rest),
+        b'G' => Command::Goal,
+        b'Z' => Command::End,
+        _ => Command::Refused(1),
+    }
+}
+
+// The length of the command that begins with a byte; 1 where no command does.
+pub fn size_of(byte: u8) -> usize
+    ensures { λ r. ⌜ (r ≡ sizeOfByte byte) × (0 < r) × (r ≤ 13) ⌝ }
+{
+    match byte {
+        b'V' => size(VARIABLE_WIDTHS),
+        b'U' => size(START_WIDTHS),
+        b'M' => size(MODE_WIDTHS),
+        b'A' => size(ACTION_WIDTHS),
+        b'C' => size(CONDITION_WIDTHS),
+        b'P' => size(MODE_CONDITION_WIDTHS),
+        b'E' => size(MODE_EFFECT_WIDTHS),
+        b'+' => size(ADD_WIDTHS),
+        b'L' => size(LINEAR_WIDTHS),
+        b'T' => size(TERM_WIDTHS),
+        b'Q' => size(QUOTIENT_WIDTHS),
+        b'R' => size(RESIDUE_WIDTHS),
+        b'G' => size(GOAL_WIDTHS),
+        b'Z' => size(END_WIDTHS),
+        _ => 1,
+    }
+}
+
+// The bytes of one command: the first `length` of `bytes`.
+pub struct Coded {
+    pub bytes: [u8; 16],
+    pub length: usize,
+}
+
+// The bytes with a number of one, two or four bytes stored from a place on.
+fn with_byte(mut bytes: [u8; 16], at: usize, n: u8) -> [u8; 16]
+    requires { ⌜ at < 16 ⌝ }
+    ensures { λ r. ⌜ r ≡ splice bytes at (bytesOf 1 n) ⌝ }
+{
+    bytes[at] = n;
+    bytes
+}
+
+fn with_half(mut bytes: [u8; 16], at: usize, n: u16) -> [u8; 16]
+    requires { ⌜ at + 1 < 16 ⌝ }
+    ensures { λ r. ⌜ r ≡ splice bytes at (bytesOf 2 n) ⌝ }
+{
+    bytes[at] = (n % 256) as u8;
+    let second = at + 1;
+    bytes[second] = (n / 256 % 256) as u8;
+    bytes
+}
+
+fn with_word(mut bytes: [u8; 16], at: usize, n: u32) -> [u8; 16]
+    requires { ⌜ at + 3 < 16 ⌝ }
+    ensures { λ r. ⌜ r ≡ splice bytes at (bytesOf 4 n) ⌝ }
+{
+    bytes[at] = (n % 256) as u8;
+    let second = at + 1;
+    let upper = n / 256;
+    bytes[second] = (upper % 256) as u8;
+    let third = second + 1;
+    let top = upper / 256;
+    bytes[third] = (top % 256) as u8;
+    let fourth = third + 1;
+    bytes[fourth] = (top / 256 % 256) as u8;
+    bytes
+}
+
+// A command byte and its operands, one function for each choice of widths.
+fn coded_alone(byte: u8) -> Coded
+    ensures { λ r. ⌜ (take (r .length) (r .bytes) ≡ atWidths (1 ∷ []) (byte ∷ [])) × (r .length ≤ 16) ⌝ }
+{
+    let bytes = with_byte([0; 16], 0, byte);
+    Coded { bytes, length: 1 }
+}
+
+fn coded_word(byte: u8, x: u32) -> Coded
+    ensures { λ r. ⌜ (take (r .length) (r .bytes) ≡ atWidths (1 ∷ 4 ∷ []) (byte ∷ x ∷ [])) × (r .length ≤ 16) ⌝ }
+{
+    let bytes = with_word(with_byte([0; 16], 0, byte), 1, x);
+    Coded { bytes, length: 5 }
+}
+
+fn coded_words(byte: u8, x: u32, y: u32, z: u32) -> Coded
+    ensures { λ r. ⌜ (take (r .length) (r .bytes) ≡ atWidths (1 ∷ 4 ∷ 4 ∷ 4 ∷ []) (byte ∷ x ∷ y ∷ z ∷ [])) × (r .length ≤ 16) ⌝ }
+{
+    let front = with_word(with_byte([0; 16], 0, byte), 1, x);
+    let bytes = with_word(with_word(front, 5, y), 9, z);
+    Coded { bytes, length: 13 }
+}
+
+fn coded_halves(byte: u8, x: u16, y: u16) -> Coded
+    ensures { λ r. ⌜ (take (r .length) (r .bytes) ≡ atWidths (1 ∷ 2 ∷ 2 ∷ []) (byte ∷ x ∷ y ∷ [])) × (r .length ≤ 16) ⌝ }
+{
+    let front = with_byte([0; 16], 0, byte);
+    let bytes = with_half(with_half(front, 1, x), 3, y);
+    Coded { bytes, length: 5 }
+}
+
+fn coded_byte_half(byte: u8, x: u8, y: u16) -> Coded
+    ensures { λ r. ⌜ (take (r .length) (r .bytes) ≡ atWidths (1 ∷ 1 ∷ 2 ∷ []) (byte ∷ x ∷ y ∷ [])) × (r .length ≤ 16) ⌝ }
+{
+    let front = with_byte([0; 16], 0, byte);
+    let bytes = with_half(with_byte(front, 1, x), 2, y);
+    Coded { bytes, length: 4 }
+}
+
+fn coded_byte_word(byte: u8, x: u8, y: u32) -> Coded
+    ensures { λ r. ⌜ (take (r .length) (r .bytes) ≡ atWidths (1 ∷ 1 ∷ 4 ∷ []) (byte ∷ x ∷ y ∷ [])) × (r .length ≤ 16) ⌝ }
+{
+    let front = with_byte([0; 16], 0, byte);
+    let bytes = with_word(with_byte(front, 1, x), 2, y);
+    Coded { bytes, length: 6 }
+}
+
+fn coded_bytes_word(byte: u8, x: u8, y: u8, z: u32) -> Coded
+    ensures { λ r. ⌜ (take (r .length) (r .bytes) ≡ atWidths (1 ∷ 1 ∷ 1 ∷ 4 ∷ []) (byte ∷ x ∷ y ∷ z ∷ [])) × (r .length ≤ 16) ⌝ }
+{
+    let front = with_byte(with_byte([0; 16], 0, byte), 1, x);
+    let bytes = with_word(with_byte(front, 2, y), 3, z);
+    Coded { bytes, length: 7 }
+}
+
+// The bytes of a command. A refusal is no command, and has the byte 0.
+pub fn code_of(c: Command) -> Coded
+    ensures { λ r. ⌜ (take (r .length) (r .bytes) ≡ encode c) × (r .length ≤ 16) ⌝ }
+{
+    match c {
+        Command::Variable(x, y, z) => coded_words(row_byte(VARIABLE), x, y, z),
+        Command::Start(x) => coded_word(row_byte(START), x),
+        Command::Mode(x, y) => coded_halves(row_byte(MODE), x, y),
+        Command::Action => coded_alone(row_byte(ACTION)),
+        Command::Condition(x, y, z) => coded_bytes_word(row_byte(CONDITION), x, y, z),
+        Command::ModeCondition(x, y) => coded_byte_half(row_byte(MODE_CONDITION), x, y),
+        Command::ModeEffect(x, y) => coded_byte_half(row_byte(MODE_EFFECT), x, y),
+        Command::Add(x, y) => coded_byte_word(row_byte(ADD), x, y),
+        Command::Linear(x, y) => coded_byte_word(row_byte(LINEAR), x, y),
+        Command::Term(x, y) => coded_byte_word(row_byte(TERM), x, y),
+        Command::Quotient(x, y, z) => coded_bytes_word(row_byte(QUOTIENT), x, y, z),
+        Command::Residue(x, y, z) => coded_bytes_word(row_byte(RESIDUE), x, y, z),
+        Command::Goal => coded_alone(row_byte(GOAL)),
+        Command::End => coded_alone(row_byte(END)),
+        Command::Refused(_) => coded_alone(0),
+    }
 }
