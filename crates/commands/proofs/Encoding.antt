@@ -3,15 +3,14 @@
 -- Assumes nothing.
 use mathlib.Core.Bool.{Bool, true, false, cond}
 use mathlib.Core.List.{List, [], _∷_, _++_, append-assoc}
-use mathlib.Core.Path.{_≡_, refl, sym, ap, ap₂, _∙_, subst}
+use mathlib.Core.Path.{_≡_, refl, sym, ap, ap₂, _∙_}
 use Prim.Native.Nat.{ℕ, zero, suc, _+_, _^_, _≤_, _<_}
 use native.Mathlib.Nat.{add-zero, add-assoc}
 use native.Mathlib.Omega.{arith}
-use lib.Dec.{T, eqb, leb, ltb, ltb→lt}
+use lib.Dec.{eqb, leb, ltb→lt}
 use lib.ListN.{length, take, drop, getD, length-append, length-drop, take-append-drop}
 use lib.Seq.{take-at, drop-at, drop-drop, length-take-le}
-use borrow.Author.Tests.{lt-ltb, leb-true, leb-false, eqb-false}
-use Rattle.integers.specs.All.{All}
+use borrow.Author.Tests.{leb-true, leb-false, eqb-false}
 use Rattle.integers.specs.Numbers.{Bytes, bytesOf, numberOf, numberAt}
 use Rattle.integers.proofs.Numbers.{length-bytes, number-bytes, bytes-number, number-small}
 use Rattle.commands.specs.Table.{rows, rowAt, rowOf, sizeOfRow, sizeOfByte}
@@ -20,7 +19,7 @@ use Rattle.commands.specs.Encoding.{rowNumber, operands, byteOf, atWidth
 use Rattle.commands.specs.declared.Command.{Command}
 use Rattle.commands.specs.declared.Command.the-variants.{Variable, Start, Mode, Action, Condition, ModeCondition, ModeEffect, Add, Linear, Term, Quotient, Residue, Goal, End, Refused}
 use Rattle.commands.proofs.Every.{each-at}
-use Rattle.commands.proofs.Rows.{total, row-byte, row-of-byte, size-total, size-of-byte, size-as}
+use Rattle.commands.proofs.Rows.{total, row-byte, size-total, size-of-byte, size-as}
 use Rattle.commands.proofs.Known.{whole-as}
 
 -- ---- numbers of given widths, one behind another
@@ -121,31 +120,32 @@ row-number s i h = of-row s i h .0
 
 -- ---- what is written is read back
 
-module _ (c : Command) (fits : Fits c) where
-  few : rowNumber c < rows
-  few = ltb→lt (rowNumber c) rows (fits .0)
+few : (c : Command) → Fits c → rowNumber c < rows
+few c fits = ltb→lt (rowNumber c) rows (fits .0)
 
-  pub length-encode : length (encode c) ≡ sizeOfRow (rowNumber c)
-  length-encode = omega (arith, length-written (rowAt (rowNumber c) .widths) (operands c) (fits .1), size-total (rowNumber c) few)
+pub length-encode : (c : Command) → Fits c → length (encode c) ≡ sizeOfRow (rowNumber c)
+length-encode c fits =
+    omega (arith, length-written (rowAt (rowNumber c) .widths) (operands c) (fits .1), size-total (rowNumber c) (few c fits))
 
-  pub size-encode : sizeOfByte (byteOf c) ≡ length (encode c)
-  size-encode = size-as (rowNumber c) few refl ∙ sym length-encode
+pub size-encode : (c : Command) → Fits c → sizeOfByte (byteOf c) ≡ length (encode c)
+size-encode c fits = size-as (rowNumber c) (few c fits) refl ∙ sym (length-encode c fits)
 
-  -- the command, and then what remains
-  pub read-encode : (rest : List ℕ) → commandAt (encode c ++ rest) ≡ c
-  read-encode rest =
-      let s : List ℕ = encode c ++ rest in
-      let i : ℕ = rowNumber c in
-      let whole : sizeOfRow i ≤ length s = omega (arith, length-encode, length-append (encode c) rest) in
-      let numbers : numbersAt (rowAt i .widths) 1 s ≡ operands c = numbers-written (rowAt i .widths) (operands c) rest s 1 (fits .1) refl in
-      let number : rowNumber (readRow s i) ≡ i = row-number s i few in
-      whole-as s i few (omega arith) refl whole
-      ∙ sym (made-again (readRow s i) (rw number (fits .0)))
-      ∙ ap₂ made number (of-row s i few .1 ∙ numbers)
-      ∙ made-again c (fits .0)
+-- the command, and then what remains
+pub read-encode : (c : Command) (rest : List ℕ) → Fits c → commandAt (encode c ++ rest) ≡ c
+read-encode c rest fits =
+    let s : List ℕ = encode c ++ rest in
+    let i : ℕ = rowNumber c in
+    let h : i < rows = few c fits in
+    let whole : sizeOfRow i ≤ length s = omega (arith, length-encode c fits, length-append (encode c) rest) in
+    let numbers : numbersAt (rowAt i .widths) 1 s ≡ operands c = numbers-written (rowAt i .widths) (operands c) rest s 1 (fits .1) refl in
+    let number : rowNumber (readRow s i) ≡ i = row-number s i h in
+    whole-as s i h (omega arith) refl whole
+    ∙ sym (made-again (readRow s i) (rw number (fits .0)))
+    ∙ ap₂ made number (of-row s i h .1 ∙ numbers)
+    ∙ made-again c (fits .0)
 
-  pub drop-encode : (rest : List ℕ) → drop (sizeOfByte (byteOf c)) (encode c ++ rest) ≡ rest
-  drop-encode rest = drop-at (encode c) rest (sizeOfByte (byteOf c)) (sym size-encode)
+pub drop-encode : (c : Command) (rest : List ℕ) → Fits c → drop (sizeOfByte (byteOf c)) (encode c ++ rest) ≡ rest
+drop-encode c rest fits = drop-at (encode c) rest (sizeOfByte (byteOf c)) (sym (size-encode c fits))
 
 -- ---- what is read is what stands there
 
@@ -187,20 +187,21 @@ module _ (s : List ℕ) (h : NoRefusal (commandAt s)) where
   reach : 1 + total (rowAt (rowOf (getD s 0 0)) .widths) ≤ length s
   reach = let S : Seen s = seen s h in rw (size-total (rowOf (getD s 0 0)) (S .few)) at (S .whole)
 
-  -- its operands are within their widths
-  pub read-fits : Bytes s → Fits (commandAt s)
-  read-fits b = (h, rw (row-read, operands-read) (numbers-fit s b (rowAt (rowOf (getD s 0 0)) .widths) 1 reach))
+-- its operands are within their widths
+pub read-fits : (s : List ℕ) → Bytes s → NoRefusal (commandAt s) → Fits (commandAt s)
+read-fits s b h =
+    (h, rw (row-read s h, operands-read s h) (numbers-fit s b (rowAt (rowOf (getD s 0 0)) .widths) 1 (reach s h)))
 
-  -- the command's bytes, and then what remains
-  pub encode-read : Bytes s → s ≡ encode (commandAt s) ++ drop (sizeOfByte (getD s 0 0)) s
-  encode-read b =
-      let S : Seen s = seen s h in
-      let i : ℕ = rowOf (getD s 0 0) in
-      let ws : List ℕ = rowAt i .widths in
-      let size : sizeOfByte (getD s 0 0) ≡ 1 + total ws = size-of-byte (getD s 0 0) (S .few) ∙ size-total i (S .few) in
-      let code : encode (commandAt s) ≡ getD s 0 0 ∷ atWidths ws (numbersAt ws 1 s) =
-      ap₂ _∷_ byte-read (ap₂ (λ (j : ℕ) (vs : List ℕ). atWidths (rowAt j .widths) vs) row-read operands-read) in
-      sym
-      (ap₂ (λ (x : List ℕ) (n : ℕ). x ++ drop n s) code size
-      ∙ ap (λ (l : List ℕ). getD s 0 0 ∷ l) (numbers-back s b ws 1 reach)
-      ∙ first s (S .there))
+-- the command's bytes, and then what remains
+pub encode-read : (s : List ℕ) → Bytes s → NoRefusal (commandAt s) → s ≡ encode (commandAt s) ++ drop (sizeOfByte (getD s 0 0)) s
+encode-read s b h =
+    let S : Seen s = seen s h in
+    let i : ℕ = rowOf (getD s 0 0) in
+    let ws : List ℕ = rowAt i .widths in
+    let size : sizeOfByte (getD s 0 0) ≡ 1 + total ws = size-of-byte (getD s 0 0) (S .few) ∙ size-total i (S .few) in
+    let code : encode (commandAt s) ≡ getD s 0 0 ∷ atWidths ws (numbersAt ws 1 s) =
+    ap₂ _∷_ (byte-read s h) (ap₂ (λ (j : ℕ) (vs : List ℕ). atWidths (rowAt j .widths) vs) (row-read s h) (operands-read s h)) in
+    sym
+    (ap₂ (λ (x : List ℕ) (n : ℕ). x ++ drop n s) code size
+    ∙ ap (λ (l : List ℕ). getD s 0 0 ∷ l) (numbers-back s b ws 1 (reach s h))
+    ∙ first s (S .there))

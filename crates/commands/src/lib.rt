@@ -138,7 +138,7 @@ fn row_byte(i: usize) -> u8
 }
 
 // The length of a command in bytes, its own byte with it.
-fn size(widths: [u8; 3]) -> usize
+fn command_size(widths: [u8; 3]) -> usize
     requires { ⌜ Narrow widths ⌝ }
     ensures { λ r. ⌜ (r ≡ sizeOfWidths widths) × (0 < r) × (r ≤ 13) ⌝ }
 {
@@ -174,135 +174,135 @@ pub fn read_variable(rest: &[u8]) -> Command
     requires { ⌜ (0 < length (now rest)) × (getD (now rest) 0 0 ≡ letterV) ⌝ }
     ensures { λ r. ⌜ r ≡ commandAt (now (rest .entry)) ⌝ }
 {
-    if rest.len() < size(VARIABLE_WIDTHS) {
+    if rest.len() < command_size(VARIABLE_WIDTHS) {
         return Command::Refused(2);
     }
-    let x = first_operand(rest, VARIABLE_WIDTHS);
-    let y = second_operand(rest, VARIABLE_WIDTHS);
-    let z = third_operand(rest, VARIABLE_WIDTHS);
-    Command::Variable(x, y, z)
+    let lower = first_operand(rest, VARIABLE_WIDTHS);
+    let upper = second_operand(rest, VARIABLE_WIDTHS);
+    let start = third_operand(rest, VARIABLE_WIDTHS);
+    Command::Variable(lower, upper, start)
 }
 
 pub fn read_start(rest: &[u8]) -> Command
     requires { ⌜ (0 < length (now rest)) × (getD (now rest) 0 0 ≡ letterU) ⌝ }
     ensures { λ r. ⌜ r ≡ commandAt (now (rest .entry)) ⌝ }
 {
-    if rest.len() < size(START_WIDTHS) {
+    if rest.len() < command_size(START_WIDTHS) {
         return Command::Refused(2);
     }
-    let x = first_operand(rest, START_WIDTHS);
-    Command::Start(x)
+    let start = first_operand(rest, START_WIDTHS);
+    Command::Start(start)
 }
 
 pub fn read_mode(rest: &[u8]) -> Command
     requires { ⌜ (0 < length (now rest)) × (getD (now rest) 0 0 ≡ letterM) ⌝ }
     ensures { λ r. ⌜ r ≡ commandAt (now (rest .entry)) ⌝ }
 {
-    if rest.len() < size(MODE_WIDTHS) {
+    if rest.len() < command_size(MODE_WIDTHS) {
         return Command::Refused(2);
     }
-    let x = first_operand(rest, MODE_WIDTHS) as u16;
-    let y = second_operand(rest, MODE_WIDTHS) as u16;
-    Command::Mode(x, y)
+    let size = first_operand(rest, MODE_WIDTHS) as u16;
+    let start = second_operand(rest, MODE_WIDTHS) as u16;
+    Command::Mode(size, start)
 }
 
 pub fn read_condition(rest: &[u8]) -> Command
     requires { ⌜ (0 < length (now rest)) × (getD (now rest) 0 0 ≡ letterC) ⌝ }
     ensures { λ r. ⌜ r ≡ commandAt (now (rest .entry)) ⌝ }
 {
-    if rest.len() < size(CONDITION_WIDTHS) {
+    if rest.len() < command_size(CONDITION_WIDTHS) {
         return Command::Refused(2);
     }
-    let x = first_operand(rest, CONDITION_WIDTHS) as u8;
-    let y = second_operand(rest, CONDITION_WIDTHS) as u8;
-    let z = third_operand(rest, CONDITION_WIDTHS);
-    Command::Condition(x, y, z)
+    let var = first_operand(rest, CONDITION_WIDTHS) as u8;
+    let relation = second_operand(rest, CONDITION_WIDTHS) as u8;
+    let constant = third_operand(rest, CONDITION_WIDTHS);
+    Command::Condition(var, relation, constant)
 }
 
 pub fn read_mode_condition(rest: &[u8]) -> Command
     requires { ⌜ (0 < length (now rest)) × (getD (now rest) 0 0 ≡ letterP) ⌝ }
     ensures { λ r. ⌜ r ≡ commandAt (now (rest .entry)) ⌝ }
 {
-    if rest.len() < size(MODE_CONDITION_WIDTHS) {
+    if rest.len() < command_size(MODE_CONDITION_WIDTHS) {
         return Command::Refused(2);
     }
-    let x = first_operand(rest, MODE_CONDITION_WIDTHS) as u8;
-    let y = second_operand(rest, MODE_CONDITION_WIDTHS) as u16;
-    Command::ModeCondition(x, y)
+    let mode = first_operand(rest, MODE_CONDITION_WIDTHS) as u8;
+    let value = second_operand(rest, MODE_CONDITION_WIDTHS) as u16;
+    Command::ModeCondition(mode, value)
 }
 
 pub fn read_mode_effect(rest: &[u8]) -> Command
     requires { ⌜ (0 < length (now rest)) × (getD (now rest) 0 0 ≡ letterE) ⌝ }
     ensures { λ r. ⌜ r ≡ commandAt (now (rest .entry)) ⌝ }
 {
-    if rest.len() < size(MODE_EFFECT_WIDTHS) {
+    if rest.len() < command_size(MODE_EFFECT_WIDTHS) {
         return Command::Refused(2);
     }
-    let x = first_operand(rest, MODE_EFFECT_WIDTHS) as u8;
-    let y = second_operand(rest, MODE_EFFECT_WIDTHS) as u16;
-    Command::ModeEffect(x, y)
+    let mode = first_operand(rest, MODE_EFFECT_WIDTHS) as u8;
+    let value = second_operand(rest, MODE_EFFECT_WIDTHS) as u16;
+    Command::ModeEffect(mode, value)
 }
 
 pub fn read_add(rest: &[u8]) -> Command
     requires { ⌜ (0 < length (now rest)) × (getD (now rest) 0 0 ≡ plusSign) ⌝ }
     ensures { λ r. ⌜ r ≡ commandAt (now (rest .entry)) ⌝ }
 {
-    if rest.len() < size(ADD_WIDTHS) {
+    if rest.len() < command_size(ADD_WIDTHS) {
         return Command::Refused(2);
     }
-    let x = first_operand(rest, ADD_WIDTHS) as u8;
-    let y = second_operand(rest, ADD_WIDTHS);
-    Command::Add(x, y)
+    let var = first_operand(rest, ADD_WIDTHS) as u8;
+    let constant = second_operand(rest, ADD_WIDTHS);
+    Command::Add(var, constant)
 }
 
 pub fn read_linear(rest: &[u8]) -> Command
     requires { ⌜ (0 < length (now rest)) × (getD (now rest) 0 0 ≡ letterL) ⌝ }
     ensures { λ r. ⌜ r ≡ commandAt (now (rest .entry)) ⌝ }
 {
-    if rest.len() < size(LINEAR_WIDTHS) {
+    if rest.len() < command_size(LINEAR_WIDTHS) {
         return Command::Refused(2);
     }
-    let x = first_operand(rest, LINEAR_WIDTHS) as u8;
-    let y = second_operand(rest, LINEAR_WIDTHS);
-    Command::Linear(x, y)
+    let target = first_operand(rest, LINEAR_WIDTHS) as u8;
+    let constant = second_operand(rest, LINEAR_WIDTHS);
+    Command::Linear(target, constant)
 }
 
 pub fn read_term(rest: &[u8]) -> Command
     requires { ⌜ (0 < length (now rest)) × (getD (now rest) 0 0 ≡ letterT) ⌝ }
     ensures { λ r. ⌜ r ≡ commandAt (now (rest .entry)) ⌝ }
 {
-    if rest.len() < size(TERM_WIDTHS) {
+    if rest.len() < command_size(TERM_WIDTHS) {
         return Command::Refused(2);
     }
-    let x = first_operand(rest, TERM_WIDTHS) as u8;
-    let y = second_operand(rest, TERM_WIDTHS);
-    Command::Term(x, y)
+    let var = first_operand(rest, TERM_WIDTHS) as u8;
+    let weight = second_operand(rest, TERM_WIDTHS);
+    Command::Term(var, weight)
 }
 
 pub fn read_quotient(rest: &[u8]) -> Command
     requires { ⌜ (0 < length (now rest)) × (getD (now rest) 0 0 ≡ letterQ) ⌝ }
     ensures { λ r. ⌜ r ≡ commandAt (now (rest .entry)) ⌝ }
 {
-    if rest.len() < size(QUOTIENT_WIDTHS) {
+    if rest.len() < command_size(QUOTIENT_WIDTHS) {
         return Command::Refused(2);
     }
-    let x = first_operand(rest, QUOTIENT_WIDTHS) as u8;
-    let y = second_operand(rest, QUOTIENT_WIDTHS) as u8;
-    let z = third_operand(rest, QUOTIENT_WIDTHS);
-    Command::Quotient(x, y, z)
+    let target = first_operand(rest, QUOTIENT_WIDTHS) as u8;
+    let operand = second_operand(rest, QUOTIENT_WIDTHS) as u8;
+    let divisor = third_operand(rest, QUOTIENT_WIDTHS);
+    Command::Quotient(target, operand, divisor)
 }
 
 pub fn read_residue(rest: &[u8]) -> Command
     requires { ⌜ (0 < length (now rest)) × (getD (now rest) 0 0 ≡ letterR) ⌝ }
     ensures { λ r. ⌜ r ≡ commandAt (now (rest .entry)) ⌝ }
 {
-    if rest.len() < size(RESIDUE_WIDTHS) {
+    if rest.len() < command_size(RESIDUE_WIDTHS) {
         return Command::Refused(2);
     }
-    let x = first_operand(rest, RESIDUE_WIDTHS) as u8;
-    let y = second_operand(rest, RESIDUE_WIDTHS) as u8;
-    let z = third_operand(rest, RESIDUE_WIDTHS);
-    Command::Residue(x, y, z)
+    let target = first_operand(rest, RESIDUE_WIDTHS) as u8;
+    let operand = second_operand(rest, RESIDUE_WIDTHS) as u8;
+    let divisor = third_operand(rest, RESIDUE_WIDTHS);
+    Command::Residue(target, operand, divisor)
 }
 
 // The command at the front of what remains of a file; 1 where no command has the byte, 2 where nothing remains or operands are missing.
@@ -336,20 +336,20 @@ pub fn size_of(byte: u8) -> usize
     ensures { λ r. ⌜ (r ≡ sizeOfByte byte) × (0 < r) × (r ≤ 13) ⌝ }
 {
     match byte {
-        b'V' => size(VARIABLE_WIDTHS),
-        b'U' => size(START_WIDTHS),
-        b'M' => size(MODE_WIDTHS),
-        b'A' => size(ACTION_WIDTHS),
-        b'C' => size(CONDITION_WIDTHS),
-        b'P' => size(MODE_CONDITION_WIDTHS),
-        b'E' => size(MODE_EFFECT_WIDTHS),
-        b'+' => size(ADD_WIDTHS),
-        b'L' => size(LINEAR_WIDTHS),
-        b'T' => size(TERM_WIDTHS),
-        b'Q' => size(QUOTIENT_WIDTHS),
-        b'R' => size(RESIDUE_WIDTHS),
-        b'G' => size(GOAL_WIDTHS),
-        b'Z' => size(END_WIDTHS),
+        b'V' => command_size(VARIABLE_WIDTHS),
+        b'U' => command_size(START_WIDTHS),
+        b'M' => command_size(MODE_WIDTHS),
+        b'A' => command_size(ACTION_WIDTHS),
+        b'C' => command_size(CONDITION_WIDTHS),
+        b'P' => command_size(MODE_CONDITION_WIDTHS),
+        b'E' => command_size(MODE_EFFECT_WIDTHS),
+        b'+' => command_size(ADD_WIDTHS),
+        b'L' => command_size(LINEAR_WIDTHS),
+        b'T' => command_size(TERM_WIDTHS),
+        b'Q' => command_size(QUOTIENT_WIDTHS),
+        b'R' => command_size(RESIDUE_WIDTHS),
+        b'G' => command_size(GOAL_WIDTHS),
+        b'Z' => command_size(END_WIDTHS),
         _ => 1,
     }
 }

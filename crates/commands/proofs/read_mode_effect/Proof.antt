@@ -1,5 +1,6 @@
 -- `commands::read_mode_effect` meets its contract: a command of row 6, cut short or whole. Assumes nothing.
 use mathlib.Core.Path.{sym, _∙_}
+use native.Mathlib.Omega.{arith}
 use lib.Dec.{lit<}
 use denote.Ref.{now}
 use Rattle.commands.specs.declared.Command.the-variants.{ModeEffect}
@@ -8,41 +9,41 @@ use borrow.Author.Needs.{needs}
 use Rattle.commands.proofs.read_mode_effect.Statement.{statement}
 use Rattle.commands.proofs.read_mode_effect.Tie as tie
 
-size-requires : tie.Need-size-requires
-size-requires c κs = search needs
+command-size-requires : tie.Need-command-size-requires
+command-size-requires c κs = search needs
 
 returns : tie.Need-returns
 returns c =
     let s = c .before .before .before in
-    sym (short-as (now (s .args .rest)) 6 (lit< tt) (s .pre .0) (s .pre .1) (rw (← c .before .size .ensures .0) (c .if1 .taken)))
+    sym (short-as (now (s .args .rest)) 6 (lit< tt) (s .pre .0) (s .pre .1) (omega arith))
 
 first-operand-requires : tie.Need-first-operand-requires
 first-operand-requires c κs = search needs
 
-cast-x : tie.Need-cast-x
-cast-x c = search needs
+cast-mode : tie.Need-cast-mode
+cast-mode c = search needs
 
 second-operand-requires : tie.Need-second-operand-requires
 second-operand-requires c κs = search needs
 
-cast-y : tie.Need-cast-y
-cast-y c = search needs
+cast-value : tie.Need-cast-value
+cast-value c = search needs
 
 returns-2 : tie.Need-returns-2
 returns-2 c =
     let t = c .before .before in
     let s = t .before .before .before in
     (λ i. ModeEffect (c .before .first-operand .ensures .is i) (c .second-operand .ensures .is i))
-    ∙ sym (whole-as (now (s .args .rest)) 6 (lit< tt) (s .pre .0) (s .pre .1) (rw (← t .before .size .ensures .0) (t .if1 .left)))
+    ∙ sym (whole-as (now (s .args .rest)) 6 (lit< tt) (s .pre .0) (s .pre .1) (omega arith))
 
 pub read-mode-effect-spec : {M : Type 1} → statement M
 read-mode-effect-spec =
     tie.close
     (tie.spec
-    size-requires
+    command-size-requires
     returns
     first-operand-requires
-    cast-x
+    cast-mode
     second-operand-requires
-    cast-y
+    cast-value
     returns-2)

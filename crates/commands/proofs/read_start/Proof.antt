@@ -1,5 +1,6 @@
 -- `commands::read_start` meets its contract: a command of row 1, cut short or whole. Assumes nothing.
 use mathlib.Core.Path.{sym, _∙_}
+use native.Mathlib.Omega.{arith}
 use lib.Dec.{lit<}
 use denote.Ref.{now}
 use Rattle.commands.specs.declared.Command.the-variants.{Start}
@@ -8,13 +9,13 @@ use borrow.Author.Needs.{needs}
 use Rattle.commands.proofs.read_start.Statement.{statement}
 use Rattle.commands.proofs.read_start.Tie as tie
 
-size-requires : tie.Need-size-requires
-size-requires c κs = search needs
+command-size-requires : tie.Need-command-size-requires
+command-size-requires c κs = search needs
 
 returns : tie.Need-returns
 returns c =
     let s = c .before .before .before in
-    sym (short-as (now (s .args .rest)) 1 (lit< tt) (s .pre .0) (s .pre .1) (rw (← c .before .size .ensures .0) (c .if1 .taken)))
+    sym (short-as (now (s .args .rest)) 1 (lit< tt) (s .pre .0) (s .pre .1) (omega arith))
 
 first-operand-requires : tie.Need-first-operand-requires
 first-operand-requires c κs = search needs
@@ -24,7 +25,7 @@ returns-2 c =
     let t = c .before in
     let s = t .before .before .before in
     (λ i. Start (c .first-operand .ensures .is i))
-    ∙ sym (whole-as (now (s .args .rest)) 1 (lit< tt) (s .pre .0) (s .pre .1) (rw (← t .before .size .ensures .0) (t .if1 .left)))
+    ∙ sym (whole-as (now (s .args .rest)) 1 (lit< tt) (s .pre .0) (s .pre .1) (omega arith))
 
 pub read-start-spec : {M : Type 1} → statement M
-read-start-spec = tie.close (tie.spec size-requires returns first-operand-requires returns-2)
+read-start-spec = tie.close (tie.spec command-size-requires returns first-operand-requires returns-2)
