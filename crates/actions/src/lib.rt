@@ -1,5 +1,6 @@
 // The actions of a task file: where they stand, their bytes, and what the bytes of one say.
 use commands::Command;
+use tasks::Verdict;
 ghost use mathlib.Core.Path.{_≡_};
 ghost use mathlib.Core.List.{[]};
 ghost use Prim.Native.Nat.{_<_, _≤_};
@@ -11,8 +12,10 @@ ghost use Rattle.commands.specs.Reading.{commandAt};
 ghost use Rattle.model.specs.Rules.{constant};
 ghost use Rattle.model.specs.Tasks.{noEffect};
 ghost use Rattle.model.specs.Decoding.{sourceActionOf, restrictedActionOf};
-ghost use Rattle.model.specs.ActionBytes.{edgeOf, decodeAction};
-ghost use Rattle.actions.specs.Places.{edgesOf, bodyStart};
+ghost use Rattle.model.specs.ActionBytes.{edgeOf, ofVerdict, actionBytes, decodeAction};
+ghost use Rattle.model.specs.Limits.{sourceLimits, restrictedLimits};
+ghost use Rattle.tasks.specs.Views.{verdictIs};
+ghost use Rattle.actions.specs.Places.{edgesOf, bodyStart, partOf, placedIs, bytesGiven, goalPart};
 ghost use Rattle.actions.specs.Kept.{givenBy, KeepsConditions, KeepsPairs, FillsConditions, FillsPairs};
 ghost use Rattle.actions.specs.Numeric.{nothing, withEffect, withTerm, effectWith, EffectTaken};
 ghost use Rattle.actions.specs.Views.{conditionRoom, modeConditionRoom, modeEffectRoom, additionRoom, termRoom};
@@ -144,6 +147,94 @@ pub fn action_places(file: &[u8], places: &mut [usize])
             at += size;
         }
     }
+}
+
+// Where the bytes of an action stand, from its A up to the next A or G; or the number and place of the refusal.
+pub enum Placed {
+    At(usize, usize),
+    Refused(u8, u64),
+}
+
+// The place of action k in a file with this verdict.
+fn place_action(file: &[u8], verdict: Verdict, k: usize) -> Placed
+    ensures { λ r. ⌜ placedIs (now (file .entry)) r ≡ ofVerdict (verdictIs verdict) (now (file .entry)) k ⌝ }
+{
+    match verdict {
+        Verdict::Accepted(_, _, actions) => {
+            if k < actions as usize {
+                let start = find_edge(file, k);
+                let end = find_edge(file, k + 1);
+                return Placed::At(start, end);
+            }
+            Placed::Refused(11, k as u64)
+        }
+        Verdict::Rejected(number, place) => Placed::Refused(number, place),
+    }
+}
+
+// The place of action k of a source file: the file's own refusal first, then 11 with place k where there is no such action.
+pub fn place_source_action(file: &[u8], k: usize) -> Placed
+    ensures { λ r. ⌜ placedIs (now (file .entry)) r ≡ actionBytes sourceLimits (now (file .entry)) k ⌝ }
+{
+    place_action(file, tasks::check_source(file), k)
+}
+
+// The same of a restricted file.
+pub fn place_restricted_action(file: &[u8], k: usize) -> Placed
+    ensures { λ r. ⌜ placedIs (now (file .entry)) r ≡ actionBytes restrictedLimits (now (file .entry)) k ⌝ }
+{
+    place_action(file, tasks::check_restricted(file), k)
+}
+
+// The part of a file from a start up to an end, as far as the file goes.
+pub fn part(file: &[u8], start: usize, end: usize) -> &[u8]
+    ensures { λ r. ⌜ now r ≡ partOf (now (file .entry)) start end ⌝ }
+{
+    if end <= start {
+        return &file[..0];
+    }
+    if end <= file.len() {
+        return &file[start..end];
+    }
+    if start <= file.len() {
+        return &file[start..];
+    }
+    &file[..0]
+}
+
+// The part of a file where an action stands; nothing on a refusal.
+fn placed_part(file: &[u8], placed: Placed) -> &[u8]
+    ensures { λ r. ⌜ now r ≡ bytesGiven (placedIs (now (file .entry)) placed) ⌝ }
+{
+    match placed {
+        Placed::At(start, end) => part(file, start, end),
+        Placed::Refused(_, _) => &file[..0],
+    }
+}
+
+// The bytes of action k of a source file, as a part of the caller's file; none on a refusal.
+pub fn source_action_bytes(file: &[u8], k: usize) -> &[u8]
+    ensures { λ r. ⌜ now r ≡ bytesGiven (actionBytes sourceLimits (now (file .entry)) k) ⌝ }
+{
+    placed_part(file, place_source_action(file, k))
+}
+
+// The same of a restricted file.
+pub fn restricted_action_bytes(file: &[u8], k: usize) -> &[u8]
+    ensures { λ r. ⌜ now r ≡ bytesGiven (actionBytes restrictedLimits (now (file .entry)) k) ⌝ }
+{
+    placed_part(file, place_restricted_action(file, k))
+}
+
+// The bytes of the goal of an accepted file that has so many actions, from its G up to its Z.
+pub fn goal_bytes(file: &[u8], actions: usize) -> &[u8]
+    ensures { λ r. ⌜ now r ≡ goalPart (now (file .entry)) actions ⌝ }
+{
+    if file.len() == 0 {
+        return &file[..0];
+    }
+    let start = find_edge(file, actions);
+    part(file, start, file.len() - 1)
 }
 
 // A C at the front of what remains, stored behind the first `count` conditions where there is room; and the count after it. A C that is cut
