@@ -39,7 +39,7 @@ returns-2 c =
     let number = l .before .loop .left in
     let more : number ≡ suc (number - 1) = omega arith in
     sym (s .sought ∙ rw (at-goal file (l .before .loop .at) (s .left) (l .loop-test .taken) (c .before .if1 .taken) (s .there))
-        (ap (λ (i : ℕ). getD (l .before .loop .at ∷ []) i (length file)) more))
+    (ap (λ (i : ℕ). getD (l .before .loop .at ∷ []) i (length file)) more))
 
 returns-3 : tie.Need-returns-3 Inv-loop μ-loop
 returns-3 c =

@@ -1,3 +1,5 @@
+-- `actions::gather_restricted` meets its contract: at each command, what is kept with what is left to take is the whole action.
+-- Assumes nothing.
 use mathlib.Core.Path.{refl}
 use mathlib.Core.List.{[]}
 use Prim.Native.Nat.{_-_}
@@ -11,14 +13,6 @@ use Rattle.actions.proofs.Gathering.{Gathering, tail, gathering-begin, 
 use borrow.Author.Needs.{needs}
 use Rattle.actions.proofs.gather_restricted.Statement.{statement}
 use Rattle.actions.proofs.gather_restricted.Tie as tie
-use Rattle.actions.proofs.gather_restricted.Reads as reads
-use Rattle.actions.proofs.gather_restricted.Lts as lts
-use Rattle.actions.proofs.body_start.Reads as body-start-reads
-use Rattle.actions.proofs.put_addition.Reads as put-addition-reads
-use Rattle.actions.proofs.put_condition.Reads as put-condition-reads
-use Rattle.actions.proofs.put_mode_condition.Reads as put-mode-condition-reads
-use Rattle.actions.proofs.put_mode_effect.Reads as put-mode-effect-reads
-use Rattle.commands.proofs.size_of.Reads as size-of-reads
 
 abbrev Inv-loop : tie.InvT-loop
 Inv-loop bytes condition-variables₀ condition-relations₀ condition-constants₀ mode-condition-modes₀ mode-condition-values₀ mode-effect-modes₀ mode-effect-values₀ addition-variables₀ addition-amounts₀ conditions₀ mode-conditions₀ mode-effects₀ additions₀ at₀ condition-variables condition-relations condition-constants mode-condition-modes mode-condition-values mode-effect-modes mode-effect-values addition-variables addition-amounts conditions mode-conditions mode-effects additions at =
