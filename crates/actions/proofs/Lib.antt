@@ -2,3 +2,4 @@ pub mod Edges
 pub mod Gathering
 pub mod Kept
 pub mod NumericPart
+pub mod Parts
