@@ -8,6 +8,7 @@ use Prim.Native.Nat.{ℕ, zero, suc, _+_, _<_, _≤_}
 use native.Mathlib.Omega.{arith}
 use lib.ListN.{length, getD, take, drop, getElem?, List·getD-append}
 use lib.Seq.{take-all}
+use Rattle.integers.specs.All.{All}
 use Rattle.integers.specs.Numbers.{Bytes}
 use Rattle.lists.specs.Answer.{Answer, given, refused}
 use Rattle.lists.specs.Writing.{splice}
@@ -28,7 +29,7 @@ use Rattle.actions.specs.declared.Goal.{Goal}
 use Rattle.actions.specs.declared.SourceAction.{SourceAction as DecodedSource}
 use Rattle.actions.specs.declared.RestrictedAction.{RestrictedAction as DecodedRestricted}
 use Rattle.actions.specs.Places.{edgesOf, goalPart}
-use Rattle.actions.specs.Views.{conditionRoom, modeConditionRoom, sourceActionIs, restrictedActionIs, goalConditionsIs, goalModesIs, fittingSource, fittingRestricted}
+use Rattle.actions.specs.Views.{GoalDecoded, conditionRoom, modeConditionRoom, sourceActionIs, restrictedActionIs, goalConditionsIs, goalModesIs, fittingSource, fittingRestricted}
 use Rattle.actions.specs.Within.{GoalWithin, SourceWithin, RestrictedWithin}
 use Rattle.actions.proofs.Fits.{source-fits, restricted-fits, goal-within, source-within, restricted-within}
 use Rattle.actions.proofs.GoalBytes.{edges-counted, goal-decodes}
@@ -43,125 +44,132 @@ get-each f [] k x e = absurd (Option·none-ne-some x e)
 get-each f (y ∷ xs) zero x e = cc
 get-each f (y ∷ xs) (suc k) x e = get-each f xs k x e
 
+-- ---- a file of either kind, read as a task with actions
+module _ {Task Action : Type 0} (l : Limits) (taskOf : Draft → Task) (actionOf : Part → Action) (actions : Task → List Action) (actionsAre : (d : Draft) → actions (taskOf d) ≡ each actionOf (d .actions))
+    (file : List ℕ) (bytes : Bytes file) (t : Task) (is : onVerdict (verdictOf l file) (taskOf (draftOf (commandsOf l file))) ≡ given t) where
+  verdict : Is (verdictOf l file)
+  verdict = accepted (verdictOf l file) (taskOf (draftOf (commandsOf l file))) t is .0
+
+  task : taskOf (draftOf (commandsOf l file)) ≡ t
+  task = accepted (verdictOf l file) (taskOf (draftOf (commandsOf l file))) t is .1
+
+  actions-are : each actionOf (draftOf (commandsOf l file) .actions) ≡ actions t
+  actions-are = sym (actionsAre (draftOf (commandsOf l file))) ∙ ap actions task
+
+  counted : length (draftOf (commandsOf l file) .actions) ≡ length (actions t)
+  counted = sym (length-each actionOf (draftOf (commandsOf l file) .actions)) ∙ ap length actions-are
+
+  -- as many edges as actions, and one more
+  edges-of : length (edgesOf file) ≡ suc (length (actions t))
+  edges-of = edges-counted l file bytes verdict ∙ ap suc counted
+
+  -- what fits, and is decoded from the bytes of action k, is action k
+  module _ (Ok : Action → Type 0) (oks : All Ok (actions t)) (fitting : Action → Action) (fits : (a : Action) → Ok a → fitting a ≡ a) (k : ℕ) (below : k < length (actions t)) where
+    action-is : getElem? (actions t) k ≡ some (actionOf (decodeAction (actionPart file k)))
+    action-is =
+        ap (λ (all : List Action). getElem? all k) (sym actions-are)
+        ∙ get-each actionOf (draftOf (commandsOf l file) .actions) k (decodeAction (actionPart file k)) (action-decodes l file bytes verdict k (omega (arith, below, counted)))
+
+    action-ok : Ok (actionOf (decodeAction (actionPart file k)))
+    action-ok = all-get Ok (actions t) k (actionOf (decodeAction (actionPart file k))) oks action-is
+
+    decoded-is : (a : Action) → a ≡ fitting (actionOf (decodeAction (actionPart file k))) → getElem? (actions t) k ≡ some a
+    decoded-is a e = action-is ∙ ap some (sym (e ∙ fits (actionOf (decodeAction (actionPart file k))) action-ok))
+
+    decoded-ok : (a : Action) → a ≡ fitting (actionOf (decodeAction (actionPart file k))) → Ok a
+    decoded-ok a e = subst⁻¹ Ok (e ∙ fits (actionOf (decodeAction (actionPart file k))) action-ok) action-ok
+
+  -- what is decoded from the bytes of the goal is the goal
+  module _ (goalOf : Task → List (ℕ × ℕ) × List (NumericCondition ℕ)) (goalIs : (d : Draft) → goalOf (taskOf d) ≡ (d .goal .modeConditions, d .goal .conditions))
+      (few : (length (goalOf t .0) ≤ modeConditionRoom) × (length (goalOf t .1) ≤ conditionRoom)) (g : Goal) (decoded : GoalDecoded (goalPart file (length (actions t))) g) where
+    goal-is : goalOf t ≡ (decodeAction (goalPart file (length (actions t))) .modeConditions, decodeAction (goalPart file (length (actions t))) .conditions)
+    goal-is =
+        ap goalOf (sym task) ∙ goalIs (draftOf (commandsOf l file))
+        ∙ ap (λ (p : Part). (p .modeConditions, p .conditions)) (goal-decodes l file bytes verdict ∙ ap (λ (n : ℕ). decodeAction (goalPart file n)) counted)
+
+    goal-conditions : goalConditionsIs g ≡ goalOf t .1
+    goal-conditions = decoded .conditions ∙ ap (take conditionRoom) (sym (ap (λ z. z .1) goal-is)) ∙ take-all conditionRoom (goalOf t .1) (few .1)
+
+    goal-modes : goalModesIs g ≡ goalOf t .0
+    goal-modes = decoded .modeConditions ∙ ap (take modeConditionRoom) (sym (ap (λ z. z .0) goal-is)) ∙ take-all modeConditionRoom (goalOf t .0) (few .0)
+
+    goal-ok : (n : ℕ) (sizes : List ℕ) → ConditionsOk l n sizes (goalOf t .0) (goalOf t .1) → GoalWithin l n sizes g
+    goal-ok n sizes h = goal-within l n sizes g
+        (subst⁻¹ (λ (ps : List (ℕ × ℕ)). ConditionsOk l n sizes ps (goalConditionsIs g)) goal-modes (subst⁻¹ (λ (cs : List (NumericCondition ℕ)). ConditionsOk l n sizes (goalOf t .0) cs) goal-conditions h))
+
 -- ---- a source file
 module _ (file : List ℕ) (bytes : Bytes file) (t : SourceTask) (is : readSource file ≡ given t) where
-  draftS : Draft
-  draftS = draftOf (commandsOf sourceLimits file)
+  sourceOk : SourceTaskOk t
+  sourceOk = accepted-source-ok file t is
 
-  okS : SourceTaskOk t
-  okS = accepted-source-ok file t is
+  sourceModes : length (sizesOf (t .modes)) ≤ sourceLimits .modes
+  sourceModes = omega (arith, sourceOk .modesFew, length-each (λ (m : ℕ × ℕ). m .0) (t .modes))
 
-  acceptedS : Is (verdictOf sourceLimits file) × (sourceTaskOf (draftOf (commandsOf sourceLimits file)) ≡ t)
-  acceptedS = accepted (verdictOf sourceLimits file) (sourceTaskOf (draftOf (commandsOf sourceLimits file))) t is
-
-  countS : length (draftOf (commandsOf sourceLimits file) .actions) ≡ length (t .actions)
-  countS = sym (length-each sourceActionOf (draftOf (commandsOf sourceLimits file) .actions)) ∙ ap (λ (u : SourceTask). length (u .actions)) (acceptedS .1)
-
-  fewS : length (sizesOf (t .modes)) ≤ sourceLimits .modes
-  fewS = omega (arith, okS .modesFew, length-each (λ (m : ℕ × ℕ). m .0) (t .modes))
+  pub source-edges : length (edgesOf file) ≡ suc (length (t .actions))
+  source-edges = edges-of sourceLimits sourceTaskOf sourceActionOf (λ u. u .actions) (λ d. refl) file bytes t is
 
   module _ (k : ℕ) (below : k < length (t .actions)) (a : DecodedSource) (decoded : sourceActionIs a ≡ fittingSource (sourceActionOf (decodeAction (actionPart file k)))) where
-    partS : getElem? (t .actions) k ≡ some (sourceActionOf (decodeAction (actionPart file k)))
-    partS =
-        ap (λ (u : SourceTask). getElem? (u .actions) k) (sym (acceptedS .1))
-        ∙ get-each sourceActionOf (draftOf (commandsOf sourceLimits file) .actions) k (decodeAction (actionPart file k)) (action-decodes sourceLimits file bytes (acceptedS .0) k (omega (arith, below, countS)))
-
-    partOkS : SourceActionOk sourceLimits (length (t .variables)) (sizesOf (t .modes)) (sourceActionOf (decodeAction (actionPart file k)))
-    partOkS = all-get (SourceActionOk sourceLimits (length (t .variables)) (sizesOf (t .modes))) (t .actions) k (sourceActionOf (decodeAction (actionPart file k))) (okS .actionsOk) partS
-
-    wholeS : sourceActionIs a ≡ sourceActionOf (decodeAction (actionPart file k))
-    wholeS = decoded ∙ source-fits (length (t .variables)) (sizesOf (t .modes)) (sourceActionOf (decodeAction (actionPart file k))) partOkS fewS
-
     -- it is action k of the task
     pub source-action-decoded : getElem? (t .actions) k ≡ some (sourceActionIs a)
-    source-action-decoded = partS ∙ ap some (sym wholeS)
+    source-action-decoded = decoded-is sourceLimits sourceTaskOf sourceActionOf (λ u. u .actions) (λ d. refl) file bytes t is
+        (SourceActionOk sourceLimits (length (t .variables)) (sizesOf (t .modes))) (sourceOk .actionsOk) fittingSource (λ b h. source-fits (length (t .variables)) (sizesOf (t .modes)) b h sourceModes) k below (sourceActionIs a) decoded
 
+    -- and keeps to the rules
     pub source-action-within : SourceWithin sourceLimits (length (t .variables)) (sizesOf (t .modes)) a
-    source-action-within = source-within sourceLimits (length (t .variables)) (sizesOf (t .modes)) a (subst⁻¹ (SourceActionOk sourceLimits (length (t .variables)) (sizesOf (t .modes))) wholeS partOkS)
+    source-action-within = source-within sourceLimits (length (t .variables)) (sizesOf (t .modes)) a (decoded-ok sourceLimits sourceTaskOf sourceActionOf (λ u. u .actions) (λ d. refl) file bytes t is
+        (SourceActionOk sourceLimits (length (t .variables)) (sizesOf (t .modes))) (sourceOk .actionsOk) fittingSource (λ b h. source-fits (length (t .variables)) (sizesOf (t .modes)) b h sourceModes) k below (sourceActionIs a) decoded)
 
-  module _ (g : Goal) (cs : goalConditionsIs g ≡ take conditionRoom (decodeAction (goalPart file (length (t .actions))) .conditions)) (ps : goalModesIs g ≡ take modeConditionRoom (decodeAction (goalPart file (length (t .actions))) .modeConditions)) where
-    goalS : draftOf (commandsOf sourceLimits file) .goal ≡ decodeAction (goalPart file (length (t .actions)))
-    goalS = goal-decodes sourceLimits file bytes (acceptedS .0) ∙ ap (λ (n : ℕ). decodeAction (goalPart file n)) countS
+  module _ (g : Goal) (decoded : GoalDecoded (goalPart file (length (t .actions))) g) where
+    sourceRoom : (length (t .goalModes) ≤ modeConditionRoom) × (length (t .goalConditions) ≤ conditionRoom)
+    sourceRoom = (omega (arith, sourceOk .goal .modeConditionsFew), omega (arith, sourceOk .goal .conditionsFew))
 
     -- it is the goal of the task
     pub source-goal-conditions : goalConditionsIs g ≡ t .goalConditions
-    source-goal-conditions =
-        let e : decodeAction (goalPart file (length (t .actions))) .conditions ≡ t .goalConditions = ap (λ (p : Part). p .conditions) (sym goalS) ∙ ap (λ (u : SourceTask). u .goalConditions) (acceptedS .1) in
-        cs ∙ ap (take conditionRoom) e ∙ take-all conditionRoom (t .goalConditions) (omega (arith, okS .goal .conditionsFew))
+    source-goal-conditions = goal-conditions sourceLimits sourceTaskOf sourceActionOf (λ u. u .actions) (λ d. refl) file bytes t is (λ u. (u .goalModes, u .goalConditions)) (λ d. refl) sourceRoom g decoded
 
     pub source-goal-modes : goalModesIs g ≡ t .goalModes
-    source-goal-modes =
-        let e : decodeAction (goalPart file (length (t .actions))) .modeConditions ≡ t .goalModes = ap (λ (p : Part). p .modeConditions) (sym goalS) ∙ ap (λ (u : SourceTask). u .goalModes) (acceptedS .1) in
-        ps ∙ ap (take modeConditionRoom) e ∙ take-all modeConditionRoom (t .goalModes) (omega (arith, okS .goal .modeConditionsFew))
+    source-goal-modes = goal-modes sourceLimits sourceTaskOf sourceActionOf (λ u. u .actions) (λ d. refl) file bytes t is (λ u. (u .goalModes, u .goalConditions)) (λ d. refl) sourceRoom g decoded
 
     pub source-goal-within : GoalWithin sourceLimits (length (t .variables)) (sizesOf (t .modes)) g
-    source-goal-within = goal-within sourceLimits (length (t .variables)) (sizesOf (t .modes)) g
-        (subst⁻¹ (λ (ps : List (ℕ × ℕ)). ConditionsOk sourceLimits (length (t .variables)) (sizesOf (t .modes)) ps (goalConditionsIs g)) source-goal-modes
-        (subst⁻¹ (λ (cs : List (NumericCondition ℕ)). ConditionsOk sourceLimits (length (t .variables)) (sizesOf (t .modes)) (t .goalModes) cs) source-goal-conditions (okS .goal)))
-
-  -- its edges are those of its actions, and of its goal
-  pub source-edges : length (edgesOf file) ≡ suc (length (t .actions))
-  source-edges = edges-counted sourceLimits file bytes (acceptedS .0) ∙ ap suc countS
+    source-goal-within = goal-ok sourceLimits sourceTaskOf sourceActionOf (λ u. u .actions) (λ d. refl) file bytes t is (λ u. (u .goalModes, u .goalConditions)) (λ d. refl) sourceRoom g decoded
+        (length (t .variables)) (sizesOf (t .modes)) (sourceOk .goal)
 
 -- ---- a restricted file
 module _ (file : List ℕ) (bytes : Bytes file) (t : RestrictedTask) (is : readRestricted file ≡ given t) where
-  draftR : Draft
-  draftR = draftOf (commandsOf restrictedLimits file)
+  restrictedOk : RestrictedTaskOk t
+  restrictedOk = accepted-restricted-ok file t is
 
-  okR : RestrictedTaskOk t
-  okR = accepted-restricted-ok file t is
+  restrictedModes : length (sizesOf (t .modes)) ≤ restrictedLimits .modes
+  restrictedModes = omega (arith, restrictedOk .modesFew, length-each (λ (m : ℕ × ℕ). m .0) (t .modes))
 
-  acceptedR : Is (verdictOf restrictedLimits file) × (restrictedTaskOf (draftOf (commandsOf restrictedLimits file)) ≡ t)
-  acceptedR = accepted (verdictOf restrictedLimits file) (restrictedTaskOf (draftOf (commandsOf restrictedLimits file))) t is
-
-  countR : length (draftOf (commandsOf restrictedLimits file) .actions) ≡ length (t .actions)
-  countR = sym (length-each restrictedActionOf (draftOf (commandsOf restrictedLimits file) .actions)) ∙ ap (λ (u : RestrictedTask). length (u .actions)) (acceptedR .1)
-
-  fewR : length (sizesOf (t .modes)) ≤ restrictedLimits .modes
-  fewR = omega (arith, okR .modesFew, length-each (λ (m : ℕ × ℕ). m .0) (t .modes))
+  pub restricted-edges : length (edgesOf file) ≡ suc (length (t .actions))
+  restricted-edges = edges-of restrictedLimits restrictedTaskOf restrictedActionOf (λ u. u .actions) (λ d. refl) file bytes t is
 
   module _ (k : ℕ) (below : k < length (t .actions)) (a : DecodedRestricted) (decoded : restrictedActionIs a ≡ fittingRestricted (restrictedActionOf (decodeAction (actionPart file k)))) where
-    partR : getElem? (t .actions) k ≡ some (restrictedActionOf (decodeAction (actionPart file k)))
-    partR =
-        ap (λ (u : RestrictedTask). getElem? (u .actions) k) (sym (acceptedR .1))
-        ∙ get-each restrictedActionOf (draftOf (commandsOf restrictedLimits file) .actions) k (decodeAction (actionPart file k)) (action-decodes restrictedLimits file bytes (acceptedR .0) k (omega (arith, below, countR)))
-
-    partOkR : RestrictedActionOk restrictedLimits (length (t .starts)) (sizesOf (t .modes)) (restrictedActionOf (decodeAction (actionPart file k)))
-    partOkR = all-get (RestrictedActionOk restrictedLimits (length (t .starts)) (sizesOf (t .modes))) (t .actions) k (restrictedActionOf (decodeAction (actionPart file k))) (okR .actionsOk) partR
-
-    wholeR : restrictedActionIs a ≡ restrictedActionOf (decodeAction (actionPart file k))
-    wholeR = decoded ∙ restricted-fits (length (t .starts)) (sizesOf (t .modes)) (restrictedActionOf (decodeAction (actionPart file k))) partOkR fewR
-
     -- it is action k of the task
     pub restricted-action-decoded : getElem? (t .actions) k ≡ some (restrictedActionIs a)
-    restricted-action-decoded = partR ∙ ap some (sym wholeR)
+    restricted-action-decoded = decoded-is restrictedLimits restrictedTaskOf restrictedActionOf (λ u. u .actions) (λ d. refl) file bytes t is
+        (RestrictedActionOk restrictedLimits (length (t .starts)) (sizesOf (t .modes))) (restrictedOk .actionsOk) fittingRestricted (λ b h. restricted-fits (length (t .starts)) (sizesOf (t .modes)) b h restrictedModes) k below (restrictedActionIs a) decoded
 
+    -- and keeps to the rules
     pub restricted-action-within : RestrictedWithin restrictedLimits (length (t .starts)) (sizesOf (t .modes)) a
-    restricted-action-within = restricted-within restrictedLimits (length (t .starts)) (sizesOf (t .modes)) a (subst⁻¹ (RestrictedActionOk restrictedLimits (length (t .starts)) (sizesOf (t .modes))) wholeR partOkR)
+    restricted-action-within = restricted-within restrictedLimits (length (t .starts)) (sizesOf (t .modes)) a (decoded-ok restrictedLimits restrictedTaskOf restrictedActionOf (λ u. u .actions) (λ d. refl) file bytes t is
+        (RestrictedActionOk restrictedLimits (length (t .starts)) (sizesOf (t .modes))) (restrictedOk .actionsOk) fittingRestricted (λ b h. restricted-fits (length (t .starts)) (sizesOf (t .modes)) b h restrictedModes) k below (restrictedActionIs a) decoded)
 
-  module _ (g : Goal) (cs : goalConditionsIs g ≡ take conditionRoom (decodeAction (goalPart file (length (t .actions))) .conditions)) (ps : goalModesIs g ≡ take modeConditionRoom (decodeAction (goalPart file (length (t .actions))) .modeConditions)) where
-    goalR : draftOf (commandsOf restrictedLimits file) .goal ≡ decodeAction (goalPart file (length (t .actions)))
-    goalR = goal-decodes restrictedLimits file bytes (acceptedR .0) ∙ ap (λ (n : ℕ). decodeAction (goalPart file n)) countR
+  module _ (g : Goal) (decoded : GoalDecoded (goalPart file (length (t .actions))) g) where
+    restrictedRoom : (length (t .goalModes) ≤ modeConditionRoom) × (length (t .goalConditions) ≤ conditionRoom)
+    restrictedRoom = (omega (arith, restrictedOk .goal .modeConditionsFew), omega (arith, restrictedOk .goal .conditionsFew))
 
     -- it is the goal of the task
     pub restricted-goal-conditions : goalConditionsIs g ≡ t .goalConditions
-    restricted-goal-conditions =
-        let e : decodeAction (goalPart file (length (t .actions))) .conditions ≡ t .goalConditions = ap (λ (p : Part). p .conditions) (sym goalR) ∙ ap (λ (u : RestrictedTask). u .goalConditions) (acceptedR .1) in
-        cs ∙ ap (take conditionRoom) e ∙ take-all conditionRoom (t .goalConditions) (omega (arith, okR .goal .conditionsFew))
+    restricted-goal-conditions = goal-conditions restrictedLimits restrictedTaskOf restrictedActionOf (λ u. u .actions) (λ d. refl) file bytes t is (λ u. (u .goalModes, u .goalConditions)) (λ d. refl) restrictedRoom g decoded
 
     pub restricted-goal-modes : goalModesIs g ≡ t .goalModes
-    restricted-goal-modes =
-        let e : decodeAction (goalPart file (length (t .actions))) .modeConditions ≡ t .goalModes = ap (λ (p : Part). p .modeConditions) (sym goalR) ∙ ap (λ (u : RestrictedTask). u .goalModes) (acceptedR .1) in
-        ps ∙ ap (take modeConditionRoom) e ∙ take-all modeConditionRoom (t .goalModes) (omega (arith, okR .goal .modeConditionsFew))
+    restricted-goal-modes = goal-modes restrictedLimits restrictedTaskOf restrictedActionOf (λ u. u .actions) (λ d. refl) file bytes t is (λ u. (u .goalModes, u .goalConditions)) (λ d. refl) restrictedRoom g decoded
 
     pub restricted-goal-within : GoalWithin restrictedLimits (length (t .starts)) (sizesOf (t .modes)) g
-    restricted-goal-within = goal-within restrictedLimits (length (t .starts)) (sizesOf (t .modes)) g
-        (subst⁻¹ (λ (ps : List (ℕ × ℕ)). ConditionsOk restrictedLimits (length (t .starts)) (sizesOf (t .modes)) ps (goalConditionsIs g)) restricted-goal-modes
-        (subst⁻¹ (λ (cs : List (NumericCondition ℕ)). ConditionsOk restrictedLimits (length (t .starts)) (sizesOf (t .modes)) (t .goalModes) cs) restricted-goal-conditions (okR .goal)))
-
-  -- its edges are those of its actions, and of its goal
-  pub restricted-edges : length (edgesOf file) ≡ suc (length (t .actions))
-  restricted-edges = edges-counted restrictedLimits file bytes (acceptedR .0) ∙ ap suc countR
+    restricted-goal-within = goal-ok restrictedLimits restrictedTaskOf restrictedActionOf (λ u. u .actions) (λ d. refl) file bytes t is (λ u. (u .goalModes, u .goalConditions)) (λ d. refl) restrictedRoom g decoded
+        (length (t .starts)) (sizesOf (t .modes)) (restrictedOk .goal)
 
 -- ---- the table of places
 -- a table with room for the edges has each of them at its number

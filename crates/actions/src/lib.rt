@@ -4,7 +4,7 @@ use tasks::Verdict;
 ghost use mathlib.Core.Path.{_≡_};
 ghost use mathlib.Core.List.{[]};
 ghost use Prim.Native.Nat.{_<_, _≤_};
-ghost use lib.ListN.{length, getD, take};
+ghost use lib.ListN.{length, getD};
 ghost use lib.IntN.{pos};
 ghost use Rattle.lists.specs.Writing.{splice};
 ghost use Rattle.commands.specs.Table.{letterC, letterP, letterE, plusSign};
@@ -19,7 +19,7 @@ ghost use Rattle.actions.specs.Places.{edgesOf, bodyStart, partOf, place
 ghost use Rattle.actions.specs.Kept.{givenBy, KeepsConditions, KeepsPairs, FillsConditions, FillsPairs};
 ghost use Rattle.actions.specs.Numeric.{nothing, withEffect, withTerm, effectWith, EffectTaken};
 ghost use Rattle.actions.specs.Views.{conditionRoom, modeConditionRoom, modeEffectRoom, additionRoom, termRoom};
-ghost use Rattle.actions.specs.Views.{sourceActionIs, restrictedActionIs, goalConditionsIs, goalModesIs, fittingEffect, fittingSource, fittingRestricted};
+ghost use Rattle.actions.specs.Views.{sourceActionIs, restrictedActionIs, GoalDecoded, fittingEffect, fittingSource, fittingRestricted};
 
 // Room for the conditions and mode effects of an action or goal of either kind; a source file may have fewer of each.
 pub const CONDITIONS: usize = 24;
@@ -682,7 +682,7 @@ pub fn decode_source(bytes: &[u8]) -> SourceAction
 
 // The goal whose bytes these are, of either kind of file.
 pub fn decode_goal(bytes: &[u8]) -> Goal
-    ensures { λ r. ⌜ (goalConditionsIs r ≡ take conditionRoom (decodeAction (now (bytes .entry)) .conditions)) × (goalModesIs r ≡ take modeConditionRoom (decodeAction (now (bytes .entry)) .modeConditions)) ⌝ }
+    ensures { λ r. ⌜ GoalDecoded (now (bytes .entry)) r ⌝ }
 {
     let a = decode_restricted(bytes);
     let condition_variables = a.condition_variables;
