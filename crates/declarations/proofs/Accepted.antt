@@ -1,17 +1,16 @@
 -- What the readers leave of an accepted file: the bounds, the start and the modes of its task. The declarations that they meet are all that the
 -- file declares, and there are no more than there is room for.
 -- Assumes nothing.
-use mathlib.Core.Path.{_≡_, refl, sym, ap, ap₂, _∙_, subst}
+use mathlib.Core.Path.{_≡_, sym, ap, ap₂, _∙_, subst}
 use Prim.Native.Nat.{ℕ, _<_}
-use native.Mathlib.Omega.{arith}
-use mathlib.Core.List.{List, [], _∷_}
+use mathlib.Core.List.{List}
 use lib.ListN.{take}
 use lib.Seq.{take-all, getD-take}
 use lib.IntN.{ℤ, pos}
 use Rattle.lists.specs.Answer.{given}
-use Rattle.model.specs.Tasks.{SourceTask, RestrictedTask, State}
+use Rattle.model.specs.Tasks.{SourceTask, RestrictedTask}
 use Rattle.model.specs.Limits.{sourceLimits, restrictedLimits}
-use Rattle.model.specs.Decoding.{each, readSource, readRestricted}
+use Rattle.model.specs.Decoding.{readSource, readRestricted}
 use Rattle.model.specs.Steps.{integerAt}
 use Rattle.model.specs.TaskOk.{SourceTaskOk, RestrictedTaskOk}
 use Rattle.model.proofs.AcceptedOk.{accepted-source-ok, accepted-restricted-ok}
@@ -26,11 +25,7 @@ use Rattle.declarations.proofs.Stored.{VariablesHeld, variables-held, S
 element : (n : ℕ) (l zs : List ℤ) → take n l ≡ zs → (j : ℕ) → j < n → integerAt l j ≡ integerAt zs j
 element n l zs e j h = sym (getD-take n l j (pos 0) h) ∙ ap (λ (k : List ℤ). integerAt k j) e
 
-same : (zs : List ℤ) → each (λ z. z) zs ≡ zs
-same [] = refl
-same (z ∷ zs) = ap (λ (k : List ℤ). z ∷ k) (same zs)
-
-module _ (file : List ℕ) (lower upper start : List ℤ) (sizes values : List ℕ) (r : Declared) (lower′ upper′ start′ : List ℤ) (sizes′ values′ : List ℕ)
+module _ {file : List ℕ} {lower upper start : List ℤ} {sizes values : List ℕ} {r : Declared} {lower′ upper′ start′ : List ℤ} {sizes′ values′ : List ℕ}
     (room : SourceRoom lower upper start sizes values) (s : SourceStored file lower upper start sizes values r lower′ upper′ start′ sizes′ values′) where
   -- of any bytes: the arrays hold what is declared, as far as there is room, and the rest of them is as it was
   pub source-variables : VariablesHeld (sourceLimits .variables) (take (sourceLimits .variables) (declaredIn sourceLimits file .variables)) lower upper start (variables (r .variables) lower′ upper′ start′)
@@ -51,9 +46,9 @@ module _ (file : List ℕ) (lower upper start : List ℤ) (sizes values : List �
       record {
         room = record { lowerLong = v .allLowers .long; upperLong = v .allUppers .long; startLong = v .allStarts .long; sizesLong = m .allSizes .long; valuesLong = m .allValues .long };
         variableCount = v .count;
-        variablesFew = omega (arith, v .count, ok .variablesFew);
+        variablesFew = v .few;
         modeCount = m .count;
-        modesFew = omega (arith, m .count, ok .modesFew);
+        modesFew = m .few;
         lowersAre = v .allLowers .front;
         uppersAre = v .allUppers .front;
         lowerIs = element (r .variables) lower′ _ (v .allLowers .front);
@@ -62,7 +57,7 @@ module _ (file : List ℕ) (lower upper start : List ℤ) (sizes values : List �
         startIs = ap₂ (λ (zs : List ℤ) (xs : List ℕ). record { values = zs; modes = xs }) (v .allStarts .front) (m .allValues .front);
       }
 
-module _ (file : List ℕ) (start : List ℤ) (sizes values : List ℕ) (r : Declared) (start′ : List ℤ) (sizes′ values′ : List ℕ)
+module _ {file : List ℕ} {start : List ℤ} {sizes values : List ℕ} {r : Declared} {start′ : List ℤ} {sizes′ values′ : List ℕ}
     (room : RestrictedRoom start sizes values) (s : RestrictedStored file start sizes values r start′ sizes′ values′) where
   -- of any bytes
   pub restricted-starts : StartsHeld (restrictedLimits .variables) (take (restrictedLimits .variables) (declaredIn restrictedLimits file .starts)) start (starts (r .variables) start′)
@@ -83,9 +78,9 @@ module _ (file : List ℕ) (start : List ℤ) (sizes values : List ℕ) (r : Dec
       record {
         room = record { startLong = v .allStarts .long; sizesLong = m .allSizes .long; valuesLong = m .allValues .long };
         variableCount = v .count;
-        variablesFew = omega (arith, v .count, ok .startsFew);
+        variablesFew = v .few;
         modeCount = m .count;
-        modesFew = omega (arith, m .count, ok .modesFew);
+        modesFew = m .few;
         sizesAre = m .allSizes .front;
-        startIs = ap₂ (λ (zs : List ℤ) (xs : List ℕ). record { values = zs; modes = xs }) (v .allStarts .front ∙ same (t .starts)) (m .allValues .front);
+        startIs = ap₂ (λ (zs : List ℤ) (xs : List ℕ). record { values = zs; modes = xs }) (v .allStarts .front) (m .allValues .front);
       }

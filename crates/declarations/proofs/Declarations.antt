@@ -52,18 +52,18 @@ is-equal a b e = eqb→eq a b (holds e)
 
 module _ (l : Limits) where
   -- ---- from the first A or G on
-  -- a command there declares nothing, and neither is one behind it among the declarations
+  -- a command there declares nothing, and what follows it stands there too
   abbrev Quiet : ReadingState → Command → Type 0
-  Quiet p c = (2 ≤ ruleOf l p c .state .section) × ((d : Draft) → declared (before c d) ≡ declared d)
+  Quiet p c = (inAction ≤ ruleOf l p c .state .section) × ((d : Draft) → declared (before c d) ≡ declared d)
 
-  still : (p : ReadingState) (c : Command) → onwards c (nextOf p c) ≡ goOn (nextOf p c) → ruleOf l p c .progress ≡ Going → 2 ≤ nextOf p c .section → 2 ≤ ruleOf l p c .state .section
-  still p c n g s = subst (λ (q : ReadingState). 2 ≤ q .section) (next l p c n g) s
+  still : (p : ReadingState) (c : Command) → onwards c (nextOf p c) ≡ goOn (nextOf p c) → ruleOf l p c .progress ≡ Going → inAction ≤ nextOf p c .section → inAction ≤ ruleOf l p c .state .section
+  still p c n g s = subst (λ (q : ReadingState). inAction ≤ q .section) (next l p c n g) s
 
-  quiet : (p : ReadingState) (c : Command) → 2 ≤ p .section → allowed l p (byteOf c) ≡ true → ruleOf l p c .progress ≡ Going → Quiet p c
+  quiet : (p : ReadingState) (c : Command) → inAction ≤ p .section → allowed l p (byteOf c) ≡ true → ruleOf l p c .progress ≡ Going → Quiet p c
   unfolding testsOf nextOf
-  quiet p (Variable x y z) s a g = absurd (omega (arith, s, is-equal (p .section) 0 (source-only (l .restricted) (eqb (p .section) 0) a .1)))
-  quiet p (Start x) s a g = absurd (omega (arith, s, is-equal (p .section) 0 (restricted-only (l .restricted) (eqb (p .section) 0) a .1)))
-  quiet p (Mode x y) s a g = absurd (omega (arith, s, is-equal (p .section) 0 a))
+  quiet p (Variable x y z) s a g = absurd (omega (arith, s, is-equal (p .section) inDeclarations (source-only (l .restricted) (eqb (p .section) inDeclarations) a .1)))
+  quiet p (Start x) s a g = absurd (omega (arith, s, is-equal (p .section) inDeclarations (restricted-only (l .restricted) (eqb (p .section) inDeclarations) a .1)))
+  quiet p (Mode x y) s a g = absurd (omega (arith, s, is-equal (p .section) inDeclarations a))
   quiet p Action s a g = (still p Action refl g (omega arith), λ d. refl)
   quiet p (Condition x y z) s a g = (still p (Condition x y z) refl g s, λ d. refl)
   quiet p (ModeCondition x y) s a g = (still p (ModeCondition x y) refl g s, λ d. refl)
@@ -77,19 +77,19 @@ module _ (l : Limits) where
   quiet p End s a g = absurd (subst Goes (sym g) tt)
   quiet p (Refused number) s a g = absurd (clash (sym a))
 
-  none-declared : (cs : List Command) (p : ReadingState) → 2 ≤ p .section → Trail l p cs → declared (draftOf cs) ≡ ([], [], [])
+  none-declared : (cs : List Command) (p : ReadingState) → inAction ≤ p .section → Trail l p cs → declared (draftOf cs) ≡ ([], [], [])
   none-declared [] p s t = refl
   none-declared (c ∷ cs) p s (a, g, t) = let (s′, f) = quiet p c s a g in f (draftOf cs) ∙ none-declared cs (ruleOf l p c .state) s′ t
 
   -- ---- before it
   -- `more` are the declarations behind a command that declares, and `cs` all commands behind it
   abbrev Early : ReadingState → Type 0
-  Early p = (p .section ≡ 0) × (p .terms ≡ 0)
+  Early p = (p .section ≡ inDeclarations) × (p .terms ≡ 0)
 
   abbrev Agree : Command → List Command → List Command → Type 0
   Agree c more cs = declared (draftOf (cond (isOneOf (byteOf c) (declaring l)) (c ∷ more) [])) ≡ declared (draftOf (c ∷ cs))
 
-  -- the letters of the declarations are V or U, and neither A nor G
+  -- V or U, by the kind of file, is one of the bytes that declare; A and G are none
   letter-V : l .restricted ≡ false → isOneOf letterV (declaring l) ≡ true
   letter-V e = rw e
 
@@ -108,22 +108,22 @@ module _ (l : Limits) where
       → (Early (ruleOf l p c .state) → declared (draftOf more) ≡ declared (draftOf cs)) → Agree c more cs
   unfolding testsOf nextOf
   declared-first p (Variable x y z) more cs (s, t) a g tr ih =
-      rw (letter-V (source-only (l .restricted) (eqb (p .section) 0) a .0))
+      rw (letter-V (source-only (l .restricted) (eqb (p .section) inDeclarations) a .0))
       (ap (λ (w : Declarations). (record { lower = constant x; upper = constant y; start = constant z } ∷ w .0, w .1, w .2)) (ih (subst Early (next l p (Variable x y z) refl g) (s, refl))))
   declared-first p (Start x) more cs (s, t) a g tr ih =
-      rw (letter-U (restricted-only (l .restricted) (eqb (p .section) 0) a .0))
+      rw (letter-U (restricted-only (l .restricted) (eqb (p .section) inDeclarations) a .0))
       (ap (λ (w : Declarations). (w .0, constant x ∷ w .1, w .2)) (ih (subst Early (next l p (Start x) refl g) (s, refl))))
   declared-first p (Mode x y) more cs (s, t) a g tr ih =
       ap (λ (w : Declarations). (w .0, w .1, (x, y) ∷ w .2)) (ih (subst Early (next l p (Mode x y) refl g) (s, refl)))
   declared-first p Action more cs (s, t) a g tr ih = rw (neither-A (l .restricted)) (sym (none-declared cs (ruleOf l p Action .state) (still p Action refl g (omega arith)) tr))
-  declared-first p (Condition x y z) more cs (s, t) a g tr ih = absurd (omega (arith, s, leb→le 2 (p .section) (holds a)))
-  declared-first p (ModeCondition x y) more cs (s, t) a g tr ih = absurd (omega (arith, s, leb→le 2 (p .section) (holds a)))
-  declared-first p (ModeEffect x y) more cs (s, t) a g tr ih = absurd (omega (arith, s, is-equal (p .section) 2 a))
-  declared-first p (Add x y) more cs (s, t) a g tr ih = absurd (omega (arith, s, is-equal (p .section) 2 a))
-  declared-first p (Linear x y) more cs (s, t) a g tr ih = absurd (omega (arith, s, is-equal (p .section) 2 (source-only (l .restricted) (eqb (p .section) 2) a .1)))
+  declared-first p (Condition x y z) more cs (s, t) a g tr ih = absurd (omega (arith, s, leb→le inAction (p .section) (holds a)))
+  declared-first p (ModeCondition x y) more cs (s, t) a g tr ih = absurd (omega (arith, s, leb→le inAction (p .section) (holds a)))
+  declared-first p (ModeEffect x y) more cs (s, t) a g tr ih = absurd (omega (arith, s, is-equal (p .section) inAction a))
+  declared-first p (Add x y) more cs (s, t) a g tr ih = absurd (omega (arith, s, is-equal (p .section) inAction a))
+  declared-first p (Linear x y) more cs (s, t) a g tr ih = absurd (omega (arith, s, is-equal (p .section) inAction (source-only (l .restricted) (eqb (p .section) inAction) a .1)))
   declared-first p (Term x y) more cs (s, t) a g tr ih = absurd (omega (arith, t, leb→le 1 (p .terms) (holds a)))
-  declared-first p (Quotient x y z) more cs (s, t) a g tr ih = absurd (omega (arith, s, is-equal (p .section) 2 (source-only (l .restricted) (eqb (p .section) 2) a .1)))
-  declared-first p (Residue x y z) more cs (s, t) a g tr ih = absurd (omega (arith, s, is-equal (p .section) 2 (source-only (l .restricted) (eqb (p .section) 2) a .1)))
+  declared-first p (Quotient x y z) more cs (s, t) a g tr ih = absurd (omega (arith, s, is-equal (p .section) inAction (source-only (l .restricted) (eqb (p .section) inAction) a .1)))
+  declared-first p (Residue x y z) more cs (s, t) a g tr ih = absurd (omega (arith, s, is-equal (p .section) inAction (source-only (l .restricted) (eqb (p .section) inAction) a .1)))
   declared-first p Goal more cs (s, t) a g tr ih = rw (neither-G (l .restricted)) (sym (none-declared cs (ruleOf l p Goal .state) (still p Goal refl g (omega arith)) tr))
   declared-first p End more cs (s, t) a g tr ih = absurd (subst Goes (sym g) tt)
   declared-first p (Refused number) more cs (s, t) a g tr ih = absurd (clash (sym a))

@@ -52,13 +52,13 @@ stored-variables room = as-far-as-room room (λ a. a .count)
     (λ a v vs. ap₂ (λ (n k : ℕ). variables n (sets (set (a .lower) (a .count) (v .lower)) k (each (λ v. v .lower) vs)) (sets (set (a .upper) (a .count) (v .upper)) k (each (λ v. v .upper) vs)) (sets (set (a .start) (a .count) (v .start)) k (each (λ v. v .start) vs)))
     (sum (a .count) (length vs)) (add-one (a .count)))
 
-stored-starts : (room : ℕ) (zs : List ℤ) (a : Starts) → foldl (withStart room) a zs ≡ starts (a .count + length (take (room - a .count) zs)) (sets (a .start) (a .count) (each (λ z. z) (take (room - a .count) zs)))
+stored-starts : (room : ℕ) (zs : List ℤ) (a : Starts) → foldl (withStart room) a zs ≡ starts (a .count + length (take (room - a .count) zs)) (sets (a .start) (a .count) (take (room - a .count) zs))
 stored-starts room = as-far-as-room room (λ a. a .count)
     (λ a z. starts (a .count + 1) (set (a .start) (a .count) z))
-    (λ a zs. starts (a .count + length zs) (sets (a .start) (a .count) (each (λ z. z) zs)))
+    (λ a zs. starts (a .count + length zs) (sets (a .start) (a .count) zs))
     (λ a z. refl)
     (λ a. ap (λ (n : ℕ). starts n (a .start)) (add-zero (a .count)))
-    (λ a z zs. ap₂ (λ (n k : ℕ). starts n (sets (set (a .start) (a .count) z) k (each (λ z. z) zs))) (sum (a .count) (length zs)) (add-one (a .count)))
+    (λ a z zs. ap₂ (λ (n k : ℕ). starts n (sets (set (a .start) (a .count) z) k zs)) (sum (a .count) (length zs)) (add-one (a .count)))
 
 stored-modes : (room : ℕ) (ms : List (ℕ × ℕ)) (a : Modes) → foldl (withMode room) a ms ≡ modes (a .count + length (take (room - a .count) ms))
     (sets (a .sizes) (a .count) (each (λ m. m .0) (take (room - a .count) ms))) (sets (a .values) (a .count) (each (λ m. m .1) (take (room - a .count) ms)))
@@ -76,37 +76,42 @@ pub record Holds {Y : Type 0} (room n : ℕ) (ys old after : List Y) : Type 0 wh
   pub rest : drop n after ≡ drop n old
   pub long : length after ≡ room
 
-holds : {X Y : Type 0} (f : X → Y) (xs : List X) (room : ℕ) (old : List Y) → length xs ≤ room → length old ≡ room → Holds room (0 + length xs) (each f xs) old (sets old 0 (each f xs))
-holds f xs room old few long =
-    let n : 0 + length xs ≡ length (each f xs) = zero-add (length xs) ∙ sym (length-each f xs) in
-    let is : sets old 0 (each f xs) ≡ each f xs ++ drop (0 + length (each f xs)) old = sets-eq (each f xs) old 0 (omega (arith, length-each f xs)) in
-    let m : 0 + length (each f xs) ≡ length (each f xs) = zero-add (length (each f xs)) in
+holds : {Y : Type 0} (room n : ℕ) (ys old : List Y) → n ≡ length ys → n ≤ room → length old ≡ room → Holds room n ys old (sets old 0 ys)
+holds room n ys old e few long =
+    let is : sets old 0 ys ≡ ys ++ drop (0 + length ys) old = sets-eq ys old 0 (omega arith) in
+    let m : 0 + length ys ≡ length ys = zero-add (length ys) in
     record {
-      front = rw (n, is) (take-append-seam (each f xs) (drop (0 + length (each f xs)) old));
-      rest = rw (n, is) (drop-append-seam (each f xs) (drop (0 + length (each f xs)) old) ∙ ap (λ (k : ℕ). drop k old) m);
-      long = length-sets old 0 (each f xs) ∙ long;
+      front = rw (e, is) (take-append-seam ys (drop (0 + length ys) old));
+      rest = rw (e, is) (drop-append-seam ys (drop (0 + length ys) old) ∙ ap (λ (k : ℕ). drop k old) m);
+      long = length-sets old 0 ys ∙ long;
     }
 
 -- as much as there is room for
 fitting : {X : Type 0} (room : ℕ) (xs : List X) → take (room - 0) xs ≡ take room xs
 fitting room xs = let e : room - 0 ≡ room = omega arith in ap (λ (n : ℕ). take n xs) e
 
-fits : {X : Type 0} (room : ℕ) (xs : List X) → length (take room xs) ≤ room
+fits : {X : Type 0} (room : ℕ) (xs : List X) → 0 + length (take room xs) ≤ room
 fits room xs = omega (arith, length-take room xs)
+
+each-counted : {X Y : Type 0} (f : X → Y) (xs : List X) → 0 + length xs ≡ length (each f xs)
+each-counted f xs = zero-add (length xs) ∙ sym (length-each f xs)
 
 -- arrays of variables, of starts and of modes that hold what is listed
 pub record VariablesHeld (room : ℕ) (vs : List SourceVariable) (lower upper start : List ℤ) (a : Variables) : Type 0 where
   pub count : a .count ≡ length vs
+  pub few : a .count ≤ room
   pub allLowers : Holds room (a .count) (each (λ v. v .lower) vs) lower (a .lower)
   pub allUppers : Holds room (a .count) (each (λ v. v .upper) vs) upper (a .upper)
   pub allStarts : Holds room (a .count) (each (λ v. v .start) vs) start (a .start)
 
 pub record StartsHeld (room : ℕ) (zs start : List ℤ) (a : Starts) : Type 0 where
   pub count : a .count ≡ length zs
-  pub allStarts : Holds room (a .count) (each (λ z. z) zs) start (a .start)
+  pub few : a .count ≤ room
+  pub allStarts : Holds room (a .count) zs start (a .start)
 
 pub record ModesHeld (room : ℕ) (ms : List (ℕ × ℕ)) (sizes values : List ℕ) (a : Modes) : Type 0 where
   pub count : a .count ≡ length ms
+  pub few : a .count ≤ room
   pub allSizes : Holds room (a .count) (each (λ m. m .0) ms) sizes (a .sizes)
   pub allValues : Holds room (a .count) (each (λ m. m .1) ms) values (a .values)
 
@@ -119,20 +124,21 @@ variables-held room vs lower upper start a lowerLong upperLong startLong e =
     ∙ ap (λ us. variables (0 + length us) (sets lower 0 (each (λ v. v .lower) us)) (sets upper 0 (each (λ v. v .upper) us)) (sets start 0 (each (λ v. v .start) us))) (fitting room vs)))
     (record {
       count = zero-add (length (take room vs));
-      allLowers = holds (λ v. v .lower) (take room vs) room lower (fits room vs) lowerLong;
-      allUppers = holds (λ v. v .upper) (take room vs) room upper (fits room vs) upperLong;
-      allStarts = holds (λ v. v .start) (take room vs) room start (fits room vs) startLong;
+      few = fits room vs;
+      allLowers = holds room (0 + length (take room vs)) (each (λ v. v .lower) (take room vs)) lower (each-counted (λ v. v .lower) (take room vs)) (fits room vs) lowerLong;
+      allUppers = holds room (0 + length (take room vs)) (each (λ v. v .upper) (take room vs)) upper (each-counted (λ v. v .upper) (take room vs)) (fits room vs) upperLong;
+      allStarts = holds room (0 + length (take room vs)) (each (λ v. v .start) (take room vs)) start (each-counted (λ v. v .start) (take room vs)) (fits room vs) startLong;
     })
 
 pub starts-held : (room : ℕ) (zs start : List ℤ) (a : Starts) → length start ≡ room → a ≡ foldl (withStart room) (starts 0 start) zs → StartsHeld room (take room zs) start a
 starts-held room zs start a long e =
     subst (StartsHeld room (take room zs) start)
-    (sym (e ∙ stored-starts room zs (starts 0 start) ∙ ap (λ us. starts (0 + length us) (sets start 0 (each (λ z. z) us))) (fitting room zs)))
-    (record { count = zero-add (length (take room zs)); allStarts = holds (λ z. z) (take room zs) room start (fits room zs) long })
+    (sym (e ∙ stored-starts room zs (starts 0 start) ∙ ap (λ us. starts (0 + length us) (sets start 0 us)) (fitting room zs)))
+    (record { count = zero-add (length (take room zs)); few = fits room zs; allStarts = holds room (0 + length (take room zs)) (take room zs) start (zero-add (length (take room zs))) (fits room zs) long })
 
 pub modes-held : (room : ℕ) (ms : List (ℕ × ℕ)) (sizes values : List ℕ) (a : Modes) → length sizes ≡ room → length values ≡ room
     → a ≡ foldl (withMode room) (modes 0 sizes values) ms → ModesHeld room (take room ms) sizes values a
 modes-held room ms sizes values a sizesLong valuesLong e =
     subst (ModesHeld room (take room ms) sizes values)
     (sym (e ∙ stored-modes room ms (modes 0 sizes values) ∙ ap (λ us. modes (0 + length us) (sets sizes 0 (each (λ m. m .0) us)) (sets values 0 (each (λ m. m .1) us))) (fitting room ms)))
-    (record { count = zero-add (length (take room ms)); allSizes = holds (λ m. m .0) (take room ms) room sizes (fits room ms) sizesLong; allValues = holds (λ m. m .1) (take room ms) room values (fits room ms) valuesLong })
+    (record { count = zero-add (length (take room ms)); few = fits room ms; allSizes = holds room (0 + length (take room ms)) (each (λ m. m .0) (take room ms)) sizes (each-counted (λ m. m .0) (take room ms)) (fits room ms) sizesLong; allValues = holds room (0 + length (take room ms)) (each (λ m. m .1) (take room ms)) values (each-counted (λ m. m .1) (take room ms)) (fits room ms) valuesLong })
