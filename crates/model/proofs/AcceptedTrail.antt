@@ -1,96 +1,56 @@
 -- An accepted file's commands may follow one another, and their bytes are the file.
 -- Assumes nothing.
 use mathlib.Core.Path.{_≡_, refl, sym, ap, _∙_, subst}
-use Prim.Native.Nat.{ℕ, zero, suc, _+_, _≤_, _<_}
+use Prim.Native.Nat.{ℕ, zero, suc, _+_}
 use mathlib.Core.Bool.{cond, Bool, true, false}
 use mathlib.Core.List.{List, [], _∷_}
 use lib.ListN.{length, drop, getD}
-use lib.Dec.{T, eqb, leb, eqb→eq}
-use Rattle.commands.specs.Table.{rowAt, rowOf, sizeOfByte, sizeOfRow}
+use lib.Dec.{T, eqb, eqb→eq}
+use Rattle.commands.specs.Table.{sizeOfByte}
 use Rattle.commands.specs.declared.Command.{Command}
 use Rattle.commands.specs.declared.Command.the-variants.{Variable, Start, Mode, Action, Condition, ModeCondition, ModeEffect, Add, Linear, Term, Quotient, Residue, Goal, End, Refused}
-use Rattle.commands.specs.Reading.{commandAt, readRow}
-use Rattle.commands.specs.Encoding.{byteOf}
+use Rattle.commands.specs.Reading.{commandAt}
+use Rattle.commands.specs.Encoding.{byteOf, NoRefusal}
+use Rattle.commands.proofs.Encoding.{byte-read}
 use Rattle.model.specs.Limits.{Limits}
 use Rattle.model.specs.ReadingState.{ReadingState, Taken, Progress, Going, Ended, Stopped, begin, stop, rule}
 use Rattle.model.specs.Rules.{allowed, testsOf, nextOf, onwards, ruleOf, takeOf}
 use Rattle.model.specs.Reading.{Verdict, Accepted, Rejected, afterCommand, refusedAt, verdictFrom, verdictOf, gather, commandsFrom, commandsOf}
 use Rattle.model.specs.Trail.{Trail, endState}
-use Rattle.model.proofs.Walk.{row-byte, row-no}
-use Rattle.model.proofs.ReadingLaws.{over, not-zero}
 
 -- ---- the command that is read has the byte that stands there
-abbrev pub Known : Command → Type 0
-Known (Variable a b c) = Unit {0}
-Known (Start a) = Unit {0}
-Known (Mode a b) = Unit {0}
-Known Action = Unit {0}
-Known (Condition a b c) = Unit {0}
-Known (ModeCondition a b) = Unit {0}
-Known (ModeEffect a b) = Unit {0}
-Known (Add a b) = Unit {0}
-Known (Linear a b) = Unit {0}
-Known (Term a b) = Unit {0}
-Known (Quotient a b c) = Unit {0}
-Known (Residue a b c) = Unit {0}
-Known Goal = Unit {0}
-Known End = Unit {0}
-Known (Refused number) = ⊥
-
 abbrev pub Alive : Progress → Type 0
 Alive Going = Unit {0}
 Alive Ended = Unit {0}
 Alive (Stopped n) = ⊥
 
-known-of : (l : Limits) (p : ReadingState) (c : Command) → Alive (ruleOf l p c .progress) → Known c
+taken-is-no-refusal : (l : Limits) (p : ReadingState) (c : Command) → Alive (ruleOf l p c .progress) → NoRefusal c
 unfolding testsOf nextOf
-known-of l p (Variable a b c) h = tt
-known-of l p (Start a) h = tt
-known-of l p (Mode a b) h = tt
-known-of l p Action h = tt
-known-of l p (Condition a b c) h = tt
-known-of l p (ModeCondition a b) h = tt
-known-of l p (ModeEffect a b) h = tt
-known-of l p (Add a b) h = tt
-known-of l p (Linear a b) h = tt
-known-of l p (Term a b) h = tt
-known-of l p (Quotient a b c) h = tt
-known-of l p (Residue a b c) h = tt
-known-of l p Goal h = tt
-known-of l p End h = tt
-known-of l p (Refused number) h = h
-
--- a command that is known: its row, and all its bytes are there
-pub record Seen (s : List ℕ) : Type 0 where
-  pub there : 1 ≤ length s
-  pub few : rowOf (getD s 0 0) < 14
-  pub whole : sizeOfRow (rowOf (getD s 0 0)) ≤ length s
-  pub is : commandAt s ≡ readRow s (rowOf (getD s 0 0))
-
-pub known-row : (s : List ℕ) → Known (commandAt s) → Seen s
-unfolding commandAt
-known-row s k = step (eqb (length s) 0) (leb 14 (rowOf (getD s 0 0))) (leb (sizeOfRow (rowOf (getD s 0 0))) (length s)) refl refl refl k refl
-  where
-    step : (x y z : Bool) → eqb (length s) 0 ≡ x → leb 14 (rowOf (getD s 0 0)) ≡ y → leb (sizeOfRow (rowOf (getD s 0 0))) (length s) ≡ z
-        → Known (cond x (Refused 2) (cond y (Refused 1) (cond z (readRow s (rowOf (getD s 0 0))) (Refused 2)))) → commandAt s ≡ cond x (Refused 2) (cond y (Refused 1) (cond z (readRow s (rowOf (getD s 0 0))) (Refused 2))) → Seen s
-    step true y z e₁ e₂ e₃ k e = absurd k
-    step false true z e₁ e₂ e₃ k e = absurd k
-    step false false true e₁ e₂ e₃ k e = record { there = not-zero (length s) e₁; few = over 14 (rowOf (getD s 0 0)) e₂; whole = lib.Dec.leb→le (sizeOfRow (rowOf (getD s 0 0))) (length s) (subst T (sym e₃) tt); is = e }
-    step false false false e₁ e₂ e₃ k e = absurd k
-
-pub code-at : (s : List ℕ) → Known (commandAt s) → byteOf (commandAt s) ≡ getD s 0 0
-code-at s k = let S : Seen s = known-row s k in
-    ap byteOf (S .is) ∙ ap (λ (i : ℕ). rowAt i .byte) (row-no s (rowOf (getD s 0 0)) (S .few)) ∙ row-byte (getD s 0 0) (S .few)
+taken-is-no-refusal l p (Variable a b c) h = tt
+taken-is-no-refusal l p (Start a) h = tt
+taken-is-no-refusal l p (Mode a b) h = tt
+taken-is-no-refusal l p Action h = tt
+taken-is-no-refusal l p (Condition a b c) h = tt
+taken-is-no-refusal l p (ModeCondition a b) h = tt
+taken-is-no-refusal l p (ModeEffect a b) h = tt
+taken-is-no-refusal l p (Add a b) h = tt
+taken-is-no-refusal l p (Linear a b) h = tt
+taken-is-no-refusal l p (Term a b) h = tt
+taken-is-no-refusal l p (Quotient a b c) h = tt
+taken-is-no-refusal l p (Residue a b c) h = tt
+taken-is-no-refusal l p Goal h = tt
+taken-is-no-refusal l p End h = tt
+taken-is-no-refusal l p (Refused number) h = h
 
 -- ---- what is taken is the command, by its rule
-pub take-inv : (l : Limits) (p : ReadingState) (s : List ℕ) → Alive (takeOf l p s .progress) → (allowed l p (byteOf (commandAt s)) ≡ true) × (takeOf l p s ≡ ruleOf l p (commandAt s)) × Known (commandAt s)
+pub take-inv : (l : Limits) (p : ReadingState) (s : List ℕ) → Alive (takeOf l p s .progress) → (allowed l p (byteOf (commandAt s)) ≡ true) × (takeOf l p s ≡ ruleOf l p (commandAt s)) × NoRefusal (commandAt s)
 unfolding takeOf
 take-inv l p s h = step (eqb (length s) 0) (allowed l p (getD s 0 0)) refl refl h
   where
     step : (x y : Bool) → eqb (length s) 0 ≡ x → allowed l p (getD s 0 0) ≡ y → Alive (cond x (stop p 2) (cond y (ruleOf l p (commandAt s)) (stop p 1)) .progress)
-        → (allowed l p (byteOf (commandAt s)) ≡ true) × (cond x (stop p 2) (cond y (ruleOf l p (commandAt s)) (stop p 1)) ≡ ruleOf l p (commandAt s)) × Known (commandAt s)
+        → (allowed l p (byteOf (commandAt s)) ≡ true) × (cond x (stop p 2) (cond y (ruleOf l p (commandAt s)) (stop p 1)) ≡ ruleOf l p (commandAt s)) × NoRefusal (commandAt s)
     step true y e₁ e₂ h = absurd h
-    step false true e₁ e₂ h = let k : Known (commandAt s) = known-of l p (commandAt s) h in (ap (allowed l p) (code-at s k) ∙ e₂, refl, k)
+    step false true e₁ e₂ h = let k : NoRefusal (commandAt s) = taken-is-no-refusal l p (commandAt s) h in (ap (allowed l p) (byte-read s k) ∙ e₂, refl, k)
     step false false e₁ e₂ h = absurd h
 
 -- only Z ends

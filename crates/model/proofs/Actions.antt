@@ -17,8 +17,9 @@ use Rattle.integers.specs.Numbers.{bitsOf, Bytes}
 use Rattle.commands.specs.Table.{sizeOfByte}
 use Rattle.commands.specs.declared.Command.{Command}
 use Rattle.commands.specs.declared.Command.the-variants.{Variable, Start, Mode, Action, Condition, ModeCondition, ModeEffect, Add, Linear, Term, Quotient, Residue, Goal, End, Refused}
-use Rattle.commands.specs.Encoding.{byteOf, encode, encodeAll}
+use Rattle.commands.specs.Encoding.{Fits, byteOf, encode, encodeAll}
 use Rattle.integers.specs.Relation.{relationNumber}
+use Rattle.commands.proofs.Encoding.{read-encode, drop-encode, size-encode}
 use Rattle.model.specs.Tasks.{NumericCondition, RestrictedAction, RestrictedTask}
 use Rattle.model.specs.Limits.{Limits, restrictedLimits}
 use Rattle.model.specs.ReadingState.{ReadingState, Taken, Progress, Going, Ended, Stopped, begin, goOn}
@@ -30,7 +31,6 @@ use Rattle.model.specs.TaskOk.{RestrictedTaskOk}
 use Rattle.model.specs.Trail.{Trail, endState}
 use Rattle.model.specs.ActionBytes.{edges, edgeOf, actionPart, commandsIn, decodeAction}
 use Rattle.model.proofs.Pairing.{some-injective}
-use Rattle.model.proofs.CommandBytes.{Ok, command-encode, drop-encode}
 use Rattle.model.proofs.Walk.{count}
 use Rattle.model.proofs.ReadingLaws.{clash, holds, rule-none}
 use Rattle.model.proofs.AcceptedTrail.{Is, accepted-trail}
@@ -137,30 +137,12 @@ abbrev edgesC : ℕ → List Command → List ℕ
 edgesC at [] = []
 edgesC at (c ∷ cs) = cond (eqb (byteOf c) 71) (at ∷ []) (cond (eqb (byteOf c) 65) (at ∷ edgesC (at + length (encode c)) cs) (edgesC (at + length (encode c)) cs))
 
-size-encode : (c : Command) → Ok c → sizeOfByte (byteOf c) ≡ length (encode c)
-unfolding sizeOfByte
-size-encode (Variable x y w) o = refl
-size-encode (Start x) o = refl
-size-encode (Mode x y) o = refl
-size-encode Action o = refl
-size-encode (Condition x y w) o = refl
-size-encode (ModeCondition x y) o = refl
-size-encode (ModeEffect x y) o = refl
-size-encode (Add x y) o = refl
-size-encode (Linear x y) o = refl
-size-encode (Term x y) o = refl
-size-encode (Quotient x y w) o = refl
-size-encode (Residue x y w) o = refl
-size-encode Goal o = refl
-size-encode End o = refl
-size-encode (Refused number) o = absurd o
-
 edges-nil : (n at : ℕ) → edges n at [] ≡ []
 unfolding edges
 edges-nil zero at = refl
 edges-nil (suc n) at = refl
 
-edges-is : (cs : List Command) (n at : ℕ) → length cs < n → All Ok cs → edges n at (encodeAll cs ++ encode End) ≡ edgesC at cs
+edges-is : (cs : List Command) (n at : ℕ) → length cs < n → All Fits cs → edges n at (encodeAll cs ++ encode End) ≡ edgesC at cs
 unfolding edges sizeOfByte
 edges-is [] zero at h o = absurd (omega (arith, h))
 edges-is [] (suc n) at h o = edges-nil n (at + 1)
@@ -191,11 +173,11 @@ split (c ∷ cs) = step (edge c) (split cs)
     step true e = refl
     step false e = ap (λ (z : List ℕ). encode c ++ z) e ∙ sym (append-assoc (encode c) (encodeAll (upTo cs)) (encodeAll (beyond cs)))
 
-upTo-ok : (cs : List Command) → All Ok cs → All Ok (upTo cs)
+upTo-ok : (cs : List Command) → All Fits cs → All Fits (upTo cs)
 upTo-ok [] o = tt
 upTo-ok (c ∷ cs) (o, os) = step (edge c) (upTo-ok cs os)
   where
-    step : (b : Bool) → All Ok (upTo cs) → All Ok (cond b [] (c ∷ upTo cs))
+    step : (b : Bool) → All Fits (upTo cs) → All Fits (cond b [] (c ∷ upTo cs))
     step true k = tt
     step false k = (o, k)
 
@@ -263,7 +245,7 @@ record At (k at d : ℕ) (cs : List Command) : Type 0 where
   lo : getD (edgesC at cs) k d ≡ at + length (encodeAll pre)
   hi : getD (edgesC at cs) (suc k) d ≡ (at + length (encodeAll pre)) + length (encodeAll (Action ∷ body))
   part : getElem? (beforeAll cs blank .actions) k ≡ some (beforeAll body blank .current)
-  oks : All Ok body
+  oks : All Fits body
 
 no-acts : (cs : List Command) → NoEdge cs → length (beforeAll cs blank .actions) ≡ 0
 no-acts [] h = refl
@@ -302,7 +284,7 @@ other c cs k at d e f A = record {
     tidy : (a b e : ℕ) {z : ℕ} → z ≡ b + e → (a + b) + e ≡ a + z
     tidy a b e h = omega (arith, h)
 
-find : (cs : List Command) (k at d : ℕ) → GoalIn cs → All Ok cs → k < length (beforeAll cs blank .actions) → At k at d cs
+find : (cs : List Command) (k at d : ℕ) → GoalIn cs → All Fits cs → k < length (beforeAll cs blank .actions) → At k at d cs
 find [] k at d g o h = absurd (omega (arith, h))
 find (Action ∷ cs) zero at d g (o, os) h = record {
   pre = [];
@@ -343,14 +325,14 @@ find (Term x y ∷ cs) k at d g (o, os) h = other (Term x y) cs k at d refl refl
 find (Quotient x y w ∷ cs) k at d g (o, os) h = other (Quotient x y w) cs k at d refl refl (find cs k (at + length (encode (Quotient x y w))) d g os h)
 find (Residue x y w ∷ cs) k at d g (o, os) h = other (Residue x y w) cs k at d refl refl (find cs k (at + length (encode (Residue x y w))) d g os h)
 find (End ∷ cs) k at d g (o, os) h = other End cs k at d refl refl (find cs k (at + length (encode End)) d g os h)
-find (Refused number ∷ cs) k at d g (o, os) h = absurd o
+find (Refused number ∷ cs) k at d g (o, os) h = absurd (o .0)
 
 -- ---- reading the bytes of commands
-in-one : (n : ℕ) (c : Command) (rest : List ℕ) → Ok c → commandsIn (suc n) (encode c ++ rest) ≡ c ∷ commandsIn n rest
+in-one : (n : ℕ) (c : Command) (rest : List ℕ) → Fits c → commandsIn (suc n) (encode c ++ rest) ≡ c ∷ commandsIn n rest
 unfolding commandsIn
-in-one n c rest o = rw (ne-eqb (length (encode c ++ rest)) 0 (λ e. omega (arith, e)), command-encode c rest o, drop-encode c rest o) refl
+in-one n c rest o = rw (ne-eqb (length (encode c ++ rest)) 0 (λ e. omega (arith, e)), read-encode c rest o, drop-encode c rest o) refl
 
-in-all : (cs : List Command) (n : ℕ) → length cs ≤ n → All Ok cs → commandsIn n (encodeAll cs) ≡ cs
+in-all : (cs : List Command) (n : ℕ) → length cs ≤ n → All Fits cs → commandsIn n (encodeAll cs) ≡ cs
 unfolding commandsIn
 in-all [] zero h o = refl
 in-all [] (suc n) h o = refl
@@ -358,7 +340,7 @@ in-all (c ∷ cs) zero h o = absurd (omega (arith, h))
 in-all (c ∷ cs) (suc n) h (o, os) = in-one n c (encodeAll cs) o ∙ ap (λ (z : List Command). c ∷ z) (in-all cs n (omega (arith, h)) os)
 
 -- the bytes from action k's A on, up to the next A or G
-part-of : (file : List ℕ) (cs : List Command) (k : ℕ) → file ≡ encodeAll cs ++ encode End → All Ok cs → (A : At k 0 (length file) cs) → actionPart file k ≡ encodeAll (Action ∷ A .body)
+part-of : (file : List ℕ) (cs : List Command) (k : ℕ) → file ≡ encodeAll cs ++ encode End → All Fits cs → (A : At k 0 (length file) cs) → actionPart file k ≡ encodeAll (Action ∷ A .body)
 unfolding edgeOf
 part-of file cs k w o A = cut (edgeOf file k) (edgeOf file (suc k)) (encodeAll (A .pre)) (encodeAll (Action ∷ A .body)) (encodeAll (A .post) ++ encode End)
     (ap (λ (z : List ℕ). getD z k (length file)) es ∙ A .lo ∙ zero-plus (length (encodeAll (A .pre))))
@@ -400,7 +382,7 @@ module _ (l : Limits) (file : List ℕ) (b : Bytes file) (h : Is (verdictOf l fi
       let A : At k 0 (length file) (commandsOf l file) = find (commandsOf l file) k 0 (length file) (goal-in l (commandsOf l file) begin (omega arith) (accepted-trail l file h .0)) o q in
       let part : actionPart file k ≡ encodeAll (Action ∷ A .body) = part-of file (commandsOf l file) k w o A in
       A .part ∙ ap (λ (c : List Command). some (beforeAll (drop 1 c) blank .current))
-      (sym (in-all (Action ∷ A .body) (suc (length (actionPart file k))) (omega (arith, ap length part, count (A .body))) (tt, A .oks)) ∙ ap (commandsIn (suc (length (actionPart file k)))) (sym part))
+      (sym (in-all (Action ∷ A .body) (suc (length (actionPart file k))) (omega (arith, ap length part, count (A .body))) ((tt, tt), A .oks)) ∙ ap (commandsIn (suc (length (actionPart file k)))) (sym part))
 
 -- ---- in the file of a restricted task: the bytes of action k are those of its encoding
 abbrev Has : ℕ → ℕ → ℕ → List Command → List Command → Type 0
@@ -482,7 +464,7 @@ bodyOf a more = modeConditionCommands (a .modeConditions) (conditionCommands (a 
 upTo-body : (a : RestrictedAction) (acts : List RestrictedAction) (gs : List Command) → upTo (bodyOf a (actionsCommands acts (Goal ∷ gs))) ≡ bodyOf a []
 upTo-body a acts gs = upTo-places (a .modeConditions) _ ∙ ap (modeConditionCommands (a .modeConditions)) (upTo-compares (a .conditions) _ ∙ ap (conditionCommands (a .conditions)) (upTo-effects (a .modeEffects) _ ∙ ap (modeEffectCommands (a .modeEffects)) (upTo-adds (a .additions) _ ∙ ap (additionCommands (a .additions)) (upTo-acts acts gs))))
 
-has-act : (acts : List RestrictedAction) (gs : List Command) (k at d : ℕ) (a : RestrictedAction) → getElem? acts k ≡ some a → GoalIn (actionsCommands acts (Goal ∷ gs)) → All Ok (actionsCommands acts (Goal ∷ gs)) → Has k at d (actionsCommands acts (Goal ∷ gs)) (bodyOf a [])
+has-act : (acts : List RestrictedAction) (gs : List Command) (k at d : ℕ) (a : RestrictedAction) → getElem? acts k ≡ some a → GoalIn (actionsCommands acts (Goal ∷ gs)) → All Fits (actionsCommands acts (Goal ∷ gs)) → Has k at d (actionsCommands acts (Goal ∷ gs)) (bodyOf a [])
 unfolding find
 has-act [] gs k at d a e g o = absurd (Option·none-ne-some a e)
 has-act (x ∷ acts) gs zero at d a e g o =
@@ -511,22 +493,22 @@ has-act (x ∷ acts) gs (suc k) at d a e g (o, os) =
         over-adds [] m g = g
         over-adds (p ∷ ps) m g = over-adds ps m g
 
-    ok-past : (x : RestrictedAction) (more : List Command) → All Ok (bodyOf x more) → All Ok more
+    ok-past : (x : RestrictedAction) (more : List Command) → All Fits (bodyOf x more) → All Fits more
     ok-past x more g = over-adds (x .additions) more (over-effects (x .modeEffects) (additionCommands (x .additions) more) (over-compares (x .conditions) (modeEffectCommands (x .modeEffects) (additionCommands (x .additions) more)) (over-places (x .modeConditions) (conditionCommands (x .conditions) (modeEffectCommands (x .modeEffects) (additionCommands (x .additions) more))) g)))
       where
-        over-places : (ps : List (ℕ × ℕ)) (m : List Command) → All Ok (modeConditionCommands ps m) → All Ok m
+        over-places : (ps : List (ℕ × ℕ)) (m : List Command) → All Fits (modeConditionCommands ps m) → All Fits m
         over-places [] m g = g
         over-places (p ∷ ps) m (o, g) = over-places ps m g
 
-        over-compares : (cs : List (NumericCondition ℕ)) (m : List Command) → All Ok (conditionCommands cs m) → All Ok m
+        over-compares : (cs : List (NumericCondition ℕ)) (m : List Command) → All Fits (conditionCommands cs m) → All Fits m
         over-compares [] m g = g
         over-compares (p ∷ ps) m (o, g) = over-compares ps m g
 
-        over-effects : (ps : List (ℕ × ℕ)) (m : List Command) → All Ok (modeEffectCommands ps m) → All Ok m
+        over-effects : (ps : List (ℕ × ℕ)) (m : List Command) → All Fits (modeEffectCommands ps m) → All Fits m
         over-effects [] m g = g
         over-effects (p ∷ ps) m (o, g) = over-effects ps m g
 
-        over-adds : (ps : List (ℕ × ℤ)) (m : List Command) → All Ok (additionCommands ps m) → All Ok m
+        over-adds : (ps : List (ℕ × ℤ)) (m : List Command) → All Fits (additionCommands ps m) → All Fits m
         over-adds [] m g = g
         over-adds (p ∷ ps) m (o, g) = over-adds ps m g
 
@@ -548,10 +530,10 @@ encoded-part r F k a e =
     modes-goal [] m g = g
     modes-goal (p ∷ ps) m g = modes-goal ps m g
 
-    starts-ok : (zs : List ℤ) (m : List Command) → All Ok (startCommands zs m) → All Ok m
+    starts-ok : (zs : List ℤ) (m : List Command) → All Fits (startCommands zs m) → All Fits m
     starts-ok [] m g = g
     starts-ok (p ∷ ps) m (o, g) = starts-ok ps m g
 
-    modes-ok : (zs : List (ℕ × ℕ)) (m : List Command) → All Ok (modeCommands zs m) → All Ok m
+    modes-ok : (zs : List (ℕ × ℕ)) (m : List Command) → All Fits (modeCommands zs m) → All Fits m
     modes-ok [] m g = g
     modes-ok (p ∷ ps) m (o, g) = modes-ok ps m g

@@ -5,7 +5,6 @@ pub mod Actions
 pub mod Answers
 pub mod Arrays
 pub mod Claim
-pub mod CommandBytes
 pub mod CommandsOk
 pub mod Figure
 pub mod FileBytes

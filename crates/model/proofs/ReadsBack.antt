@@ -12,7 +12,8 @@ use Rattle.integers.specs.Numbers.{bitsOf}
 use Rattle.commands.specs.declared.Command.{Command}
 use Rattle.commands.specs.declared.Command.the-variants.{Action, Condition, Add, Goal, End}
 use Rattle.lists.specs.Answer.{given}
-use Rattle.commands.specs.Encoding.{encode, encodeAll}
+use Rattle.commands.specs.Encoding.{InWidths, encode, encodeAll, Fits}
+use Rattle.integers.proofs.Numbers.{bits-fit}
 use Rattle.model.specs.Tasks.{NumericCondition, Effect, noEffect, addEffect, RestrictedAction, RestrictedTask, Measured, variable, weightedSum}
 use Rattle.model.specs.Steps.{naturalAt, sizesOf}
 use Rattle.model.specs.Limits.{restrictedLimits}
@@ -22,7 +23,6 @@ use Rattle.model.specs.Decoding.{Part, emptyPart, Draft, blank, withCurr
 use Rattle.model.specs.Lowering.{startCommands, modeCommands, modeConditionCommands, conditionCommands, modeEffectCommands, additionCommands, actionCommands, actionsCommands, fileCommands, encodeFile, variableOf}
 use Rattle.model.specs.TaskOk.{ValuesIn, InRange, AmountOk, ModeOk, ConditionOk, ConditionsOk, RestrictedActionOk, RestrictedTaskOk}
 use Rattle.model.specs.InTask.{MeasureIn}
-use Rattle.model.proofs.CommandBytes.{Ok, twos-fits}
 use Rattle.model.proofs.Walk.{trail-accepted, trail-commands}
 use Rattle.model.proofs.StageWalk.{all-map}
 use Rattle.model.proofs.ReadingLaws.{length-keys}
@@ -33,18 +33,18 @@ abbrev Small : ℤ → Type 0
 Small z = InRange restrictedLimits z
 
 fit : (z : ℤ) → Small z → bitsOf 4 z < 256 ^ 4
-fit z h = twos-fits 4 z (omega (arith, h))
+fit z h = bits-fit 4 z (omega (arith, h))
 
 abbrev Oks : List Command → Type 0
-Oks cs = All Ok cs
+Oks cs = All Fits cs
 
 starts-ok : (zs : List ℤ) (more : List Command) → All Small zs → Oks more → Oks (startCommands zs more)
 starts-ok [] more h o = o
-starts-ok (z ∷ zs) more (h, hs) o = (fit z h, starts-ok zs more hs o)
+starts-ok (z ∷ zs) more (h, hs) o = ((tt, (fit z h, tt)), starts-ok zs more hs o)
 
 modes-ok : (ms : List (ℕ × ℕ)) (more : List Command) → All (ModeOk restrictedLimits) ms → Oks more → Oks (modeCommands ms more)
 modes-ok [] more h o = o
-modes-ok (m ∷ ms) more ((h, g), hs) o = ((omega (arith, g), omega (arith, g, h)), modes-ok ms more hs o)
+modes-ok (m ∷ ms) more ((h, g), hs) o = ((tt, (omega (arith, g), (omega (arith, g, h), tt))), modes-ok ms more hs o)
 
 size-few : (ms : List (ℕ × ℕ)) → All (ModeOk restrictedLimits) ms → (j : ℕ) → naturalAt (sizesOf ms) j ≤ 8192
 size-few [] h j = omega arith
@@ -52,16 +52,16 @@ size-few (m ∷ ms) (h, hs) zero = h .1
 size-few (m ∷ ms) (h, hs) (suc j) = size-few ms hs j
 
 module _ (n : ℕ) (n-few : n ≤ 64) (sizes : List ℕ) (m-few : length sizes ≤ 8) (s-few : (j : ℕ) → naturalAt sizes j ≤ 8192) where
-  value-ok : (e : ℕ × ℕ) → (e .0 < length sizes) × (e .1 < naturalAt sizes (e .0)) → (e .0 < 256 ^ 1) × (e .1 < 256 ^ 2)
-  value-ok e (h, g) = (omega (arith, h, m-few), omega (arith, g, s-few (e .0)))
+  value-ok : (e : ℕ × ℕ) → (e .0 < length sizes) × (e .1 < naturalAt sizes (e .0)) → InWidths (1 ∷ 2 ∷ []) (e .0 ∷ e .1 ∷ [])
+  value-ok e (h, g) = (omega (arith, h, m-few), (omega (arith, g, s-few (e .0)), tt))
 
   places-ok : (ps : List (ℕ × ℕ)) (more : List Command) → ValuesIn sizes ps → Oks more → Oks (modeConditionCommands ps more)
   places-ok [] more h o = o
-  places-ok (p ∷ ps) more (h, hs) o = (value-ok p h, places-ok ps more hs o)
+  places-ok (p ∷ ps) more (h, hs) o = ((tt, value-ok p h), places-ok ps more hs o)
 
   effects-ok : (ps : List (ℕ × ℕ)) (more : List Command) → ValuesIn sizes ps → Oks more → Oks (modeEffectCommands ps more)
   effects-ok [] more h o = o
-  effects-ok (p ∷ ps) more (h, hs) o = (value-ok p h, effects-ok ps more hs o)
+  effects-ok (p ∷ ps) more (h, hs) o = ((tt, value-ok p h), effects-ok ps more hs o)
 
   rel-fits : (r : Relation) → relationNumber r < 256 ^ 1
   rel-fits below = omega arith
@@ -71,19 +71,19 @@ module _ (n : ℕ) (n-few : n ≤ 64) (sizes : List ℕ) (m-few : length sizes �
 
   compares-ok : (cs : List (NumericCondition ℕ)) (more : List Command) → All (ConditionOk restrictedLimits n) cs → Oks more → Oks (conditionCommands cs more)
   compares-ok [] more h o = o
-  compares-ok (c ∷ cs) more ((h, g), hs) o = ((omega (arith, var-in n (c .measured) h, n-few), rel-fits (c .relation), fit (c .constant) g), compares-ok cs more hs o)
+  compares-ok (c ∷ cs) more ((h, g), hs) o = ((tt, (omega (arith, var-in n (c .measured) h, n-few), (rel-fits (c .relation), (fit (c .constant) g, tt)))), compares-ok cs more hs o)
 
   adds-ok : (es : List (ℕ × ℤ)) (more : List Command) → All (AmountOk restrictedLimits n) es → Oks more → Oks (additionCommands es more)
   adds-ok [] more h o = o
-  adds-ok (e ∷ es) more ((h, (k, g)), hs) o = ((omega (arith, h, n-few), fit (e .1) g), adds-ok es more hs o)
+  adds-ok (e ∷ es) more ((h, (k, g)), hs) o = ((tt, (omega (arith, h, n-few), (fit (e .1) g, tt))), adds-ok es more hs o)
 
   acts-ok : (acts : List RestrictedAction) (more : List Command) → All (RestrictedActionOk restrictedLimits n sizes) acts → Oks more → Oks (actionsCommands acts more)
   acts-ok [] more h o = o
   acts-ok (a ∷ acts) more (h, hs) o =
-      (tt, places-ok (a .modeConditions) _ (h .conditionsOk .modeConditionsIn) (compares-ok (a .conditions) _ (h .conditionsOk .conditionsIn) (effects-ok (a .modeEffects) _ (h .modeEffectsIn) (adds-ok (a .additions) _ (h .additionsIn) (acts-ok acts more hs o)))))
+      ((tt, tt), places-ok (a .modeConditions) _ (h .conditionsOk .modeConditionsIn) (compares-ok (a .conditions) _ (h .conditionsOk .conditionsIn) (effects-ok (a .modeEffects) _ (h .modeEffectsIn) (adds-ok (a .additions) _ (h .additionsIn) (acts-ok acts more hs o)))))
 
   goal-ok : (gp : List (ℕ × ℕ)) (gc : List (NumericCondition ℕ)) → ConditionsOk restrictedLimits n sizes gp gc → Oks (Goal ∷ modeConditionCommands gp (conditionCommands gc []))
-  goal-ok gp gc h = (tt, places-ok gp _ (h .modeConditionsIn) (compares-ok gc [] (h .conditionsIn) tt))
+  goal-ok gp gc h = ((tt, tt), places-ok gp _ (h .modeConditionsIn) (compares-ok gc [] (h .conditionsIn) tt))
 
 pub file-ok : (r : RestrictedTask) → RestrictedTaskOk r → Oks (fileCommands r)
 file-ok r F =

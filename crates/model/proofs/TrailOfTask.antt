@@ -16,6 +16,7 @@ use Rattle.integers.specs.Numbers.{bitsOf}
 use Rattle.commands.specs.declared.Command.{Command}
 use Rattle.commands.specs.declared.Command.the-variants.{Start, Mode, Action, Condition, ModeCondition, ModeEffect, Add, Goal}
 use Rattle.commands.specs.Encoding.{byteOf}
+use Rattle.integers.proofs.Numbers.{signed-bits}
 use Rattle.model.specs.Tasks.{NumericCondition, RestrictedAction, RestrictedTask, Measured, variable, weightedSum}
 use Rattle.model.specs.Steps.{naturalAt, sizesOf}
 use Rattle.model.specs.Limits.{Limits, restrictedLimits}
@@ -25,7 +26,6 @@ use Rattle.model.specs.Lowering.{startCommands, modeCommands, modeCondit
 use Rattle.model.specs.Trail.{Trail}
 use Rattle.model.specs.TaskOk.{Distinct, keys, ValuesIn, InRange, AmountOk, ModeOk, ConditionOk, ConditionsOk, RestrictedActionOk, RestrictedTaskOk}
 use Rattle.model.specs.InTask.{MeasureIn}
-use Rattle.model.proofs.CommandBytes.{untwos-twos}
 use Rattle.model.proofs.ReadingLaws.{Off, rule-go, Core, core-mode, Free, free-set, free-zero, zeros, length-keys}
 
 abbrev l : Limits
@@ -38,7 +38,7 @@ pass p c cs e a o t = let h : ruleOf l p c ≡ goOn (nextOf p c) = rule-go p (te
     (a, ap (λ (x : Taken). x .progress) h, subst (λ (x : Taken). Trail l (x .state) cs) (sym h) t)
 
 pub const-back : (z : ℤ) → InRange l z → constant (bitsOf 4 z) ≡ z
-const-back z h = untwos-twos 4 z (omega (arith, h))
+const-back z h = signed-bits 4 z (omega (arith, h))
 
 in-range : (z : ℤ) → InRange l z → outside l (constant (bitsOf 4 z)) ≡ false
 in-range z h = rw (const-back z h) (le-ltb 1_000_000_000 (natAbs z) h)

@@ -1,60 +1,58 @@
--- Commands that may follow one another, written one after another, are read as those commands, and the file is accepted; and the other way round.
+-- Commands that may follow one another, written one after another, are read as those commands, and the file is accepted.
 -- Assumes nothing.
-use mathlib.Core.Path.{_≡_, refl, sym, ap, _∙_, subst}
+use mathlib.Core.Path.{_≡_, refl, ap, _∙_}
 use Prim.Native.Nat.{ℕ, zero, suc, _+_, _≤_, _<_}
 use native.Mathlib.Omega.{arith}
-use mathlib.Core.Bool.{cond, Bool, true, false}
+use mathlib.Core.Bool.{true}
 use mathlib.Core.List.{List, [], _∷_, _++_, append-assoc}
-use lib.ListN.{length, length-append, getD}
-use lib.Dec.{T, eqb, eqb→eq}
+use lib.ListN.{length, length-append}
 use borrow.Author.Tests.{ne-eqb, eq-eqb}
 use Rattle.integers.specs.All.{All}
-use Rattle.commands.specs.Table.{Row, table, row, rowAt, rowOf, seek, sizeOfByte}
+use Rattle.commands.specs.Table.{sizeOfByte}
 use Rattle.commands.specs.declared.Command.{Command}
 use Rattle.commands.specs.declared.Command.the-variants.{End}
-use Rattle.commands.specs.Reading.{readRow}
+use Rattle.commands.specs.Encoding.{byteOf, encode, encodeAll, Fits}
+use Rattle.commands.proofs.Encoding.{drop-encode, read-encode}
 use Rattle.model.specs.Limits.{Limits}
 use Rattle.model.specs.ReadingState.{ReadingState, Going, begin}
 use Rattle.model.specs.Rules.{allowed, testsOf, nextOf, ruleOf, takeOf}
 use Rattle.model.specs.Reading.{Accepted, verdictFrom, verdictOf, commandsFrom, commandsOf}
-use Rattle.commands.specs.Encoding.{rowNumber, byteOf, encode, encodeAll}
 use Rattle.model.specs.Trail.{Trail, endState}
-use Rattle.model.proofs.CommandBytes.{Ok, command-encode, drop-encode}
 
 -- ---- from commands to bytes and back
-pub take-encode : (l : Limits) (p : ReadingState) (c : Command) (rest : List ℕ) → Ok c → allowed l p (byteOf c) ≡ true → takeOf l p (encode c ++ rest) ≡ ruleOf l p c
+pub take-encode : (l : Limits) (p : ReadingState) (c : Command) (rest : List ℕ) → Fits c → allowed l p (byteOf c) ≡ true → takeOf l p (encode c ++ rest) ≡ ruleOf l p c
 unfolding takeOf
-take-encode l p c rest o a = rw (ne-eqb (length (encode c ++ rest)) 0 (λ e. omega arith), a, command-encode c rest o) refl
+take-encode l p c rest o a = rw (ne-eqb (length (encode c ++ rest)) 0 (λ e. omega arith), a, read-encode c rest o) refl
 
 module _ (l : Limits) where
-  run-one : (len k : ℕ) (p : ReadingState) (at : ℕ) (c : Command) (rest : List ℕ) → Ok c → allowed l p (byteOf c) ≡ true → ruleOf l p c .progress ≡ Going
+  run-one : (len k : ℕ) (p : ReadingState) (at : ℕ) (c : Command) (rest : List ℕ) → Fits c → allowed l p (byteOf c) ≡ true → ruleOf l p c .progress ≡ Going
       → verdictFrom l len (suc k) p at (encode c ++ rest) ≡ verdictFrom l len k (ruleOf l p c .state) (at + sizeOfByte (byteOf c)) rest
   unfolding verdictFrom
   run-one len k p at c rest o a g = rw (take-encode l p c rest o a, g, drop-encode c rest o) refl
 
-  trace-one : (k : ℕ) (p : ReadingState) (c : Command) (rest : List ℕ) → Ok c → allowed l p (byteOf c) ≡ true → ruleOf l p c .progress ≡ Going
+  trace-one : (k : ℕ) (p : ReadingState) (c : Command) (rest : List ℕ) → Fits c → allowed l p (byteOf c) ≡ true → ruleOf l p c .progress ≡ Going
       → commandsFrom l (suc k) p (encode c ++ rest) ≡ c ∷ commandsFrom l k (ruleOf l p c .state) rest
   unfolding commandsFrom
-  trace-one k p c rest o a g = rw (take-encode l p c rest o a, g, drop-encode c rest o, command-encode c rest o) refl
+  trace-one k p c rest o a g = rw (take-encode l p c rest o a, g, drop-encode c rest o, read-encode c rest o) refl
 
   end-allowed : (p : ReadingState) → p .section ≡ 3 → allowed l p 90 ≡ true
   end-allowed p e = eq-eqb (p .section) 3 e
 
-  pub run-trail : (cs : List Command) (len k : ℕ) (p : ReadingState) (at : ℕ) → length cs < k → All Ok cs → Trail l p cs
+  pub run-trail : (cs : List Command) (len k : ℕ) (p : ReadingState) (at : ℕ) → length cs < k → All Fits cs → Trail l p cs
       → verdictFrom l len k p at (encodeAll cs ++ encode End) ≡ Accepted (endState l p cs .variables) (endState l p cs .modes) (endState l p cs .actions)
   unfolding verdictFrom testsOf nextOf
   run-trail [] len zero p at h o t = absurd (omega arith)
-  run-trail [] len (suc k) p at h o t = rw (take-encode l p End [] tt (end-allowed p t)) refl
+  run-trail [] len (suc k) p at h o t = rw (take-encode l p End [] (tt, tt) (end-allowed p t)) refl
   run-trail (c ∷ cs) len zero p at h o t = absurd (omega arith)
   run-trail (c ∷ cs) len (suc k) p at h (o, os) (a, g, t) =
       ap (verdictFrom l len (suc k) p at) (append-assoc (encode c) (encodeAll cs) (encode End))
       ∙ run-one len k p at c (encodeAll cs ++ encode End) o a g
       ∙ run-trail cs len k (ruleOf l p c .state) (at + sizeOfByte (byteOf c)) (omega arith) os t
 
-  pub trace-trail : (cs : List Command) (k : ℕ) (p : ReadingState) → length cs < k → All Ok cs → Trail l p cs → commandsFrom l k p (encodeAll cs ++ encode End) ≡ cs
+  pub trace-trail : (cs : List Command) (k : ℕ) (p : ReadingState) → length cs < k → All Fits cs → Trail l p cs → commandsFrom l k p (encodeAll cs ++ encode End) ≡ cs
   unfolding commandsFrom testsOf nextOf
   trace-trail [] zero p h o t = absurd (omega arith)
-  trace-trail [] (suc k) p h o t = rw (take-encode l p End [] tt (end-allowed p t)) refl
+  trace-trail [] (suc k) p h o t = rw (take-encode l p End [] (tt, tt) (end-allowed p t)) refl
   trace-trail (c ∷ cs) zero p h o t = absurd (omega arith)
   trace-trail (c ∷ cs) (suc k) p h (o, os) (a, g, t) =
       ap (commandsFrom l (suc k) p) (append-assoc (encode c) (encodeAll cs) (encode End))
@@ -66,7 +64,7 @@ pub count : (cs : List Command) → length cs ≤ length (encodeAll cs)
 count [] = omega arith
 count (c ∷ cs) = omega (arith, length-append (encode c) (encodeAll cs), count cs)
 
-module _ (l : Limits) (cs : List Command) (o : All Ok cs) (t : Trail l begin cs) where
+module _ (l : Limits) (cs : List Command) (o : All Fits cs) (t : Trail l begin cs) where
   few : length cs < suc (length (encodeAll cs ++ encode End))
   few = omega (arith, count cs, length-append (encodeAll cs) (encode End))
 
@@ -77,36 +75,3 @@ module _ (l : Limits) (cs : List Command) (o : All Ok cs) (t : Trail l begin cs)
   pub trail-commands : commandsOf l (encodeAll cs ++ encode End) ≡ cs
   unfolding commandsOf
   trail-commands = trace-trail l cs (suc (length (encodeAll cs ++ encode End))) begin few o t
-
--- ---- an accepted file's commands are such a trail
-seek-at : (b : ℕ) (rs : List Row) (i : ℕ) → seek b rs i < i + length rs → (j : ℕ) × (seek b rs i ≡ i + j) × (getD rs j (row 0 []) .byte ≡ b)
-seek-at b [] i h = absurd (omega arith)
-seek-at b (r ∷ rs) i h = go (eqb b (r .byte)) refl h (λ k. seek-at b rs (suc i) k)
-  where
-    go : (x : Bool) → eqb b (r .byte) ≡ x → cond x i (seek b rs (suc i)) < i + suc (length rs)
-        → (seek b rs (suc i) < suc i + length rs → (j : ℕ) × (seek b rs (suc i) ≡ suc i + j) × (getD rs j (row 0 []) .byte ≡ b)) → (j : ℕ) × (cond x i (seek b rs (suc i)) ≡ i + j) × (getD (r ∷ rs) j (row 0 []) .byte ≡ b)
-    go true e k f = (0, omega arith, sym (eqb→eq b (r .byte) (subst T (sym e) tt)))
-    go false e k f = let (j, e₁, e₂) = f (omega (arith, k)) in (suc j, omega (arith, e₁), e₂)
-
-pub row-byte : (b : ℕ) → rowOf b < 14 → rowAt (rowOf b) .byte ≡ b
-row-byte b h = let (j, e₁, e₂) = seek-at b table 0 (omega arith) in ap (λ (i : ℕ). rowAt i .byte) (e₁ ∙ zero-plus j) ∙ e₂
-  where
-    zero-plus : (j : ℕ) → 0 + j ≡ j
-    zero-plus j = omega arith
-
-pub row-no : (s : List ℕ) (i : ℕ) → i < 14 → rowNumber (readRow s i) ≡ i
-row-no s zero h = refl
-row-no s (suc zero) h = refl
-row-no s (suc (suc zero)) h = refl
-row-no s (suc (suc (suc zero))) h = refl
-row-no s (suc (suc (suc (suc zero)))) h = refl
-row-no s (suc (suc (suc (suc (suc zero))))) h = refl
-row-no s (suc (suc (suc (suc (suc (suc zero)))))) h = refl
-row-no s (suc (suc (suc (suc (suc (suc (suc zero))))))) h = refl
-row-no s (suc (suc (suc (suc (suc (suc (suc (suc zero)))))))) h = refl
-row-no s (suc (suc (suc (suc (suc (suc (suc (suc (suc zero))))))))) h = refl
-row-no s (suc (suc (suc (suc (suc (suc (suc (suc (suc (suc zero)))))))))) h = refl
-row-no s (suc (suc (suc (suc (suc (suc (suc (suc (suc (suc (suc zero))))))))))) h = refl
-row-no s (suc (suc (suc (suc (suc (suc (suc (suc (suc (suc (suc (suc zero)))))))))))) h = refl
-row-no s (suc (suc (suc (suc (suc (suc (suc (suc (suc (suc (suc (suc (suc zero))))))))))))) h = refl
-row-no s (suc (suc (suc (suc (suc (suc (suc (suc (suc (suc (suc (suc (suc (suc i)))))))))))))) h = absurd (omega arith)
