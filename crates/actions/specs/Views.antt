@@ -1,5 +1,6 @@
 -- What the decoded values say, in the words of the model.
 -- Assumes nothing.
+use mathlib.Core.Path.{_≡_}
 use Prim.Native.Nat.{ℕ}
 use mathlib.Core.List.{List, [], _∷_}
 use lib.ListN.{getD, take}
@@ -8,6 +9,7 @@ use Rattle.integers.specs.Relation.{relationOf}
 use Rattle.lists.specs.Each.{tabulate}
 use Rattle.model.specs.Tasks.{variable, NumericCondition, Effect, noEffect, addEffect, linearEffect, quotientEffect, residueEffect, SourceAction, RestrictedAction}
 use Rattle.model.specs.Decoding.{each}
+use Rattle.model.specs.ActionBytes.{decodeAction}
 use Rattle.model.specs.Limits.{sourceLimits, restrictedLimits}
 use Rattle.actions.specs.declared.Goal.{Goal}
 use Rattle.actions.specs.declared.Term.{Term}
@@ -107,3 +109,8 @@ fittingRestricted a = record {
   modeEffects = take modeEffectRoom (a .modeEffects);
   additions = take additionRoom (a .additions);
 }
+
+-- a goal that is decoded from bytes
+pub record GoalDecoded (bytes : List ℕ) (g : Goal) : Type 0 where
+  pub conditions : goalConditionsIs g ≡ take conditionRoom (decodeAction bytes .conditions)
+  pub modeConditions : goalModesIs g ≡ take modeConditionRoom (decodeAction bytes .modeConditions)

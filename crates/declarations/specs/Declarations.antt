@@ -11,9 +11,13 @@ use Rattle.model.specs.Limits.{Limits}
 use Rattle.model.specs.Rules.{isOneOf}
 use Rattle.model.specs.Decoding.{Draft, blank, before, draftOf}
 
--- the bytes of the commands that declare: M, and V in a source file, U in a restricted one
+-- the byte of the command that declares a variable: V in a source file, U in a restricted one
+abbrev pub variableLetter : Limits → ℕ
+variableLetter l = cond (l .restricted) letterU letterV
+
+-- the bytes of the commands that declare
 abbrev pub declaring : Limits → List ℕ
-declaring l = letterM ∷ cond (l .restricted) letterU letterV ∷ []
+declaring l = letterM ∷ variableLetter l ∷ []
 
 -- the commands from the front of what remains on, up to the first whose byte is none of the letters, and at most so many
 unfoldable pub commandsWith : List ℕ → ℕ → List ℕ → List Command

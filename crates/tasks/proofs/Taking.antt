@@ -1,6 +1,6 @@
 -- A command is taken by a row of tests: the first that holds gives its refusal, and where none holds the reading goes on.
 -- Assumes nothing.
-use mathlib.Core.Path.{_≡_, refl, sym, ap, _∙_}
+use mathlib.Core.Path.{_≡_, sym, ap, _∙_}
 use mathlib.Core.Bool.{Bool, true, false, not}
 use mathlib.Core.List.{List, [], _∷_}
 use Prim.Native.Nat.{ℕ, zero, suc}
@@ -32,11 +32,14 @@ rule-stop p (t ∷ ts) q (suc i) (o, f) = rw o (rule-stop p ts q i f)
 
 -- x, as it was read, is the command c
 module _ (l : Limits) (p : ReadingState) {x c : Command} (e : x ≡ c) where
+  pub reads : {t : Taken} → t ≡ ruleOf l p c → t ≡ ruleOf l p x
+  reads h = h ∙ ap (ruleOf l p) (sym e)
+
   pub stops : (i : ℕ) → FirstAt i (testsOf l p c) → stop p (refusal i (testsOf l p c)) ≡ ruleOf l p x
-  stops i f = sym (rule-stop p (testsOf l p c) (onwards c (nextOf p c)) i f) ∙ ap (ruleOf l p) (sym e)
+  stops i f = reads (sym (rule-stop p (testsOf l p c) (onwards c (nextOf p c)) i f))
 
   pub goes : Off (testsOf l p c) → onwards c (nextOf p c) ≡ ruleOf l p x
-  goes o = sym (rule-go p (testsOf l p c) (onwards c (nextOf p c)) o) ∙ ap (ruleOf l p) (sym e)
+  goes o = reads (sym (rule-go p (testsOf l p c) (onwards c (nextOf p c)) o))
 
 -- the command at the front of what remains: 2 where nothing does, 1 where its byte may not stand there, else its rule
 module _ (l : Limits) (p : ReadingState) (rest : List ℕ) where

@@ -2,8 +2,11 @@
 -- Assumes nothing.
 use Prim.Native.Nat.{ℕ}
 use mathlib.Core.List.{List}
+use mathlib.Core.Path.{_≡_}
+use Rattle.commands.specs.declared.Command.{Command}
 use Rattle.model.specs.Limits.{Limits as ModelLimits}
 use Rattle.model.specs.ReadingState.{ReadingState, Taken as ModelTaken, Progress as ModelProgress, Going as going, Ended as ended, Stopped as stopped}
+use Rattle.model.specs.Rules.{ruleOf}
 use Rattle.model.specs.Reading.{Verdict as ModelVerdict, Accepted as accepted, Rejected as rejected}
 use Rattle.tasks.specs.declared.Limits.{Limits}
 use Rattle.tasks.specs.declared.Counts.{Counts}
@@ -51,6 +54,10 @@ progressOf (Stopped number) = stopped number
 
 abbrev pub takenOf : Taken → List ℕ → List ℕ → List ℕ → ModelTaken
 takenOf t sizes set seen = record { state = stateOf (t .counts) sizes set seen; progress = progressOf (t .progress) }
+
+-- what comes of a command that touches none of the lists: what its rule says, whatever they hold
+abbrev pub Ruled : Taken → Limits → Counts → Command → Type 0
+Ruled t l p c = (sizes set seen : List ℕ) → takenOf t sizes set seen ≡ ruleOf (limitsOf l) (stateOf p sizes set seen) c
 
 abbrev pub verdictIs : Verdict → ModelVerdict
 verdictIs (Accepted variables modes actions) = accepted variables modes actions

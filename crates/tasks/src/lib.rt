@@ -1,8 +1,9 @@
-// Whether a file is a task: the rules on a file of either kind, command by command, up to the first refusal or Z.
+// Whether a file is a task: the rules on a file of either kind, taken command by command up to the first refusal or Z.
 //
-// One reader serves both kinds; the two differ in their limits. Each command is read from what remains of the file, taken apart, and
-// tested in the order 4, 5, 6, 7. It makes no task of the file, it keeps nothing of an action but counts and marks, and every run of bytes has
-// its answer. The definitions are those of crate `model`; specs/Views says what the types here mean in them.
+// One reader serves both kinds; they differ in their limits. A command's byte is looked at first (1), then the command is read from what
+// remains of the file and taken apart (2), then tested in the order 4, 5, 6, 7. The crate makes no task of the file and keeps nothing of an
+// action but counts and marks; every run of bytes has its answer. The definitions are crate `model`'s; specs/Views says what the types
+// here mean in them.
 use commands::Command;
 ghost use mathlib.Core.Path.{_≡_};
 ghost use mathlib.Core.Bool.{cond, false};
@@ -15,10 +16,10 @@ ghost use Rattle.commands.specs.Table.{letterV, letterU, letterM, letterC, lett
 ghost use Rattle.commands.specs.Reading.{commandAt};
 ghost use Rattle.commands.specs.declared.Command.the-variants.{Action, Goal, End, Quotient};
 ghost use Rattle.model.specs.Limits.{sourceLimits, restrictedLimits};
-ghost use Rattle.model.specs.ReadingState.{stop, goOn, finish, opened, noModes, noVariables, begin};
+ghost use Rattle.model.specs.ReadingState.{stop, goOn, opened, noModes, noVariables, begin};
 ghost use Rattle.model.specs.Rules.{allowed, constant, isZero, ruleOf, takeOf};
 ghost use Rattle.model.specs.Reading.{refusedAt, endedAt, verdictOf};
-ghost use Rattle.tasks.specs.Views.{limitsOf, stateOf, takenOf, verdictIs};
+ghost use Rattle.tasks.specs.Views.{limitsOf, stateOf, takenOf, verdictIs, Ruled};
 
 // What a kind of file allows. `size` is of a mode; `conditions` and `mode_conditions` are C and P of an action or goal, `additions` + of a
 // restricted action, `terms` T of an L. Every constant lies within ± `constant`; `relations` is the largest relation.
@@ -37,14 +38,15 @@ pub struct Limits {
 }
 
 // What a reading has counted so far: variables, modes and actions in the file, the others in the action or goal. `terms` is 0 where no
-// T may stand, else 1 plus the T's since their L.
+// T may stand, else 1 plus the T's since their L; it passes its limit by one, and is wider for that. The three that an answer gives
+// stand apart: side by side two of them become one number in the compiled loop, and a command takes more than twice the time.
 pub struct Counts {
     pub section: u32,
     pub variables: u32,
-    pub modes: u32,
-    pub actions: u32,
     pub conditions: u32,
+    pub modes: u32,
     pub mode_conditions: u32,
+    pub actions: u32,
     pub numeric_effects: u32,
     pub terms: u64,
 }
@@ -208,7 +210,7 @@ fn is_allowed(l: Limits, p: Counts, byte: u8) -> bool
 // V lower, upper, start: the next variable of a source file.
 fn take_variable(l: Limits, p: Counts, rest: &[u8]) -> Taken
     requires { ⌜ (0 < length (now rest)) × (getD (now rest) 0 0 ≡ letterV) ⌝ }
-    ensures { λ r. ⌜ ((sizes set seen : List ℕ) → takenOf r sizes set seen ≡ ruleOf (limitsOf l) (stateOf p sizes set seen) (commandAt (now (rest .entry)))) ⌝ }
+    ensures { λ r. ⌜ Ruled r l p (commandAt (now (rest .entry))) ⌝ }
 {
     let Command::Variable(lower, upper, start) = commands::read_variable(rest) else {
         return refuse(p, 2);
@@ -240,7 +242,7 @@ fn take_variable(l: Limits, p: Counts, rest: &[u8]) -> Taken
 // U start: the next variable of a restricted file.
 fn take_start(l: Limits, p: Counts, rest: &[u8]) -> Taken
     requires { ⌜ (0 < length (now rest)) × (getD (now rest) 0 0 ≡ letterU) ⌝ }
-    ensures { λ r. ⌜ ((sizes set seen : List ℕ) → takenOf r sizes set seen ≡ ruleOf (limitsOf l) (stateOf p sizes set seen) (commandAt (now (rest .entry)))) ⌝ }
+    ensures { λ r. ⌜ Ruled r l p (commandAt (now (rest .entry))) ⌝ }
 {
     let Command::Start(start) = commands::read_start(rest) else {
         return refuse(p, 2);
@@ -260,7 +262,8 @@ fn take_start(l: Limits, p: Counts, rest: &[u8]) -> Taken
 // M size, start: the next mode. A start not below the size is 5, so a size of 0 is.
 fn take_mode(l: Limits, p: Counts, rest: &[u8], sizes: &mut [u16; MODES]) -> Taken
     requires { ⌜ (0 < length (now rest)) × (getD (now rest) 0 0 ≡ letterM) ⌝ }
-    ensures { λ r. ⌜ ((set seen : List ℕ) → takenOf r (now (sizes .exit)) set seen ≡ ruleOf (limitsOf l) (stateOf p (now (sizes .entry)) set seen) (commandAt (now (rest .entry)))) ⌝ }
+    ensures { λ r. ⌜ ((set seen : List ℕ) → takenOf r (now (sizes .exit)) set seen
+        ≡ ruleOf (limitsOf l) (stateOf p (now (sizes .entry)) set seen) (commandAt (now (rest .entry)))) ⌝ }
 {
     let Command::Mode(size, start) = commands::read_mode(rest) else {
         return refuse(p, 2);
@@ -304,7 +307,8 @@ fn take_action(
     modes_set: &mut [u8; MODES],
     variables_seen: &mut [u8; VARIABLES],
 ) -> Taken
-    ensures { λ r. ⌜ ((sizes : List ℕ) → takenOf r sizes (now («modes_set» .exit)) (now («variables_seen» .exit)) ≡ ruleOf (limitsOf l) (stateOf p sizes (now («modes_set» .entry)) (now («variables_seen» .entry))) Action) ⌝ }
+    ensures { λ r. ⌜ ((sizes : List ℕ) → takenOf r sizes (now («modes_set» .exit)) (now («variables_seen» .exit))
+        ≡ ruleOf (limitsOf l) (stateOf p sizes (now («modes_set» .entry)) (now («variables_seen» .entry))) Action) ⌝ }
 {
     if l.actions <= p.actions {
         return refuse(p, 4);
@@ -317,7 +321,7 @@ fn take_action(
 // C variable, relation, constant.
 fn take_condition(l: Limits, p: Counts, rest: &[u8]) -> Taken
     requires { ⌜ (0 < length (now rest)) × (getD (now rest) 0 0 ≡ letterC) ⌝ }
-    ensures { λ r. ⌜ ((sizes set seen : List ℕ) → takenOf r sizes set seen ≡ ruleOf (limitsOf l) (stateOf p sizes set seen) (commandAt (now (rest .entry)))) ⌝ }
+    ensures { λ r. ⌜ Ruled r l p (commandAt (now (rest .entry))) ⌝ }
 {
     let Command::Condition(variable, relation, constant) = commands::read_condition(rest) else {
         return refuse(p, 2);
@@ -343,7 +347,8 @@ fn take_condition(l: Limits, p: Counts, rest: &[u8]) -> Taken
 // P mode, value.
 fn take_mode_condition(l: Limits, p: Counts, rest: &[u8], sizes: &[u16; MODES]) -> Taken
     requires { ⌜ (0 < length (now rest)) × (getD (now rest) 0 0 ≡ letterP) ⌝ }
-    ensures { λ r. ⌜ ((set seen : List ℕ) → takenOf r (now (sizes .entry)) set seen ≡ ruleOf (limitsOf l) (stateOf p (now (sizes .entry)) set seen) (commandAt (now (rest .entry)))) ⌝ }
+    ensures { λ r. ⌜ ((set seen : List ℕ) → takenOf r (now (sizes .entry)) set seen
+        ≡ ruleOf (limitsOf l) (stateOf p (now (sizes .entry)) set seen) (commandAt (now (rest .entry)))) ⌝ }
 {
     let Command::ModeCondition(mode, value) = commands::read_mode_condition(rest) else {
         return refuse(p, 2);
@@ -372,7 +377,8 @@ fn take_mode_effect(
     modes_set: &mut [u8; MODES],
 ) -> Taken
     requires { ⌜ (0 < length (now rest)) × (getD (now rest) 0 0 ≡ letterE) ⌝ }
-    ensures { λ r. ⌜ ((seen : List ℕ) → takenOf r (now (sizes .entry)) (now («modes_set» .exit)) seen ≡ ruleOf (limitsOf l) (stateOf p (now (sizes .entry)) (now («modes_set» .entry)) seen) (commandAt (now (rest .entry)))) ⌝ }
+    ensures { λ r. ⌜ ((seen : List ℕ) → takenOf r (now (sizes .entry)) (now («modes_set» .exit)) seen
+        ≡ ruleOf (limitsOf l) (stateOf p (now (sizes .entry)) (now («modes_set» .entry)) seen) (commandAt (now (rest .entry)))) ⌝ }
 {
     let Command::ModeEffect(mode, value) = commands::read_mode_effect(rest) else {
         return refuse(p, 2);
@@ -413,7 +419,8 @@ fn is_repeated(l: Limits, p: Counts, variables_seen: &[u8; VARIABLES], variable:
 // + variable, constant.
 fn take_add(l: Limits, p: Counts, rest: &[u8], variables_seen: &mut [u8; VARIABLES]) -> Taken
     requires { ⌜ (0 < length (now rest)) × (getD (now rest) 0 0 ≡ plusSign) ⌝ }
-    ensures { λ r. ⌜ ((sizes set : List ℕ) → takenOf r sizes set (now («variables_seen» .exit)) ≡ ruleOf (limitsOf l) (stateOf p sizes set (now («variables_seen» .entry))) (commandAt (now (rest .entry)))) ⌝ }
+    ensures { λ r. ⌜ ((sizes set : List ℕ) → takenOf r sizes set (now («variables_seen» .exit))
+        ≡ ruleOf (limitsOf l) (stateOf p sizes set (now («variables_seen» .entry))) (commandAt (now (rest .entry)))) ⌝ }
 {
     let Command::Add(variable, constant) = commands::read_add(rest) else {
         return refuse(p, 2);
@@ -443,7 +450,7 @@ fn take_add(l: Limits, p: Counts, rest: &[u8], variables_seen: &mut [u8; VARIABL
 // L target, w0; T may follow.
 fn take_linear(l: Limits, p: Counts, rest: &[u8]) -> Taken
     requires { ⌜ (0 < length (now rest)) × (getD (now rest) 0 0 ≡ letterL) ⌝ }
-    ensures { λ r. ⌜ ((sizes set seen : List ℕ) → takenOf r sizes set seen ≡ ruleOf (limitsOf l) (stateOf p sizes set seen) (commandAt (now (rest .entry)))) ⌝ }
+    ensures { λ r. ⌜ Ruled r l p (commandAt (now (rest .entry))) ⌝ }
 {
     let Command::Linear(target, constant) = commands::read_linear(rest) else {
         return refuse(p, 2);
@@ -466,7 +473,8 @@ fn take_linear(l: Limits, p: Counts, rest: &[u8]) -> Taken
 // T variable, weight.
 fn take_term(l: Limits, p: Counts, rest: &[u8], variables_seen: &mut [u8; VARIABLES]) -> Taken
     requires { ⌜ (0 < length (now rest)) × (getD (now rest) 0 0 ≡ letterT) ⌝ }
-    ensures { λ r. ⌜ ((sizes set : List ℕ) → takenOf r sizes set (now («variables_seen» .exit)) ≡ ruleOf (limitsOf l) (stateOf p sizes set (now («variables_seen» .entry))) (commandAt (now (rest .entry)))) ⌝ }
+    ensures { λ r. ⌜ ((sizes set : List ℕ) → takenOf r sizes set (now («variables_seen» .exit))
+        ≡ ruleOf (limitsOf l) (stateOf p sizes set (now («variables_seen» .entry))) (commandAt (now (rest .entry)))) ⌝ }
 {
     let Command::Term(variable, weight) = commands::read_term(rest) else {
         return refuse(p, 2);
@@ -494,7 +502,7 @@ fn take_term(l: Limits, p: Counts, rest: &[u8], variables_seen: &mut [u8; VARIAB
 
 // The tests of Q and R, which are the same.
 fn take_division(l: Limits, p: Counts, target: u8, operand: u8, divisor: u32) -> Taken
-    ensures { λ r. ⌜ ((sizes set seen : List ℕ) → takenOf r sizes set seen ≡ ruleOf (limitsOf l) (stateOf p sizes set seen) (Quotient target operand divisor)) ⌝ }
+    ensures { λ r. ⌜ Ruled r l p (Quotient target operand divisor) ⌝ }
 {
     if p.variables <= target as u32 {
         return refuse(p, 5);
@@ -520,7 +528,7 @@ fn take_division(l: Limits, p: Counts, target: u8, operand: u8, divisor: u32) ->
 // Q target, operand, divisor.
 fn take_quotient(l: Limits, p: Counts, rest: &[u8]) -> Taken
     requires { ⌜ (0 < length (now rest)) × (getD (now rest) 0 0 ≡ letterQ) ⌝ }
-    ensures { λ r. ⌜ ((sizes set seen : List ℕ) → takenOf r sizes set seen ≡ ruleOf (limitsOf l) (stateOf p sizes set seen) (commandAt (now (rest .entry)))) ⌝ }
+    ensures { λ r. ⌜ Ruled r l p (commandAt (now (rest .entry))) ⌝ }
 {
     let Command::Quotient(target, operand, divisor) = commands::read_quotient(rest) else {
         return refuse(p, 2);
@@ -531,7 +539,7 @@ fn take_quotient(l: Limits, p: Counts, rest: &[u8]) -> Taken
 // R target, operand, divisor.
 fn take_residue(l: Limits, p: Counts, rest: &[u8]) -> Taken
     requires { ⌜ (0 < length (now rest)) × (getD (now rest) 0 0 ≡ letterR) ⌝ }
-    ensures { λ r. ⌜ ((sizes set seen : List ℕ) → takenOf r sizes set seen ≡ ruleOf (limitsOf l) (stateOf p sizes set seen) (commandAt (now (rest .entry)))) ⌝ }
+    ensures { λ r. ⌜ Ruled r l p (commandAt (now (rest .entry))) ⌝ }
 {
     let Command::Residue(target, operand, divisor) = commands::read_residue(rest) else {
         return refuse(p, 2);
@@ -546,7 +554,8 @@ fn take_goal(
     modes_set: &mut [u8; MODES],
     variables_seen: &mut [u8; VARIABLES],
 ) -> Taken
-    ensures { λ r. ⌜ ((sizes : List ℕ) → takenOf r sizes (now («modes_set» .exit)) (now («variables_seen» .exit)) ≡ ruleOf (limitsOf l) (stateOf p sizes (now («modes_set» .entry)) (now («variables_seen» .entry))) Goal) ⌝ }
+    ensures { λ r. ⌜ ((sizes : List ℕ) → takenOf r sizes (now («modes_set» .exit)) (now («variables_seen» .exit))
+        ≡ ruleOf (limitsOf l) (stateOf p sizes (now («modes_set» .entry)) (now («variables_seen» .entry))) Goal) ⌝ }
 {
     *modes_set = [0; MODES];
     *variables_seen = [0; VARIABLES];
@@ -555,7 +564,7 @@ fn take_goal(
 
 // Z: the end.
 fn take_end(l: Limits, p: Counts) -> Taken
-    ensures { λ r. ⌜ ((sizes set seen : List ℕ) → takenOf r sizes set seen ≡ ruleOf (limitsOf l) (stateOf p sizes set seen) End) ⌝ }
+    ensures { λ r. ⌜ Ruled r l p End ⌝ }
 {
     Taken {
         counts: p,
@@ -573,7 +582,8 @@ fn take(
     modes_set: &mut [u8; MODES],
     variables_seen: &mut [u8; VARIABLES],
 ) -> Taken
-    ensures { λ r. ⌜ takenOf r (now (sizes .exit)) (now («modes_set» .exit)) (now («variables_seen» .exit)) ≡ takeOf (limitsOf l) (stateOf p (now (sizes .entry)) (now («modes_set» .entry)) (now («variables_seen» .entry))) (now (rest .entry)) ⌝ }
+    ensures { λ r. ⌜ takenOf r (now (sizes .exit)) (now («modes_set» .exit)) (now («variables_seen» .exit))
+        ≡ takeOf (limitsOf l) (stateOf p (now (sizes .entry)) (now («modes_set» .entry)) (now («variables_seen» .entry))) (now (rest .entry)) ⌝ }
 {
     if rest.len() == 0 {
         return refuse(p, 2);

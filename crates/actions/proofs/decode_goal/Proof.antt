@@ -11,7 +11,10 @@ decode-restricted-requires c κs = search needs
 returns : tie.Need-returns
 returns c =
     let d = c .before .before .before .before .before in
-    (ap (λ (a : RestrictedAction). a .conditions) (d .decode-restricted .ensures), ap (λ (a : RestrictedAction). a .modeConditions) (d .decode-restricted .ensures))
+    record {
+      conditions = ap (λ (a : RestrictedAction). a .conditions) (d .decode-restricted .ensures);
+      modeConditions = ap (λ (a : RestrictedAction). a .modeConditions) (d .decode-restricted .ensures);
+    }
 
 pub decode-goal-spec : {M : Type 1} → statement M
 decode-goal-spec = tie.close (tie.spec decode-restricted-requires returns)

@@ -3,7 +3,7 @@ use Prim.Native.Nat.{_-_}
 use lib.ListN.{length}
 use borrow.Author.Needs.{needs}
 use Rattle.declarations.specs.Stored as stored
-use Rattle.declarations.proofs.Walk.{begins, RestrictedWalk, restricted-begins, restricted-ends, restricted-stops, restricted-start, restricted-mode}
+use Rattle.declarations.proofs.Walk.{begins, restricted, RestrictedWalk, walk-begins, walk-ends, walk-stops, walk-variable, walk-mode}
 use Rattle.declarations.proofs.read_restricted.Statement.{statement}
 use Rattle.declarations.proofs.read_restricted.Tie as tie
 
@@ -15,7 +15,7 @@ abbrev μ-loop : tie.MeasureT-loop
 μ-loop file start₀ sizes₀ values₀ variables₀ modes₀ at₀ start sizes values variables modes at = length file - at
 
 loop-holds : tie.Need-loop-holds Inv-loop μ-loop
-loop-holds c = restricted-begins _ _ _
+loop-holds c = walk-begins _ _ _
 
 shared-slice-read-byte : tie.Need-shared-slice-read-byte Inv-loop μ-loop
 shared-slice-read-byte c = search needs
@@ -49,7 +49,7 @@ loop-again c =
     let d = c .before .before .before in
     let z = d .before in
     let l = z .before .before in
-    restricted-start (l .before .loop .inv) (l .loop-test .taken) (z .size-of .ensures .0) (z .size-of .ensures .1) (d .if1 .taken) (c .put-start .ensures)
+    walk-variable restricted (l .before .loop .inv) (l .loop-test .taken) (z .size-of .ensures .0) (z .size-of .ensures .1) (d .if1 .taken) (c .put-start .ensures)
 
 sub-put-restricted-mode : tie.Need-sub-put-restricted-mode Inv-loop μ-loop
 sub-put-restricted-mode c = search needs
@@ -77,16 +77,16 @@ loop-again-2 c =
     let d = c .before .before .before .before in
     let z = d .before .before in
     let l = z .before .before in
-    restricted-mode (l .before .loop .inv) (l .loop-test .taken) (z .size-of .ensures .0) (z .size-of .ensures .1) (d .if2 .taken) (c .put-restricted-mode .ensures)
+    walk-mode restricted (l .before .loop .inv) (l .loop-test .taken) (z .size-of .ensures .0) (z .size-of .ensures .1) (d .if2 .taken) (c .put-restricted-mode .ensures)
 
 returns : tie.Need-returns Inv-loop μ-loop
 returns c =
     let l = c .before .before .before .before in
-    let (v, m) = restricted-stops (l .before .loop .inv) (c .before .if1 .left) (c .if2 .left) in
+    let (v, m) = walk-stops restricted (l .before .loop .inv) (c .before .if1 .left) (c .if2 .left) in
     record { startsAre = v; modesAre = m }
 
 returns-2 : tie.Need-returns-2 Inv-loop μ-loop
-returns-2 c = let (v, m) = restricted-ends (c .before .loop .inv) (c .loop-test .left) in record { startsAre = v; modesAre = m }
+returns-2 c = let (v, m) = walk-ends restricted (c .before .loop .inv) (c .loop-test .left) in record { startsAre = v; modesAre = m }
 
 pub read-restricted-spec : {M : Type 1} → statement M
 read-restricted-spec =

@@ -3,7 +3,7 @@ use Prim.Native.Nat.{_-_}
 use lib.ListN.{length}
 use borrow.Author.Needs.{needs}
 use Rattle.declarations.specs.Stored as stored
-use Rattle.declarations.proofs.Walk.{begins, SourceWalk, source-begins, source-ends, source-stops, source-variable, source-mode}
+use Rattle.declarations.proofs.Walk.{begins, source, SourceWalk, walk-begins, walk-ends, walk-stops, walk-variable, walk-mode}
 use Rattle.declarations.proofs.read_source.Statement.{statement}
 use Rattle.declarations.proofs.read_source.Tie as tie
 
@@ -15,7 +15,7 @@ abbrev μ-loop : tie.MeasureT-loop
 μ-loop file lower₀ upper₀ start₀ sizes₀ values₀ variables₀ modes₀ at₀ lower upper start sizes values variables modes at = length file - at
 
 loop-holds : tie.Need-loop-holds Inv-loop μ-loop
-loop-holds c = source-begins _ _ _
+loop-holds c = walk-begins _ _ _
 
 shared-slice-read-byte : tie.Need-shared-slice-read-byte Inv-loop μ-loop
 shared-slice-read-byte c = search needs
@@ -49,7 +49,7 @@ loop-again c =
     let d = c .before .before .before .before .before in
     let z = d .before in
     let l = z .before .before in
-    source-variable (l .before .loop .inv) (l .loop-test .taken) (z .size-of .ensures .0) (z .size-of .ensures .1) (d .if1 .taken) (c .put-variable .ensures)
+    walk-variable source (l .before .loop .inv) (l .loop-test .taken) (z .size-of .ensures .0) (z .size-of .ensures .1) (d .if1 .taken) (c .put-variable .ensures)
 
 sub-put-source-mode : tie.Need-sub-put-source-mode Inv-loop μ-loop
 sub-put-source-mode c = search needs
@@ -77,16 +77,16 @@ loop-again-2 c =
     let d = c .before .before .before .before in
     let z = d .before .before in
     let l = z .before .before in
-    source-mode (l .before .loop .inv) (l .loop-test .taken) (z .size-of .ensures .0) (z .size-of .ensures .1) (d .if2 .taken) (c .put-source-mode .ensures)
+    walk-mode source (l .before .loop .inv) (l .loop-test .taken) (z .size-of .ensures .0) (z .size-of .ensures .1) (d .if2 .taken) (c .put-source-mode .ensures)
 
 returns : tie.Need-returns Inv-loop μ-loop
 returns c =
     let l = c .before .before .before .before in
-    let (v, m) = source-stops (l .before .loop .inv) (c .before .if1 .left) (c .if2 .left) in
+    let (v, m) = walk-stops source (l .before .loop .inv) (c .before .if1 .left) (c .if2 .left) in
     record { variablesAre = v; modesAre = m }
 
 returns-2 : tie.Need-returns-2 Inv-loop μ-loop
-returns-2 c = let (v, m) = source-ends (c .before .loop .inv) (c .loop-test .left) in record { variablesAre = v; modesAre = m }
+returns-2 c = let (v, m) = walk-ends source (c .before .loop .inv) (c .loop-test .left) in record { variablesAre = v; modesAre = m }
 
 pub read-source-spec : {M : Type 1} → statement M
 read-source-spec =

@@ -1,6 +1,7 @@
 -- `tasks::is_allowed` meets its contract: each arm knows its byte, and the last that it is none of them. Assumes nothing.
 use mathlib.Core.Logic.{⊎-elim, inl, inr}
 use borrow.Author.Tests.{ne-eqb, not-true, not-false}
+use Rattle.commands.specs.Table.{letterV, letterU, letterM, letterA, letterC, letterP, letterE, plusSign, letterL, letterT, letterQ, letterR, letterG, letterZ}
 use Rattle.tasks.proofs.is_allowed.Statement.{statement}
 use Rattle.tasks.proofs.is_allowed.Tie as tie
 
@@ -53,7 +54,22 @@ returns-14 c sizes set seen = rw (c .before .match .keys10)
 returns-15 : tie.Need-returns-15
 returns-15 c sizes set seen =
     let r = c .match .rest in
-    rw (ne-eqb _ 86 (r .0 .0 .0 .0 .0 .0 .0 .0 .0 .1), ne-eqb _ 85 (r .0 .0 .0 .0 .0 .0 .0 .0 .1), ne-eqb _ 77 (r .0 .0 .0 .0 .0 .0 .0 .1), ne-eqb _ 65 (λ e. r .0 .0 .0 .0 .0 .0 .1 (inl e)), ne-eqb _ 71 (λ e. r .0 .0 .0 .0 .0 .0 .1 (inr e)), ne-eqb _ 67 (λ e. r .0 .0 .0 .0 .0 .1 (inl e)), ne-eqb _ 80 (λ e. r .0 .0 .0 .0 .0 .1 (inr e)), ne-eqb _ 69 (λ e. r .0 .0 .0 .0 .1 (inr e)), ne-eqb _ 43 (λ e. r .0 .0 .0 .0 .1 (inl e)), ne-eqb _ 76 (λ e. r .0 .0 .0 .1 (inl e)), ne-eqb _ 81 (λ e. r .0 .0 .0 .1 (inr e)), ne-eqb _ 82 (r .0 .0 .1), ne-eqb _ 84 (r .0 .1), ne-eqb _ 90 (r .1))
+    rw (
+      ne-eqb _ letterV (r .0 .0 .0 .0 .0 .0 .0 .0 .0 .1),
+      ne-eqb _ letterU (r .0 .0 .0 .0 .0 .0 .0 .0 .1),
+      ne-eqb _ letterM (r .0 .0 .0 .0 .0 .0 .0 .1),
+      ne-eqb _ letterA (λ e. r .0 .0 .0 .0 .0 .0 .1 (inl e)),
+      ne-eqb _ letterG (λ e. r .0 .0 .0 .0 .0 .0 .1 (inr e)),
+      ne-eqb _ letterC (λ e. r .0 .0 .0 .0 .0 .1 (inl e)),
+      ne-eqb _ letterP (λ e. r .0 .0 .0 .0 .0 .1 (inr e)),
+      ne-eqb _ letterE (λ e. r .0 .0 .0 .0 .1 (inr e)),
+      ne-eqb _ plusSign (λ e. r .0 .0 .0 .0 .1 (inl e)),
+      ne-eqb _ letterL (λ e. r .0 .0 .0 .1 (inl e)),
+      ne-eqb _ letterQ (λ e. r .0 .0 .0 .1 (inr e)),
+      ne-eqb _ letterR (r .0 .0 .1),
+      ne-eqb _ letterT (r .0 .1),
+      ne-eqb _ letterZ (r .1),
+    )
 
 pub is-allowed-spec : {M : Type 1} → statement M
 is-allowed-spec =

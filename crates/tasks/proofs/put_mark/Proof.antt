@@ -1,6 +1,5 @@
 -- `tasks::put_mark` meets its contract: past the end there is nothing to mark. Assumes nothing.
 use mathlib.Core.Path.{sym}
-use denote.Ref.{now}
 use lib.Seq.{set-out}
 use borrow.Author.Needs.{needs}
 use Rattle.tasks.proofs.put_mark.Statement.{statement}

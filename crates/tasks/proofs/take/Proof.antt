@@ -1,6 +1,6 @@
 -- `tasks::take` meets its contract: nothing remains, the byte may not stand there, or the command's own function has taken it.
 -- Assumes nothing.
-use mathlib.Core.Path.{_≡_, refl, sym, ap, _∙_}
+use mathlib.Core.Path.{_≡_, refl, _∙_}
 use mathlib.Core.List.{List}
 use Prim.Native.Nat.{ℕ, _<_}
 use native.Mathlib.Omega.{arith}
@@ -12,10 +12,10 @@ use Rattle.commands.specs.Table.{rows, rowAt, sizeOfRow}
 use Rattle.commands.specs.Reading.{commandAt, readRow}
 use Rattle.commands.proofs.Known.{whole-as, unknown}
 use Rattle.model.specs.Limits.{Limits}
-use Rattle.model.specs.ReadingState.{ReadingState}
+use Rattle.model.specs.ReadingState.{ReadingState, Taken}
 use Rattle.model.specs.Rules.{testsOf, ruleOf, takeOf}
 use Rattle.tasks.specs.Views.{limitsOf, stateOf}
-use Rattle.tasks.proofs.Taking.{stops, nothing-left, barred, admitted}
+use Rattle.tasks.proofs.Taking.{reads, stops, nothing-left, barred, admitted}
 use Rattle.tasks.proofs.take.Statement.{statement}
 use Rattle.tasks.proofs.take.Tie as tie
 
@@ -32,17 +32,18 @@ rest s = now (s .args .rest)
 abbrev start : tie.Else2 → tie.Start
 start i = i .before .before .before .before .before
 
-by-rule : (i : tie.Else2) → ruleOf (limits (start i)) (state (start i)) (commandAt (rest (start i))) ≡ takeOf (limits (start i)) (state (start i)) (rest (start i))
-by-rule i =
+by-rule : (i : tie.Else2) {t : Taken} → t ≡ ruleOf (limits (start i)) (state (start i)) (commandAt (rest (start i))) → t ≡ takeOf (limits (start i)) (state (start i)) (rest (start i))
+by-rule i h =
     let s = start i in
-    admitted (limits s) (state s) (rest s) (i .before .before .before .if1 .left) (i .before .is-allowed .ensures (now (s .args .sizes)) (now (s .args .modes-set)) (now (s .args .variables-seen))) (i .if2 .left)
+    h ∙ admitted (limits s) (state s) (rest s) (i .before .before .before .if1 .left) (i .before .is-allowed .ensures (now (s .args .sizes)) (now (s .args .modes-set)) (now (s .args .variables-seen))) (i .if2 .left)
 
 -- a command of one byte, that of row k
 alone : (i : tie.Else2) (k : ℕ) → k < rows → sizeOfRow k ≡ 1 → getD (rest (start i)) 0 0 ≡ rowAt k .byte
-    → ruleOf (limits (start i)) (state (start i)) (readRow (rest (start i)) k) ≡ takeOf (limits (start i)) (state (start i)) (rest (start i))
-alone i k few one byte =
+    → {t : Taken} → t ≡ ruleOf (limits (start i)) (state (start i)) (readRow (rest (start i)) k) → t ≡ takeOf (limits (start i)) (state (start i)) (rest (start i))
+alone i k few one byte h =
     let s = start i in
-    ap (ruleOf (limits s) (state s)) (sym (whole-as (rest s) k few (omega (arith, i .before .before .before .if1 .left)) byte (omega (arith, one, i .before .before .before .if1 .left)))) ∙ by-rule i
+    let there = i .before .before .before .if1 .left in
+    by-rule i (reads (limits s) (state s) (whole-as (rest s) k few (omega (arith, there)) byte (omega (arith, one, there))) h)
 
 refuse-requires : tie.Need-refuse-requires
 refuse-requires c κs = search needs
@@ -117,94 +118,94 @@ returns-3 : tie.Need-returns-3
 returns-3 c =
     let i = c .before .before in
     let s = start i in
-    c .take-variable .ensures (now (s .args .sizes)) (now (s .args .modes-set)) (now (s .args .variables-seen)) ∙ by-rule i
+    by-rule i (c .take-variable .ensures (now (s .args .sizes)) (now (s .args .modes-set)) (now (s .args .variables-seen)))
 
 returns-4 : tie.Need-returns-4
 returns-4 c =
     let i = c .before .before in
     let s = start i in
-    c .take-start .ensures (now (s .args .sizes)) (now (s .args .modes-set)) (now (s .args .variables-seen)) ∙ by-rule i
+    by-rule i (c .take-start .ensures (now (s .args .sizes)) (now (s .args .modes-set)) (now (s .args .variables-seen)))
 
 returns-5 : tie.Need-returns-5
 returns-5 c =
     let i = c .before .before .before in
     let s = start i in
-    c .take-mode .ensures (now (s .args .modes-set)) (now (s .args .variables-seen)) ∙ by-rule i
+    by-rule i (c .take-mode .ensures (now (s .args .modes-set)) (now (s .args .variables-seen)))
 
 returns-6 : tie.Need-returns-6
 returns-6 c =
     let i = c .before .before .before .before in
     let s = start i in
-    c .take-action .ensures (now (s .args .sizes)) ∙ alone i 3 (lit< tt) refl (c .before .before .before .match .keys4)
+    alone i 3 (lit< tt) refl (c .before .before .before .match .keys4) (c .take-action .ensures (now (s .args .sizes)))
 
 returns-7 : tie.Need-returns-7
 returns-7 c =
     let i = c .before .before in
     let s = start i in
-    c .take-condition .ensures (now (s .args .sizes)) (now (s .args .modes-set)) (now (s .args .variables-seen)) ∙ by-rule i
+    by-rule i (c .take-condition .ensures (now (s .args .sizes)) (now (s .args .modes-set)) (now (s .args .variables-seen)))
 
 returns-8 : tie.Need-returns-8
 returns-8 c =
     let i = c .before .before .before in
     let s = start i in
-    c .take-mode-condition .ensures (now (s .args .modes-set)) (now (s .args .variables-seen)) ∙ by-rule i
+    by-rule i (c .take-mode-condition .ensures (now (s .args .modes-set)) (now (s .args .variables-seen)))
 
 returns-9 : tie.Need-returns-9
 returns-9 c =
     let i = c .before .before .before .before in
     let s = start i in
-    c .take-mode-effect .ensures (now (s .args .variables-seen)) ∙ by-rule i
+    by-rule i (c .take-mode-effect .ensures (now (s .args .variables-seen)))
 
 returns-10 : tie.Need-returns-10
 returns-10 c =
     let i = c .before .before .before in
     let s = start i in
-    c .take-add .ensures (now (s .args .sizes)) (now (s .args .modes-set)) ∙ by-rule i
+    by-rule i (c .take-add .ensures (now (s .args .sizes)) (now (s .args .modes-set)))
 
 returns-11 : tie.Need-returns-11
 returns-11 c =
     let i = c .before .before in
     let s = start i in
-    c .take-linear .ensures (now (s .args .sizes)) (now (s .args .modes-set)) (now (s .args .variables-seen)) ∙ by-rule i
+    by-rule i (c .take-linear .ensures (now (s .args .sizes)) (now (s .args .modes-set)) (now (s .args .variables-seen)))
 
 returns-12 : tie.Need-returns-12
 returns-12 c =
     let i = c .before .before .before in
     let s = start i in
-    c .take-term .ensures (now (s .args .sizes)) (now (s .args .modes-set)) ∙ by-rule i
+    by-rule i (c .take-term .ensures (now (s .args .sizes)) (now (s .args .modes-set)))
 
 returns-13 : tie.Need-returns-13
 returns-13 c =
     let i = c .before .before in
     let s = start i in
-    c .take-quotient .ensures (now (s .args .sizes)) (now (s .args .modes-set)) (now (s .args .variables-seen)) ∙ by-rule i
+    by-rule i (c .take-quotient .ensures (now (s .args .sizes)) (now (s .args .modes-set)) (now (s .args .variables-seen)))
 
 returns-14 : tie.Need-returns-14
 returns-14 c =
     let i = c .before .before in
     let s = start i in
-    c .take-residue .ensures (now (s .args .sizes)) (now (s .args .modes-set)) (now (s .args .variables-seen)) ∙ by-rule i
+    by-rule i (c .take-residue .ensures (now (s .args .sizes)) (now (s .args .modes-set)) (now (s .args .variables-seen)))
 
 returns-15 : tie.Need-returns-15
 returns-15 c =
     let i = c .before .before .before .before in
     let s = start i in
-    c .take-goal .ensures (now (s .args .sizes)) ∙ alone i 12 (lit< tt) refl (c .before .before .before .match .keys13)
+    alone i 12 (lit< tt) refl (c .before .before .before .match .keys13) (c .take-goal .ensures (now (s .args .sizes)))
 
 returns-16 : tie.Need-returns-16
 returns-16 c =
     let i = c .before .before in
     let s = start i in
-    c .take-end .ensures (now (s .args .sizes)) (now (s .args .modes-set)) (now (s .args .variables-seen)) ∙ alone i 13 (lit< tt) refl (c .before .match .keys14)
+    alone i 13 (lit< tt) refl (c .before .match .keys14) (c .take-end .ensures (now (s .args .sizes)) (now (s .args .modes-set)) (now (s .args .variables-seen)))
 
 returns-17 : tie.Need-returns-17
 unfolding testsOf
 returns-17 c =
     let i = c .before .before in
     let s = start i in
-    c .refuse3 .ensures (now (s .args .sizes)) (now (s .args .modes-set)) (now (s .args .variables-seen))
-    ∙ stops (limits s) (state s) (unknown (rest s) (omega (arith, i .before .before .before .if1 .left)) (c .before .match .rest)) 0 refl
-    ∙ by-rule i
+    by-rule i
+    (c .refuse3 .ensures (now (s .args .sizes)) (now (s .args .modes-set)) (now (s .args .variables-seen))
+    ∙ stops (limits s) (state s) (unknown (rest s) (omega (arith, i .before .before .before .if1 .left)) (c .before .match .rest)) 0 refl)
 
 pub take-spec : {M : Type 1} → statement M
 take-spec =

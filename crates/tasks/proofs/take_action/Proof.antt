@@ -20,7 +20,8 @@ returns c sizes =
     let t1 = c .before in
     let s = t1 .before .before .before in
     c .refuse .ensures sizes (now (s .args .modes-set)) (now (s .args .variables-seen))
-    ∙ stops (limitsOf (s .args .l)) (stateOf (s .args .p) sizes (now (s .args .modes-set)) (now (s .args .variables-seen))) (refl {a = Action}) 0 (le-leb _ _ (t1 .if1 .taken))
+    ∙ stops (limitsOf (s .args .l)) (stateOf (s .args .p) sizes (now (s .args .modes-set)) (now (s .args .variables-seen))) (refl {a = Action}) 0
+    (le-leb _ _ (t1 .if1 .taken))
 
 add-open : tie.Need-add-open
 add-open c = search needs
@@ -38,7 +39,8 @@ returns-2 c sizes =
     let s = t1 .before .before .before in
     c .go-on .ensures sizes noModes noVariables
     ∙ ap goOn (c .before .«open» .ensures sizes (now (s .args .modes-set)) (now (s .args .variables-seen)))
-    ∙ goes (limitsOf (s .args .l)) (stateOf (s .args .p) sizes (now (s .args .modes-set)) (now (s .args .variables-seen))) (refl {a = Action}) (lt-leb _ _ (t1 .if1 .left), tt)
+    ∙ goes (limitsOf (s .args .l)) (stateOf (s .args .p) sizes (now (s .args .modes-set)) (now (s .args .variables-seen))) (refl {a = Action})
+    (lt-leb _ _ (t1 .if1 .left), tt)
 
 pub take-action-spec : {M : Type 1} → statement M
 take-action-spec = tie.close (tie.spec refuse-requires returns add-open open-requires go-on-requires returns-2)

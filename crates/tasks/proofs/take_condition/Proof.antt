@@ -39,7 +39,8 @@ returns-2 c sizes set seen =
     let v = t1 .before .before .before .before in
     let s = v .before .before .before .before in
     c .refuse2 .ensures sizes set seen
-    ∙ stops (limitsOf (s .args .l)) (stateOf (s .args .p) sizes set seen) (sym (v .before .before .read-condition .ensures) ∙ v .variable .given .1) 0 (le-leb _ _ (t1 .if1 .taken))
+    ∙ stops (limitsOf (s .args .l)) (stateOf (s .args .p) sizes set seen) (sym (v .before .before .read-condition .ensures) ∙ v .variable .given .1) 0
+    (le-leb _ _ (t1 .if1 .taken))
 
 cast-if2 : tie.Need-cast-if2
 cast-if2 c = search needs
@@ -55,7 +56,8 @@ returns-3 c sizes set seen =
     let v = t1 .before .before .before .before in
     let s = v .before .before .before .before in
     c .refuse3 .ensures sizes set seen
-    ∙ stops (limitsOf (s .args .l)) (stateOf (s .args .p) sizes set seen) (sym (v .before .before .read-condition .ensures) ∙ v .variable .given .1) 1 (lt-leb _ _ (t1 .if1 .left), le-leb _ _ (t2 .if2 .taken))
+    ∙ stops (limitsOf (s .args .l)) (stateOf (s .args .p) sizes set seen) (sym (v .before .before .read-condition .ensures) ∙ v .variable .given .1) 1
+    (lt-leb _ _ (t1 .if1 .left), le-leb _ _ (t2 .if2 .taken))
 
 cast-if3 : tie.Need-cast-if3
 cast-if3 c = search needs
@@ -72,7 +74,8 @@ returns-4 c sizes set seen =
     let v = t1 .before .before .before .before in
     let s = v .before .before .before .before in
     c .refuse4 .ensures sizes set seen
-    ∙ stops (limitsOf (s .args .l)) (stateOf (s .args .p) sizes set seen) (sym (v .before .before .read-condition .ensures) ∙ v .variable .given .1) 2 (lt-leb _ _ (t1 .if1 .left), (lt-leb _ _ (t2 .if2 .left), lt-ltb _ _ (t3 .if3 .taken)))
+    ∙ stops (limitsOf (s .args .l)) (stateOf (s .args .p) sizes set seen) (sym (v .before .before .read-condition .ensures) ∙ v .variable .given .1) 2
+    (lt-leb _ _ (t1 .if1 .left), (lt-leb _ _ (t2 .if2 .left), lt-ltb _ _ (t3 .if3 .taken)))
 
 is-outside-requires : tie.Need-is-outside-requires
 is-outside-requires c κs = search needs
@@ -90,7 +93,8 @@ returns-5 c sizes set seen =
     let v = t1 .before .before .before .before in
     let s = v .before .before .before .before in
     c .refuse5 .ensures sizes set seen
-    ∙ stops (limitsOf (s .args .l)) (stateOf (s .args .p) sizes set seen) (sym (v .before .before .read-condition .ensures) ∙ v .variable .given .1) 3 (lt-leb _ _ (t1 .if1 .left), (lt-leb _ _ (t2 .if2 .left), (le-ltb _ _ (t3 .if3 .left), told (t4 .before .is-outside .ensures) (t4 .if4 .taken))))
+    ∙ stops (limitsOf (s .args .l)) (stateOf (s .args .p) sizes set seen) (sym (v .before .before .read-condition .ensures) ∙ v .variable .given .1) 3
+    (lt-leb _ _ (t1 .if1 .left), (lt-leb _ _ (t2 .if2 .left), (le-ltb _ _ (t3 .if3 .left), told (t4 .before .is-outside .ensures) (t4 .if4 .taken))))
 
 add-q : tie.Need-add-q
 add-q c = search needs
@@ -108,7 +112,8 @@ returns-6 c sizes set seen =
     let v = t1 .before .before .before .before in
     let s = v .before .before .before .before in
     c .go-on .ensures sizes set seen
-    ∙ goes (limitsOf (s .args .l)) (stateOf (s .args .p) sizes set seen) (sym (v .before .before .read-condition .ensures) ∙ v .variable .given .1) (lt-leb _ _ (t1 .if1 .left), (lt-leb _ _ (t2 .if2 .left), (le-ltb _ _ (t3 .if3 .left), (told (t4 .before .is-outside .ensures) (t4 .if4 .left), tt))))
+    ∙ goes (limitsOf (s .args .l)) (stateOf (s .args .p) sizes set seen) (sym (v .before .before .read-condition .ensures) ∙ v .variable .given .1)
+    (lt-leb _ _ (t1 .if1 .left), (lt-leb _ _ (t2 .if2 .left), (le-ltb _ _ (t3 .if3 .left), (told (t4 .before .is-outside .ensures) (t4 .if4 .left), tt))))
 
 pub take-condition-spec : {M : Type 1} → statement M
 take-condition-spec =

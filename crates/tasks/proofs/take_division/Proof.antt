@@ -19,7 +19,8 @@ returns c sizes set seen =
     let t1 = c .before in
     let s = t1 .before .before in
     c .refuse .ensures sizes set seen
-    ∙ stops (limitsOf (s .args .l)) (stateOf (s .args .p) sizes set seen) (refl {a = Quotient (s .args .target) (s .args .operand) (s .args .divisor)}) 0 (le-leb _ _ (t1 .if1 .taken))
+    ∙ stops (limitsOf (s .args .l)) (stateOf (s .args .p) sizes set seen) (refl {a = Quotient (s .args .target) (s .args .operand) (s .args .divisor)}) 0
+    (le-leb _ _ (t1 .if1 .taken))
 
 refuse-requires-2 : tie.Need-refuse-requires-2
 refuse-requires-2 c κs = search needs
@@ -31,7 +32,8 @@ returns-2 c sizes set seen =
     let t1 = t2 .before .before in
     let s = t1 .before .before in
     c .refuse2 .ensures sizes set seen
-    ∙ stops (limitsOf (s .args .l)) (stateOf (s .args .p) sizes set seen) (refl {a = Quotient (s .args .target) (s .args .operand) (s .args .divisor)}) 1 (lt-leb _ _ (t1 .if1 .left), le-leb _ _ (t2 .if2 .taken))
+    ∙ stops (limitsOf (s .args .l)) (stateOf (s .args .p) sizes set seen) (refl {a = Quotient (s .args .target) (s .args .operand) (s .args .divisor)}) 1
+    (lt-leb _ _ (t1 .if1 .left), le-leb _ _ (t2 .if2 .taken))
 
 is-zero-requires : tie.Need-is-zero-requires
 is-zero-requires c κs = search needs
@@ -47,7 +49,8 @@ returns-3 c sizes set seen =
     let t1 = t2 .before .before in
     let s = t1 .before .before in
     c .refuse3 .ensures sizes set seen
-    ∙ stops (limitsOf (s .args .l)) (stateOf (s .args .p) sizes set seen) (refl {a = Quotient (s .args .target) (s .args .operand) (s .args .divisor)}) 2 (lt-leb _ _ (t1 .if1 .left), (lt-leb _ _ (t2 .if2 .left), told (t3 .before .is-zero .ensures) (t3 .if3 .taken)))
+    ∙ stops (limitsOf (s .args .l)) (stateOf (s .args .p) sizes set seen) (refl {a = Quotient (s .args .target) (s .args .operand) (s .args .divisor)}) 2
+    (lt-leb _ _ (t1 .if1 .left), (lt-leb _ _ (t2 .if2 .left), told (t3 .before .is-zero .ensures) (t3 .if3 .taken)))
 
 is-outside-requires : tie.Need-is-outside-requires
 is-outside-requires c κs = search needs
@@ -64,7 +67,8 @@ returns-4 c sizes set seen =
     let t1 = t2 .before .before in
     let s = t1 .before .before in
     c .refuse4 .ensures sizes set seen
-    ∙ stops (limitsOf (s .args .l)) (stateOf (s .args .p) sizes set seen) (refl {a = Quotient (s .args .target) (s .args .operand) (s .args .divisor)}) 3 (lt-leb _ _ (t1 .if1 .left), (lt-leb _ _ (t2 .if2 .left), (told (t3 .before .is-zero .ensures) (t3 .if3 .left), told (t4 .before .is-outside .ensures) (t4 .if4 .taken))))
+    ∙ stops (limitsOf (s .args .l)) (stateOf (s .args .p) sizes set seen) (refl {a = Quotient (s .args .target) (s .args .operand) (s .args .divisor)}) 3
+    (lt-leb _ _ (t1 .if1 .left), (lt-leb _ _ (t2 .if2 .left), (told (t3 .before .is-zero .ensures) (t3 .if3 .left), told (t4 .before .is-outside .ensures) (t4 .if4 .taken))))
 
 refuse-requires-5 : tie.Need-refuse-requires-5
 refuse-requires-5 c κs = search needs
@@ -79,7 +83,8 @@ returns-5 c sizes set seen =
     let t1 = t2 .before .before in
     let s = t1 .before .before in
     c .refuse5 .ensures sizes set seen
-    ∙ stops (limitsOf (s .args .l)) (stateOf (s .args .p) sizes set seen) (refl {a = Quotient (s .args .target) (s .args .operand) (s .args .divisor)}) 4 (lt-leb _ _ (t1 .if1 .left), (lt-leb _ _ (t2 .if2 .left), (told (t3 .before .is-zero .ensures) (t3 .if3 .left), (told (t4 .before .is-outside .ensures) (t4 .if4 .left), le-leb _ _ (t5 .if5 .taken)))))
+    ∙ stops (limitsOf (s .args .l)) (stateOf (s .args .p) sizes set seen) (refl {a = Quotient (s .args .target) (s .args .operand) (s .args .divisor)}) 4
+    (lt-leb _ _ (t1 .if1 .left), (lt-leb _ _ (t2 .if2 .left), (told (t3 .before .is-zero .ensures) (t3 .if3 .left), (told (t4 .before .is-outside .ensures) (t4 .if4 .left), le-leb _ _ (t5 .if5 .taken)))))
 
 add-q : tie.Need-add-q
 add-q c = search needs
@@ -97,7 +102,8 @@ returns-6 c sizes set seen =
     let t1 = t2 .before .before in
     let s = t1 .before .before in
     c .go-on .ensures sizes set seen
-    ∙ goes (limitsOf (s .args .l)) (stateOf (s .args .p) sizes set seen) (refl {a = Quotient (s .args .target) (s .args .operand) (s .args .divisor)}) (lt-leb _ _ (t1 .if1 .left), (lt-leb _ _ (t2 .if2 .left), (told (t3 .before .is-zero .ensures) (t3 .if3 .left), (told (t4 .before .is-outside .ensures) (t4 .if4 .left), (lt-leb _ _ (t5 .if5 .left), tt)))))
+    ∙ goes (limitsOf (s .args .l)) (stateOf (s .args .p) sizes set seen) (refl {a = Quotient (s .args .target) (s .args .operand) (s .args .divisor)})
+    (lt-leb _ _ (t1 .if1 .left), (lt-leb _ _ (t2 .if2 .left), (told (t3 .before .is-zero .ensures) (t3 .if3 .left), (told (t4 .before .is-outside .ensures) (t4 .if4 .left), (lt-leb _ _ (t5 .if5 .left), tt)))))
 
 pub take-division-spec : {M : Type 1} → statement M
 take-division-spec =

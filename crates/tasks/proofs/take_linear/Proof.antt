@@ -42,7 +42,8 @@ returns-2 c sizes set seen =
     let v = t1 .before .before .before in
     let s = v .before .before .before .before in
     c .refuse2 .ensures sizes set seen
-    ∙ stops (limitsOf (s .args .l)) (stateOf (s .args .p) sizes set seen) (sym (v .before .before .read-linear .ensures) ∙ v .target .given .1) 0 (le-leb _ _ (t1 .if1 .taken))
+    ∙ stops (limitsOf (s .args .l)) (stateOf (s .args .p) sizes set seen) (sym (v .before .before .read-linear .ensures) ∙ v .target .given .1) 0
+    (le-leb _ _ (t1 .if1 .taken))
 
 is-outside-requires : tie.Need-is-outside-requires
 is-outside-requires c κs = search needs
@@ -58,7 +59,8 @@ returns-3 c sizes set seen =
     let v = t1 .before .before .before in
     let s = v .before .before .before .before in
     c .refuse3 .ensures sizes set seen
-    ∙ stops (limitsOf (s .args .l)) (stateOf (s .args .p) sizes set seen) (sym (v .before .before .read-linear .ensures) ∙ v .target .given .1) 1 (lt-leb _ _ (t1 .if1 .left), told (t2 .before .is-outside .ensures) (t2 .if2 .taken))
+    ∙ stops (limitsOf (s .args .l)) (stateOf (s .args .p) sizes set seen) (sym (v .before .before .read-linear .ensures) ∙ v .target .given .1) 1
+    (lt-leb _ _ (t1 .if1 .left), told (t2 .before .is-outside .ensures) (t2 .if2 .taken))
 
 refuse-requires-4 : tie.Need-refuse-requires-4
 refuse-requires-4 c κs = search needs
@@ -72,7 +74,8 @@ returns-4 c sizes set seen =
     let v = t1 .before .before .before in
     let s = v .before .before .before .before in
     c .refuse4 .ensures sizes set seen
-    ∙ stops (limitsOf (s .args .l)) (stateOf (s .args .p) sizes set seen) (sym (v .before .before .read-linear .ensures) ∙ v .target .given .1) 2 (lt-leb _ _ (t1 .if1 .left), (told (t2 .before .is-outside .ensures) (t2 .if2 .left), le-leb _ _ (t3 .if3 .taken)))
+    ∙ stops (limitsOf (s .args .l)) (stateOf (s .args .p) sizes set seen) (sym (v .before .before .read-linear .ensures) ∙ v .target .given .1) 2
+    (lt-leb _ _ (t1 .if1 .left), (told (t2 .before .is-outside .ensures) (t2 .if2 .left), le-leb _ _ (t3 .if3 .taken)))
 
 add-q : tie.Need-add-q
 add-q c = search needs
@@ -89,7 +92,8 @@ returns-5 c sizes set seen =
     let v = t1 .before .before .before in
     let s = v .before .before .before .before in
     c .go-on .ensures sizes set seen
-    ∙ goes (limitsOf (s .args .l)) (stateOf (s .args .p) sizes set seen) (sym (v .before .before .read-linear .ensures) ∙ v .target .given .1) (lt-leb _ _ (t1 .if1 .left), (told (t2 .before .is-outside .ensures) (t2 .if2 .left), (lt-leb _ _ (t3 .if3 .left), tt)))
+    ∙ goes (limitsOf (s .args .l)) (stateOf (s .args .p) sizes set seen) (sym (v .before .before .read-linear .ensures) ∙ v .target .given .1)
+    (lt-leb _ _ (t1 .if1 .left), (told (t2 .before .is-outside .ensures) (t2 .if2 .left), (lt-leb _ _ (t3 .if3 .left), tt)))
 
 pub take-linear-spec : {M : Type 1} → statement M
 take-linear-spec =

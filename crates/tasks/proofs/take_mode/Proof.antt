@@ -38,7 +38,8 @@ returns-2 c set seen =
     let v = t1 .before .before .before .before in
     let s = v .before .before .before .before in
     c .refuse2 .ensures (now (s .args .sizes)) set seen
-    ∙ stops (limitsOf (s .args .l)) (stateOf (s .args .p) (now (s .args .sizes)) set seen) (sym (v .before .before .read-mode .ensures) ∙ v .size .given .1) 0 (le-leb _ _ (t1 .if1 .taken))
+    ∙ stops (limitsOf (s .args .l)) (stateOf (s .args .p) (now (s .args .sizes)) set seen) (sym (v .before .before .read-mode .ensures) ∙ v .size .given .1) 0
+    (le-leb _ _ (t1 .if1 .taken))
 
 refuse-requires-3 : tie.Need-refuse-requires-3
 refuse-requires-3 c κs = search needs
@@ -51,7 +52,8 @@ returns-3 c set seen =
     let v = t1 .before .before .before .before in
     let s = v .before .before .before .before in
     c .refuse3 .ensures (now (s .args .sizes)) set seen
-    ∙ stops (limitsOf (s .args .l)) (stateOf (s .args .p) (now (s .args .sizes)) set seen) (sym (v .before .before .read-mode .ensures) ∙ v .size .given .1) 1 (lt-leb _ _ (t1 .if1 .left), le-leb _ _ (t2 .if2 .taken))
+    ∙ stops (limitsOf (s .args .l)) (stateOf (s .args .p) (now (s .args .sizes)) set seen) (sym (v .before .before .read-mode .ensures) ∙ v .size .given .1) 1
+    (lt-leb _ _ (t1 .if1 .left), le-leb _ _ (t2 .if2 .taken))
 
 cast-if3 : tie.Need-cast-if3
 cast-if3 c = search needs
@@ -68,7 +70,8 @@ returns-4 c set seen =
     let v = t1 .before .before .before .before in
     let s = v .before .before .before .before in
     c .refuse4 .ensures (now (s .args .sizes)) set seen
-    ∙ stops (limitsOf (s .args .l)) (stateOf (s .args .p) (now (s .args .sizes)) set seen) (sym (v .before .before .read-mode .ensures) ∙ v .size .given .1) 2 (lt-leb _ _ (t1 .if1 .left), (lt-leb _ _ (t2 .if2 .left), lt-ltb _ _ (t3 .if3 .taken)))
+    ∙ stops (limitsOf (s .args .l)) (stateOf (s .args .p) (now (s .args .sizes)) set seen) (sym (v .before .before .read-mode .ensures) ∙ v .size .given .1) 2
+    (lt-leb _ _ (t1 .if1 .left), (lt-leb _ _ (t2 .if2 .left), lt-ltb _ _ (t3 .if3 .taken)))
 
 cast-put-size : tie.Need-cast-put-size
 cast-put-size c = search needs
@@ -91,7 +94,8 @@ returns-5 c set seen =
     let v = t1 .before .before .before .before in
     let s = v .before .before .before .before in
     rw (c .before .before .put-size .ensures) (c .go-on .ensures _ set seen
-    ∙ goes (limitsOf (s .args .l)) (stateOf (s .args .p) (now (s .args .sizes)) set seen) (sym (v .before .before .read-mode .ensures) ∙ v .size .given .1) (lt-leb _ _ (t1 .if1 .left), (lt-leb _ _ (t2 .if2 .left), (le-ltb _ _ (t3 .if3 .left), tt))))
+    ∙ goes (limitsOf (s .args .l)) (stateOf (s .args .p) (now (s .args .sizes)) set seen) (sym (v .before .before .read-mode .ensures) ∙ v .size .given .1)
+    (lt-leb _ _ (t1 .if1 .left), (lt-leb _ _ (t2 .if2 .left), (le-ltb _ _ (t3 .if3 .left), tt))))
 
 pub take-mode-spec : {M : Type 1} → statement M
 take-mode-spec =

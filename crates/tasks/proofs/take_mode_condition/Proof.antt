@@ -39,7 +39,8 @@ returns-2 c set seen =
     let v = t1 .before .before .before .before in
     let s = v .before .before .before .before in
     c .refuse2 .ensures (now (s .args .sizes)) set seen
-    ∙ stops (limitsOf (s .args .l)) (stateOf (s .args .p) (now (s .args .sizes)) set seen) (sym (v .before .before .read-mode-condition .ensures) ∙ v .mode .given .1) 0 (le-leb _ _ (t1 .if1 .taken))
+    ∙ stops (limitsOf (s .args .l)) (stateOf (s .args .p) (now (s .args .sizes)) set seen) (sym (v .before .before .read-mode-condition .ensures) ∙ v .mode .given .1) 0
+    (le-leb _ _ (t1 .if1 .taken))
 
 cast-if2 : tie.Need-cast-if2
 cast-if2 c = search needs
@@ -55,7 +56,8 @@ returns-3 c set seen =
     let v = t1 .before .before .before .before in
     let s = v .before .before .before .before in
     c .refuse3 .ensures (now (s .args .sizes)) set seen
-    ∙ stops (limitsOf (s .args .l)) (stateOf (s .args .p) (now (s .args .sizes)) set seen) (sym (v .before .before .read-mode-condition .ensures) ∙ v .mode .given .1) 1 (lt-leb _ _ (t1 .if1 .left), le-leb _ _ (t2 .if2 .taken))
+    ∙ stops (limitsOf (s .args .l)) (stateOf (s .args .p) (now (s .args .sizes)) set seen) (sym (v .before .before .read-mode-condition .ensures) ∙ v .mode .given .1) 1
+    (lt-leb _ _ (t1 .if1 .left), le-leb _ _ (t2 .if2 .taken))
 
 cast-not-below-size : tie.Need-cast-not-below-size
 cast-not-below-size c = search needs
@@ -75,7 +77,8 @@ returns-4 c set seen =
     let v = t1 .before .before .before .before in
     let s = v .before .before .before .before in
     c .refuse4 .ensures (now (s .args .sizes)) set seen
-    ∙ stops (limitsOf (s .args .l)) (stateOf (s .args .p) (now (s .args .sizes)) set seen) (sym (v .before .before .read-mode-condition .ensures) ∙ v .mode .given .1) 2 (lt-leb _ _ (t1 .if1 .left), (lt-leb _ _ (t2 .if2 .left), told (t3 .before .not-below-size .ensures) (t3 .if3 .taken)))
+    ∙ stops (limitsOf (s .args .l)) (stateOf (s .args .p) (now (s .args .sizes)) set seen) (sym (v .before .before .read-mode-condition .ensures) ∙ v .mode .given .1) 2
+    (lt-leb _ _ (t1 .if1 .left), (lt-leb _ _ (t2 .if2 .left), told (t3 .before .not-below-size .ensures) (t3 .if3 .taken)))
 
 add-q : tie.Need-add-q
 add-q c = search needs
@@ -92,7 +95,8 @@ returns-5 c set seen =
     let v = t1 .before .before .before .before in
     let s = v .before .before .before .before in
     c .go-on .ensures (now (s .args .sizes)) set seen
-    ∙ goes (limitsOf (s .args .l)) (stateOf (s .args .p) (now (s .args .sizes)) set seen) (sym (v .before .before .read-mode-condition .ensures) ∙ v .mode .given .1) (lt-leb _ _ (t1 .if1 .left), (lt-leb _ _ (t2 .if2 .left), (told (t3 .before .not-below-size .ensures) (t3 .if3 .left), tt)))
+    ∙ goes (limitsOf (s .args .l)) (stateOf (s .args .p) (now (s .args .sizes)) set seen) (sym (v .before .before .read-mode-condition .ensures) ∙ v .mode .given .1)
+    (lt-leb _ _ (t1 .if1 .left), (lt-leb _ _ (t2 .if2 .left), (told (t3 .before .not-below-size .ensures) (t3 .if3 .left), tt)))
 
 pub take-mode-condition-spec : {M : Type 1} → statement M
 take-mode-condition-spec =

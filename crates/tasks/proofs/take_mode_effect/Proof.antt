@@ -42,7 +42,8 @@ returns-2 c seen =
     let v = t1 .before .before .before in
     let s = v .before .before .before .before in
     c .refuse2 .ensures (now (s .args .sizes)) (now (s .args .modes-set)) seen
-    ∙ stops (limitsOf (s .args .l)) (stateOf (s .args .p) (now (s .args .sizes)) (now (s .args .modes-set)) seen) (sym (v .before .before .read-mode-effect .ensures) ∙ v .mode .given .1) 0 (le-leb _ _ (t1 .if1 .taken))
+    ∙ stops (limitsOf (s .args .l)) (stateOf (s .args .p) (now (s .args .sizes)) (now (s .args .modes-set)) seen) (sym (v .before .before .read-mode-effect .ensures) ∙ v .mode .given .1) 0
+    (le-leb _ _ (t1 .if1 .taken))
 
 cast-not-below-size : tie.Need-cast-not-below-size
 cast-not-below-size c = search needs
@@ -61,7 +62,8 @@ returns-3 c seen =
     let v = t1 .before .before .before in
     let s = v .before .before .before .before in
     c .refuse3 .ensures (now (s .args .sizes)) (now (s .args .modes-set)) seen
-    ∙ stops (limitsOf (s .args .l)) (stateOf (s .args .p) (now (s .args .sizes)) (now (s .args .modes-set)) seen) (sym (v .before .before .read-mode-effect .ensures) ∙ v .mode .given .1) 1 (lt-leb _ _ (t1 .if1 .left), told (t2 .before .not-below-size .ensures) (t2 .if2 .taken))
+    ∙ stops (limitsOf (s .args .l)) (stateOf (s .args .p) (now (s .args .sizes)) (now (s .args .modes-set)) seen) (sym (v .before .before .read-mode-effect .ensures) ∙ v .mode .given .1) 1
+    (lt-leb _ _ (t1 .if1 .left), told (t2 .before .not-below-size .ensures) (t2 .if2 .taken))
 
 cast-is-marked : tie.Need-cast-is-marked
 cast-is-marked c = search needs
@@ -81,7 +83,8 @@ returns-4 c seen =
     let v = t1 .before .before .before in
     let s = v .before .before .before .before in
     c .refuse4 .ensures (now (s .args .sizes)) (now (s .args .modes-set)) seen
-    ∙ stops (limitsOf (s .args .l)) (stateOf (s .args .p) (now (s .args .sizes)) (now (s .args .modes-set)) seen) (sym (v .before .before .read-mode-effect .ensures) ∙ v .mode .given .1) 2 (lt-leb _ _ (t1 .if1 .left), (told (t2 .before .not-below-size .ensures) (t2 .if2 .left), told (t3 .before .is-marked .ensures) (t3 .if3 .taken)))
+    ∙ stops (limitsOf (s .args .l)) (stateOf (s .args .p) (now (s .args .sizes)) (now (s .args .modes-set)) seen) (sym (v .before .before .read-mode-effect .ensures) ∙ v .mode .given .1) 2
+    (lt-leb _ _ (t1 .if1 .left), (told (t2 .before .not-below-size .ensures) (t2 .if2 .left), told (t3 .before .is-marked .ensures) (t3 .if3 .taken)))
 
 cast-put-mark : tie.Need-cast-put-mark
 cast-put-mark c = search needs
@@ -101,7 +104,8 @@ returns-5 c seen =
     let v = t1 .before .before .before in
     let s = v .before .before .before .before in
     rw (c .before .put-mark .ensures) (c .go-on .ensures (now (s .args .sizes)) _ seen
-    ∙ goes (limitsOf (s .args .l)) (stateOf (s .args .p) (now (s .args .sizes)) (now (s .args .modes-set)) seen) (sym (v .before .before .read-mode-effect .ensures) ∙ v .mode .given .1) (lt-leb _ _ (t1 .if1 .left), (told (t2 .before .not-below-size .ensures) (t2 .if2 .left), (told (t3 .before .is-marked .ensures) (t3 .if3 .left), tt))))
+    ∙ goes (limitsOf (s .args .l)) (stateOf (s .args .p) (now (s .args .sizes)) (now (s .args .modes-set)) seen) (sym (v .before .before .read-mode-effect .ensures) ∙ v .mode .given .1)
+    (lt-leb _ _ (t1 .if1 .left), (told (t2 .before .not-below-size .ensures) (t2 .if2 .left), (told (t3 .before .is-marked .ensures) (t3 .if3 .left), tt))))
 
 pub take-mode-effect-spec : {M : Type 1} → statement M
 take-mode-effect-spec =

@@ -1,12 +1,12 @@
 -- `tasks::take_residue` meets its contract: the command is cut short, or the tests that Q and R share decide. Assumes nothing.
-use mathlib.Core.Path.{refl, sym, ap, _∙_}
+use mathlib.Core.Path.{refl, sym, _∙_}
 use denote.Ref.{now}
 use lib.Dec.{lit<}
 use borrow.Author.Needs.{needs}
 use Rattle.commands.proofs.Known.{cut-short}
-use Rattle.model.specs.Rules.{testsOf, nextOf, ruleOf}
+use Rattle.model.specs.Rules.{testsOf, nextOf}
 use Rattle.tasks.specs.Views.{limitsOf, stateOf}
-use Rattle.tasks.proofs.Taking.{stops}
+use Rattle.tasks.proofs.Taking.{stops, reads}
 use Rattle.tasks.proofs.take_residue.Statement.{statement}
 use Rattle.tasks.proofs.take_residue.Tie as tie
 
@@ -35,7 +35,7 @@ unfolding testsOf nextOf
 returns-2 c sizes set seen =
     let v = c .before .before in
     let s = v .before .before .before .before in
-    c .take-division .ensures sizes set seen ∙ ap (ruleOf (limitsOf (s .args .l)) (stateOf (s .args .p) sizes set seen)) (sym (v .target .given .1) ∙ v .before .before .read-residue .ensures)
+    reads (limitsOf (s .args .l)) (stateOf (s .args .p) sizes set seen) (sym (v .before .before .read-residue .ensures) ∙ v .target .given .1) (c .take-division .ensures sizes set seen)
 
 pub take-residue-spec : {M : Type 1} → statement M
 take-residue-spec =

@@ -39,7 +39,8 @@ returns-2 c sizes set seen =
     let v = t1 .before .before .before .before in
     let s = v .before .before .before .before in
     c .refuse2 .ensures sizes set seen
-    ∙ stops (limitsOf (s .args .l)) (stateOf (s .args .p) sizes set seen) (sym (v .before .before .read-start .ensures) ∙ v .start .given .1) 0 (le-leb _ _ (t1 .if1 .taken))
+    ∙ stops (limitsOf (s .args .l)) (stateOf (s .args .p) sizes set seen) (sym (v .before .before .read-start .ensures) ∙ v .start .given .1) 0
+    (le-leb _ _ (t1 .if1 .taken))
 
 is-outside-requires : tie.Need-is-outside-requires
 is-outside-requires c κs = search needs
@@ -55,7 +56,8 @@ returns-3 c sizes set seen =
     let v = t1 .before .before .before .before in
     let s = v .before .before .before .before in
     c .refuse3 .ensures sizes set seen
-    ∙ stops (limitsOf (s .args .l)) (stateOf (s .args .p) sizes set seen) (sym (v .before .before .read-start .ensures) ∙ v .start .given .1) 1 (lt-leb _ _ (t1 .if1 .left), told (t2 .before .is-outside .ensures) (t2 .if2 .taken))
+    ∙ stops (limitsOf (s .args .l)) (stateOf (s .args .p) sizes set seen) (sym (v .before .before .read-start .ensures) ∙ v .start .given .1) 1
+    (lt-leb _ _ (t1 .if1 .left), told (t2 .before .is-outside .ensures) (t2 .if2 .taken))
 
 add-q : tie.Need-add-q
 add-q c = search needs
@@ -71,7 +73,8 @@ returns-4 c sizes set seen =
     let v = t1 .before .before .before .before in
     let s = v .before .before .before .before in
     c .go-on .ensures sizes set seen
-    ∙ goes (limitsOf (s .args .l)) (stateOf (s .args .p) sizes set seen) (sym (v .before .before .read-start .ensures) ∙ v .start .given .1) (lt-leb _ _ (t1 .if1 .left), (told (t2 .before .is-outside .ensures) (t2 .if2 .left), tt))
+    ∙ goes (limitsOf (s .args .l)) (stateOf (s .args .p) sizes set seen) (sym (v .before .before .read-start .ensures) ∙ v .start .given .1)
+    (lt-leb _ _ (t1 .if1 .left), (told (t2 .before .is-outside .ensures) (t2 .if2 .left), tt))
 
 pub take-start-spec : {M : Type 1} → statement M
 take-start-spec =

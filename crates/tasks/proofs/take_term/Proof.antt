@@ -44,7 +44,8 @@ returns-2 c sizes set =
     let v = t1 .before .before .before .before in
     let s = v .before .before .before .before in
     c .refuse2 .ensures sizes set (now (s .args .variables-seen))
-    ∙ stops (limitsOf (s .args .l)) (stateOf (s .args .p) sizes set (now (s .args .variables-seen))) (sym (v .before .before .read-term .ensures) ∙ v .variable .given .1) 0 (lt-ltb _ _ (t1 .if1 .taken))
+    ∙ stops (limitsOf (s .args .l)) (stateOf (s .args .p) sizes set (now (s .args .variables-seen))) (sym (v .before .before .read-term .ensures) ∙ v .variable .given .1) 0
+    (lt-ltb _ _ (t1 .if1 .taken))
 
 cast-if2 : tie.Need-cast-if2
 cast-if2 c = search needs
@@ -60,7 +61,8 @@ returns-3 c sizes set =
     let v = t1 .before .before .before .before in
     let s = v .before .before .before .before in
     c .refuse3 .ensures sizes set (now (s .args .variables-seen))
-    ∙ stops (limitsOf (s .args .l)) (stateOf (s .args .p) sizes set (now (s .args .variables-seen))) (sym (v .before .before .read-term .ensures) ∙ v .variable .given .1) 1 (le-ltb _ _ (t1 .if1 .left), le-leb _ _ (t2 .if2 .taken))
+    ∙ stops (limitsOf (s .args .l)) (stateOf (s .args .p) sizes set (now (s .args .variables-seen))) (sym (v .before .before .read-term .ensures) ∙ v .variable .given .1) 1
+    (le-ltb _ _ (t1 .if1 .left), le-leb _ _ (t2 .if2 .taken))
 
 is-zero-requires : tie.Need-is-zero-requires
 is-zero-requires c κs = search needs
@@ -77,7 +79,8 @@ returns-4 c sizes set =
     let v = t1 .before .before .before .before in
     let s = v .before .before .before .before in
     c .refuse4 .ensures sizes set (now (s .args .variables-seen))
-    ∙ stops (limitsOf (s .args .l)) (stateOf (s .args .p) sizes set (now (s .args .variables-seen))) (sym (v .before .before .read-term .ensures) ∙ v .variable .given .1) 2 (le-ltb _ _ (t1 .if1 .left), (lt-leb _ _ (t2 .if2 .left), told (t3 .before .is-zero .ensures) (t3 .if3 .taken)))
+    ∙ stops (limitsOf (s .args .l)) (stateOf (s .args .p) sizes set (now (s .args .variables-seen))) (sym (v .before .before .read-term .ensures) ∙ v .variable .given .1) 2
+    (le-ltb _ _ (t1 .if1 .left), (lt-leb _ _ (t2 .if2 .left), told (t3 .before .is-zero .ensures) (t3 .if3 .taken)))
 
 is-outside-requires : tie.Need-is-outside-requires
 is-outside-requires c κs = search needs
@@ -95,7 +98,8 @@ returns-5 c sizes set =
     let v = t1 .before .before .before .before in
     let s = v .before .before .before .before in
     c .refuse5 .ensures sizes set (now (s .args .variables-seen))
-    ∙ stops (limitsOf (s .args .l)) (stateOf (s .args .p) sizes set (now (s .args .variables-seen))) (sym (v .before .before .read-term .ensures) ∙ v .variable .given .1) 3 (le-ltb _ _ (t1 .if1 .left), (lt-leb _ _ (t2 .if2 .left), (told (t3 .before .is-zero .ensures) (t3 .if3 .left), told (t4 .before .is-outside .ensures) (t4 .if4 .taken))))
+    ∙ stops (limitsOf (s .args .l)) (stateOf (s .args .p) sizes set (now (s .args .variables-seen))) (sym (v .before .before .read-term .ensures) ∙ v .variable .given .1) 3
+    (le-ltb _ _ (t1 .if1 .left), (lt-leb _ _ (t2 .if2 .left), (told (t3 .before .is-zero .ensures) (t3 .if3 .left), told (t4 .before .is-outside .ensures) (t4 .if4 .taken))))
 
 cast-is-marked : tie.Need-cast-is-marked
 cast-is-marked c = search needs
@@ -117,7 +121,8 @@ returns-6 c sizes set =
     let v = t1 .before .before .before .before in
     let s = v .before .before .before .before in
     c .refuse6 .ensures sizes set (now (s .args .variables-seen))
-    ∙ stops (limitsOf (s .args .l)) (stateOf (s .args .p) sizes set (now (s .args .variables-seen))) (sym (v .before .before .read-term .ensures) ∙ v .variable .given .1) 4 (le-ltb _ _ (t1 .if1 .left), (lt-leb _ _ (t2 .if2 .left), (told (t3 .before .is-zero .ensures) (t3 .if3 .left), (told (t4 .before .is-outside .ensures) (t4 .if4 .left), told (t5 .before .is-marked .ensures) (t5 .if5 .taken)))))
+    ∙ stops (limitsOf (s .args .l)) (stateOf (s .args .p) sizes set (now (s .args .variables-seen))) (sym (v .before .before .read-term .ensures) ∙ v .variable .given .1) 4
+    (le-ltb _ _ (t1 .if1 .left), (lt-leb _ _ (t2 .if2 .left), (told (t3 .before .is-zero .ensures) (t3 .if3 .left), (told (t4 .before .is-outside .ensures) (t4 .if4 .left), told (t5 .before .is-marked .ensures) (t5 .if5 .taken)))))
 
 cast-put-mark : tie.Need-cast-put-mark
 cast-put-mark c = search needs
@@ -125,6 +130,7 @@ cast-put-mark c = search needs
 put-mark-requires : tie.Need-put-mark-requires
 put-mark-requires c κs = search needs
 
+-- a limit is a number of 32 bits
 terms-fit : (s : tie.Start) → s .args .l .terms < 2 ^ 32
 terms-fit s = search needs
 
@@ -149,7 +155,8 @@ returns-7 c sizes set =
     let v = t1 .before .before .before .before in
     let s = v .before .before .before .before in
     rw (c .before .before .put-mark .ensures) (c .go-on .ensures sizes set _
-    ∙ goes (limitsOf (s .args .l)) (stateOf (s .args .p) sizes set (now (s .args .variables-seen))) (sym (v .before .before .read-term .ensures) ∙ v .variable .given .1) (le-ltb _ _ (t1 .if1 .left), (lt-leb _ _ (t2 .if2 .left), (told (t3 .before .is-zero .ensures) (t3 .if3 .left), (told (t4 .before .is-outside .ensures) (t4 .if4 .left), (told (t5 .before .is-marked .ensures) (t5 .if5 .left), tt))))))
+    ∙ goes (limitsOf (s .args .l)) (stateOf (s .args .p) sizes set (now (s .args .variables-seen))) (sym (v .before .before .read-term .ensures) ∙ v .variable .given .1)
+    (le-ltb _ _ (t1 .if1 .left), (lt-leb _ _ (t2 .if2 .left), (told (t3 .before .is-zero .ensures) (t3 .if3 .left), (told (t4 .before .is-outside .ensures) (t4 .if4 .left), (told (t5 .before .is-marked .ensures) (t5 .if5 .left), tt))))))
 
 pub take-term-spec : {M : Type 1} → statement M
 take-term-spec =

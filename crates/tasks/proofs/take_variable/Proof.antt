@@ -39,7 +39,8 @@ returns-2 c sizes set seen =
     let v = t1 .before .before .before .before in
     let s = v .before .before .before .before in
     c .refuse2 .ensures sizes set seen
-    ∙ stops (limitsOf (s .args .l)) (stateOf (s .args .p) sizes set seen) (sym (v .before .before .read-variable .ensures) ∙ v .lower .given .1) 0 (le-leb _ _ (t1 .if1 .taken))
+    ∙ stops (limitsOf (s .args .l)) (stateOf (s .args .p) sizes set seen) (sym (v .before .before .read-variable .ensures) ∙ v .lower .given .1) 0
+    (le-leb _ _ (t1 .if1 .taken))
 
 is-outside-requires : tie.Need-is-outside-requires
 is-outside-requires c κs = search needs
@@ -55,7 +56,8 @@ returns-3 c sizes set seen =
     let v = t1 .before .before .before .before in
     let s = v .before .before .before .before in
     c .refuse3 .ensures sizes set seen
-    ∙ stops (limitsOf (s .args .l)) (stateOf (s .args .p) sizes set seen) (sym (v .before .before .read-variable .ensures) ∙ v .lower .given .1) 1 (lt-leb _ _ (t1 .if1 .left), told (t2 .before .is-outside .ensures) (t2 .if2 .taken))
+    ∙ stops (limitsOf (s .args .l)) (stateOf (s .args .p) sizes set seen) (sym (v .before .before .read-variable .ensures) ∙ v .lower .given .1) 1
+    (lt-leb _ _ (t1 .if1 .left), told (t2 .before .is-outside .ensures) (t2 .if2 .taken))
 
 is-outside-requires-2 : tie.Need-is-outside-requires-2
 is-outside-requires-2 c κs = search needs
@@ -72,7 +74,8 @@ returns-4 c sizes set seen =
     let v = t1 .before .before .before .before in
     let s = v .before .before .before .before in
     c .refuse4 .ensures sizes set seen
-    ∙ stops (limitsOf (s .args .l)) (stateOf (s .args .p) sizes set seen) (sym (v .before .before .read-variable .ensures) ∙ v .lower .given .1) 2 (lt-leb _ _ (t1 .if1 .left), (told (t2 .before .is-outside .ensures) (t2 .if2 .left), told (t3 .before .is-outside2 .ensures) (t3 .if3 .taken)))
+    ∙ stops (limitsOf (s .args .l)) (stateOf (s .args .p) sizes set seen) (sym (v .before .before .read-variable .ensures) ∙ v .lower .given .1) 2
+    (lt-leb _ _ (t1 .if1 .left), (told (t2 .before .is-outside .ensures) (t2 .if2 .left), told (t3 .before .is-outside2 .ensures) (t3 .if3 .taken)))
 
 bits-at-most-requires : tie.Need-bits-at-most-requires
 bits-at-most-requires c κs = search needs
@@ -90,7 +93,8 @@ returns-5 c sizes set seen =
     let v = t1 .before .before .before .before in
     let s = v .before .before .before .before in
     c .refuse5 .ensures sizes set seen
-    ∙ stops (limitsOf (s .args .l)) (stateOf (s .args .p) sizes set seen) (sym (v .before .before .read-variable .ensures) ∙ v .lower .given .1) 3 (lt-leb _ _ (t1 .if1 .left), (told (t2 .before .is-outside .ensures) (t2 .if2 .left), (told (t3 .before .is-outside2 .ensures) (t3 .if3 .left), not-told (t4 .before .bits-at-most .ensures) (t4 .if4 .taken))))
+    ∙ stops (limitsOf (s .args .l)) (stateOf (s .args .p) sizes set seen) (sym (v .before .before .read-variable .ensures) ∙ v .lower .given .1) 3
+    (lt-leb _ _ (t1 .if1 .left), (told (t2 .before .is-outside .ensures) (t2 .if2 .left), (told (t3 .before .is-outside2 .ensures) (t3 .if3 .left), not-told (t4 .before .bits-at-most .ensures) (t4 .if4 .taken))))
 
 bits-at-most-requires-2 : tie.Need-bits-at-most-requires-2
 bits-at-most-requires-2 c κs = search needs
@@ -109,7 +113,8 @@ returns-6 c sizes set seen =
     let v = t1 .before .before .before .before in
     let s = v .before .before .before .before in
     c .refuse6 .ensures sizes set seen
-    ∙ stops (limitsOf (s .args .l)) (stateOf (s .args .p) sizes set seen) (sym (v .before .before .read-variable .ensures) ∙ v .lower .given .1) 4 (lt-leb _ _ (t1 .if1 .left), (told (t2 .before .is-outside .ensures) (t2 .if2 .left), (told (t3 .before .is-outside2 .ensures) (t3 .if3 .left), (not-told (t4 .before .bits-at-most .ensures) (t4 .if4 .left), not-told (t5 .before .bits-at-most2 .ensures) (t5 .if5 .taken)))))
+    ∙ stops (limitsOf (s .args .l)) (stateOf (s .args .p) sizes set seen) (sym (v .before .before .read-variable .ensures) ∙ v .lower .given .1) 4
+    (lt-leb _ _ (t1 .if1 .left), (told (t2 .before .is-outside .ensures) (t2 .if2 .left), (told (t3 .before .is-outside2 .ensures) (t3 .if3 .left), (not-told (t4 .before .bits-at-most .ensures) (t4 .if4 .left), not-told (t5 .before .bits-at-most2 .ensures) (t5 .if5 .taken)))))
 
 bits-at-most-requires-3 : tie.Need-bits-at-most-requires-3
 bits-at-most-requires-3 c κs = search needs
@@ -129,7 +134,8 @@ returns-7 c sizes set seen =
     let v = t1 .before .before .before .before in
     let s = v .before .before .before .before in
     c .refuse7 .ensures sizes set seen
-    ∙ stops (limitsOf (s .args .l)) (stateOf (s .args .p) sizes set seen) (sym (v .before .before .read-variable .ensures) ∙ v .lower .given .1) 5 (lt-leb _ _ (t1 .if1 .left), (told (t2 .before .is-outside .ensures) (t2 .if2 .left), (told (t3 .before .is-outside2 .ensures) (t3 .if3 .left), (not-told (t4 .before .bits-at-most .ensures) (t4 .if4 .left), (not-told (t5 .before .bits-at-most2 .ensures) (t5 .if5 .left), not-told (t6 .before .bits-at-most3 .ensures) (t6 .if6 .taken))))))
+    ∙ stops (limitsOf (s .args .l)) (stateOf (s .args .p) sizes set seen) (sym (v .before .before .read-variable .ensures) ∙ v .lower .given .1) 5
+    (lt-leb _ _ (t1 .if1 .left), (told (t2 .before .is-outside .ensures) (t2 .if2 .left), (told (t3 .before .is-outside2 .ensures) (t3 .if3 .left), (not-told (t4 .before .bits-at-most .ensures) (t4 .if4 .left), (not-told (t5 .before .bits-at-most2 .ensures) (t5 .if5 .left), not-told (t6 .before .bits-at-most3 .ensures) (t6 .if6 .taken))))))
 
 add-q : tie.Need-add-q
 add-q c = search needs
@@ -149,7 +155,8 @@ returns-8 c sizes set seen =
     let v = t1 .before .before .before .before in
     let s = v .before .before .before .before in
     c .go-on .ensures sizes set seen
-    ∙ goes (limitsOf (s .args .l)) (stateOf (s .args .p) sizes set seen) (sym (v .before .before .read-variable .ensures) ∙ v .lower .given .1) (lt-leb _ _ (t1 .if1 .left), (told (t2 .before .is-outside .ensures) (t2 .if2 .left), (told (t3 .before .is-outside2 .ensures) (t3 .if3 .left), (not-told (t4 .before .bits-at-most .ensures) (t4 .if4 .left), (not-told (t5 .before .bits-at-most2 .ensures) (t5 .if5 .left), (not-told (t6 .before .bits-at-most3 .ensures) (t6 .if6 .left), tt))))))
+    ∙ goes (limitsOf (s .args .l)) (stateOf (s .args .p) sizes set seen) (sym (v .before .before .read-variable .ensures) ∙ v .lower .given .1)
+    (lt-leb _ _ (t1 .if1 .left), (told (t2 .before .is-outside .ensures) (t2 .if2 .left), (told (t3 .before .is-outside2 .ensures) (t3 .if3 .left), (not-told (t4 .before .bits-at-most .ensures) (t4 .if4 .left), (not-told (t5 .before .bits-at-most2 .ensures) (t5 .if5 .left), (not-told (t6 .before .bits-at-most3 .ensures) (t6 .if6 .left), tt))))))
 
 pub take-variable-spec : {M : Type 1} → statement M
 take-variable-spec =
