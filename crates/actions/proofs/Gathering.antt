@@ -14,14 +14,14 @@ use mathlib.Core.Logic.{_⊎_, inl, inr}
 use types.Run.{OneOf}
 use Rattle.commands.specs.Table.{rows, rowAt, rowOf, sizeOfRow, sizeOfByte, letterA, letterC, letterP, letterE, letterG, plusSign}
 use Rattle.commands.specs.Reading.{commandAt, readRow}
-use Rattle.commands.specs.Encoding.{byteOf}
+use Rattle.commands.specs.Encoding.{NoRefusal, byteOf}
 use Rattle.commands.specs.declared.Command.{Command}
 use Rattle.commands.specs.declared.Command.the-variants.{Variable, Start, Mode, Action, Condition, ModeCondition, ModeEffect, Add, Linear, Term, Quotient, Residue, Goal, End, Refused}
 use Rattle.commands.proofs.Known.{read-as, whole-as}
 use Rattle.model.specs.Tasks.{NumericCondition, Effect}
 use Rattle.model.specs.Decoding.{Part, emptyPart, Draft, blank, inFront, before, beforeAll}
 use Rattle.model.specs.ActionBytes.{commandsIn, decodeAction}
-use Rattle.model.proofs.AcceptedTrail.{Known, code-at}
+use Rattle.commands.proofs.Encoding.{byte-read}
 use Rattle.actions.specs.Kept.{givenBy}
 use Rattle.actions.specs.Places.{bodyStart}
 
@@ -141,7 +141,7 @@ module _ (s : List ℕ) (some : 0 < length s) where
 
 -- any other byte
 module _ (b : ℕ) (noC : b ≡ letterC → ⊥) (noP : b ≡ letterP → ⊥) (noE : b ≡ letterE → ⊥) (noA : b ≡ letterA → ⊥) (noG : b ≡ letterG → ⊥) where
-  other-gives : (c : Command) → (Known c → byteOf c ≡ b) → Gives c [] [] [] (λ p. numbersOf (inFront c p))
+  other-gives : (c : Command) → (NoRefusal c → byteOf c ≡ b) → Gives c [] [] [] (λ p. numbersOf (inFront c p))
   other-gives (Variable x y w) h = record { conditions = λ d. refl; modeConditions = λ d. refl; modeEffects = λ d. refl; numeric = λ d. refl }
   other-gives (Start x) h = record { conditions = λ d. refl; modeConditions = λ d. refl; modeEffects = λ d. refl; numeric = λ d. refl }
   other-gives (Mode x y) h = record { conditions = λ d. refl; modeConditions = λ d. refl; modeEffects = λ d. refl; numeric = λ d. refl }
@@ -159,7 +159,7 @@ module _ (b : ℕ) (noC : b ≡ letterC → ⊥) (noP : b ≡ letterP → ⊥) (
   other-gives (Refused n) h = record { conditions = λ d. refl; modeConditions = λ d. refl; modeEffects = λ d. refl; numeric = λ d. refl }
 
 -- no + by itself: the additions are those of what follows
-no-addition : (b : ℕ) → (b ≡ plusSign → ⊥) → (c : Command) → (Known c → byteOf c ≡ b) → (p : Part) → inFront c p .additions ≡ p .additions
+no-addition : (b : ℕ) → (b ≡ plusSign → ⊥) → (c : Command) → (NoRefusal c → byteOf c ≡ b) → (p : Part) → inFront c p .additions ≡ p .additions
 no-addition b other (Variable x y w) h p = refl
 no-addition b other (Start x) h p = refl
 no-addition b other (Mode x y) h p = refl
@@ -292,7 +292,7 @@ module _ {s : List ℕ} {at : ℕ} {Cs : List (NumericCondition ℕ) → Type 0}
 
     pub turn-other : (getD rest 0 0 ≡ letterC → ⊥) → (getD rest 0 0 ≡ letterP → ⊥) → (getD rest 0 0 ≡ letterE → ⊥) → (OneOf (letterA ∷ letterG ∷ []) (getD rest 0 0) → ⊥) → {Left′ : Numbers → Type 0}
         → ((p : Part) → Left (numbersOf (inFront (commandAt rest) p)) → Left′ (numbersOf p)) → Gathering s (at + size) Cs Ps Es Left′
-    turn-other noC noP noE noEdge f = turn (other-gives (getD rest 0 0) noC noP noE (λ b. noEdge (inl b)) (λ b. noEdge (inr b)) (commandAt rest) (code-at rest)) (stay Cs) (stay Ps) (stay Es) f
+    turn-other noC noP noE noEdge f = turn (other-gives (getD rest 0 0) noC noP noE (λ b. noEdge (inl b)) (λ b. noEdge (inr b)) (commandAt rest) (byte-read rest)) (stay Cs) (stay Ps) (stay Es) f
 
 -- ---- a restricted action: its additions are kept
 
@@ -313,4 +313,4 @@ module _ {s : List ℕ} {at : ℕ} {Cs : List (NumericCondition ℕ) → Type 0}
       (λ p n. gathered-more (givenBy (commandAt rest) .additions) f (addition-gives rest (omega (arith, ap length is, length-drop at s)) b p) n)
 
   pub turn-nothing : (getD rest 0 0 ≡ letterC → ⊥) → (getD rest 0 0 ≡ letterP → ⊥) → (getD rest 0 0 ≡ letterE → ⊥) → (getD rest 0 0 ≡ plusSign → ⊥) → (OneOf (letterA ∷ letterG ∷ []) (getD rest 0 0) → ⊥) → Gathering s (at + size) Cs Ps Es (AdditionsLeft As all)
-  turn-nothing noC noP noE noPlus noEdge = turn-other g h rest is size sized moves noC noP noE noEdge (λ p n. gathered-as (no-addition (getD rest 0 0) noPlus (commandAt rest) (code-at rest) p) n)
+  turn-nothing noC noP noE noPlus noEdge = turn-other g h rest is size sized moves noC noP noE noEdge (λ p n. gathered-as (no-addition (getD rest 0 0) noPlus (commandAt rest) (byte-read rest) p) n)

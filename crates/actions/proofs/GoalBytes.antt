@@ -15,7 +15,7 @@ use Rattle.integers.specs.Numbers.{Bytes}
 use Rattle.commands.specs.Table.{letterA, letterG, sizeOfByte}
 use Rattle.commands.specs.declared.Command.{Command}
 use Rattle.commands.specs.declared.Command.the-variants.{Variable, Start, Mode, Action, Condition, ModeCondition, ModeEffect, Add, Linear, Term, Quotient, Residue, Goal, End, Refused}
-use Rattle.commands.specs.Encoding.{byteOf, encode, encodeAll}
+use Rattle.commands.specs.Encoding.{Fits, byteOf, encode, encodeAll}
 use Rattle.model.specs.Limits.{Limits}
 use Rattle.model.specs.ReadingState.{ReadingState, Taken, Going, begin, goOn}
 use Rattle.model.specs.Rules.{allowed, testsOf, nextOf, onwards, ruleOf}
@@ -23,7 +23,7 @@ use Rattle.model.specs.Reading.{verdictOf, commandsOf}
 use Rattle.model.specs.Decoding.{Draft, blank, before, beforeAll, draftOf}
 use Rattle.model.specs.Trail.{Trail}
 use Rattle.model.specs.ActionBytes.{edgeOf, commandsIn, decodeAction}
-use Rattle.model.proofs.CommandBytes.{Ok, command-encode, drop-encode}
+use Rattle.commands.proofs.Encoding.{read-encode, drop-encode}
 use Rattle.model.proofs.Walk.{count}
 use Rattle.model.proofs.ReadingLaws.{clash, holds, rule-none}
 use Rattle.model.proofs.AcceptedTrail.{Is, accepted-trail}
@@ -87,14 +87,14 @@ none-after l (c ∷ cs) p s (a, g, t) = go (kind c) (λ q s′ t′. none-after 
 record Found (file : List ℕ) (left : List Command) (edges : List ℕ) : Type 0 where
   place : ℕ
   body : List Command
-  oks : All Ok body
+  oks : All Fits body
   bytes : drop place file ≡ encodeAll (Goal ∷ body) ++ encode End
   last : (d : ℕ) → getD edges (length (beforeAll left blank .actions)) d ≡ place
   long : length edges ≡ suc (length (beforeAll left blank .actions))
   goal : beforeAll left blank .goal ≡ beforeAll body blank .current
 
 module _ (l : Limits) (file : List ℕ) where
-  find : (left : List Command) (p : ReadingState) (at : ℕ) (edges : List ℕ) → p .section ≤ 2 → Trail l p left → All Ok left → drop at file ≡ encodeAll left ++ encode End → EdgesLeft file at edges → Found file left edges
+  find : (left : List Command) (p : ReadingState) (at : ℕ) (edges : List ℕ) → p .section ≤ 2 → Trail l p left → All Fits left → drop at file ≡ encodeAll left ++ encode End → EdgesLeft file at edges → Found file left edges
   unfolding testsOf nextOf
   find [] p at edges s t o w e = absurd (omega (arith, s, t))
   find (c ∷ cs) p at edges s (a, g, t) (o, os) w e = go (kind c) (λ q at′ edges′ s′ t′ w′ e′. find cs q at′ edges′ s′ t′ os w′ e′)
@@ -157,13 +157,13 @@ module _ (l : Limits) (file : List ℕ) where
       go (never n) f = absurd (n l p a g)
 
 -- ---- the bytes of commands are read as those commands
-in-all : (cs : List Command) (n : ℕ) → length cs ≤ n → All Ok cs → commandsIn n (encodeAll cs) ≡ cs
+in-all : (cs : List Command) (n : ℕ) → length cs ≤ n → All Fits cs → commandsIn n (encodeAll cs) ≡ cs
 unfolding commandsIn
 in-all [] zero h o = refl
 in-all [] (suc n) h o = refl
 in-all (c ∷ cs) zero h o = absurd (omega (arith, h))
 in-all (c ∷ cs) (suc n) h (o, os) =
-    rw (ne-eqb (length (encode c ++ encodeAll cs)) 0 (λ e. omega (arith, e)), command-encode c (encodeAll cs) o, drop-encode c (encodeAll cs) o) (ap (λ (z : List Command). c ∷ z) (in-all cs n (omega (arith, h)) os))
+    rw (ne-eqb (length (encode c ++ encodeAll cs)) 0 (λ e. omega (arith, e)), read-encode c (encodeAll cs) o, drop-encode c (encodeAll cs) o) (ap (λ (z : List Command). c ∷ z) (in-all cs n (omega (arith, h)) os))
 
 module _ (l : Limits) (file : List ℕ) (b : Bytes file) (h : Is (verdictOf l file)) where
   found : Found file (commandsOf l file) (edgesOf file)
@@ -187,4 +187,4 @@ module _ (l : Limits) (file : List ℕ) (b : Bytes file) (h : Is (verdictOf l fi
       = ap (λ (at : ℕ). take ((length file - 1) - at) (drop at file)) from ∙ ap (take ((length file - 1) - F .place)) (F .bytes) ∙ take-at (encodeAll (Goal ∷ F .body)) (encode End) ((length file - 1) - F .place) n in
       F .goal
       ∙ ap (λ (cs : List Command). beforeAll (drop 1 cs) blank .current)
-      (sym (in-all (Goal ∷ F .body) (suc (length (goalPart file (length (draftOf (commandsOf l file) .actions))))) (omega (arith, ap length part, count (F .body))) (tt, F .oks)) ∙ ap (commandsIn (suc (length (goalPart file (length (draftOf (commandsOf l file) .actions)))))) (sym part))
+      (sym (in-all (Goal ∷ F .body) (suc (length (goalPart file (length (draftOf (commandsOf l file) .actions))))) (omega (arith, ap length part, count (F .body))) ((tt, tt), F .oks)) ∙ ap (commandsIn (suc (length (goalPart file (length (draftOf (commandsOf l file) .actions)))))) (sym part))
