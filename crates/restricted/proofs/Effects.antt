@@ -106,7 +106,7 @@ effects-below n sizes es l z m before = rw (set-fold es l) (same-test _ _ forth 
     forth h = at-below sizes (foldl putMode l es) (λ i k.
         let q : i < n = omega (arith, k, length-writes 0 setting es l) in
         declared i _ q (others-stay 0 setting (λ j x. cond (ltb j n) (ltb x (naturalAt sizes j)) true ≡ true) es l (every-all _ es h) i
-            (rw (lt-ltb i n q) (below-at sizes l (z ∙ sym m) before i (omega arith)))))
+        (rw (lt-ltb i n q) (below-at sizes l (z ∙ sym m) before i (omega arith)))))
 
     back : modesBelowSizes sizes (foldl putMode l es) ≡ true → every (λ (e : ℕ × ℕ). belowAt n sizes (foldl putMode l es) (e .0)) es ≡ true
     back h = each-every _ (λ e. one (e .0) (ltb (e .0) n) refl) es

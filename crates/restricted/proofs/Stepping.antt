@@ -52,7 +52,7 @@ module _ {n : ℕ} {modes modes′ : List ℕ} (sizes : List ℕ) (count : ℕ) 
       → every (belowAt n sizes modes′) (effectKeysIn count numbers) ≡ modesBelowSizes (take n sizes) (setAll (modeEffectsIn count numbers settings) (take n modes))
   effects-tested z m before c =
       every-tabulate _ (λ (e : ℕ × ℕ). belowAt n (take n sizes) (setAll (modeEffectsIn count numbers settings) (take n modes)) (e .0)) modeEffectRoom count _ (pairAt 0 numbers settings)
-          (λ i. below-take n sizes modes′ (getD numbers i 0) ∙ ap (λ (l : List ℕ). belowAt n (take n sizes) l (getD numbers i 0)) (c .is))
+      (λ i. below-take n sizes modes′ (getD numbers i 0) ∙ ap (λ (l : List ℕ). belowAt n (take n sizes) l (getD numbers i 0)) (c .is))
       ∙ effects-below n (take n sizes) (modeEffectsIn count numbers settings) (take n modes) (length-take-le n sizes z) (length-take-le n modes m) before
 
 and-false : (b : Bool) → (b && false) ≡ false
@@ -165,7 +165,7 @@ module _ (h : Shape) (x : StateByValue) (a : DecodedRestricted) {n m : ℕ} (ns 
   clamped =
       handed-alike n (h .variables) m (h .modes) (wholeIs x) (stepOf (take m (h .sizes)) (declaredPart n m (wholeIs x)) (actionIs a)) (clamp-drop (h .variables) 64 n (x .values) ns values) (clamp-drop (h .modes) 8 m (x .modes) ms modes)
       ∙ (λ i. handedBack (h .variables) (h .modes) (wholeIs x)
-          (stepOf (clamp-take (h .modes) 8 m (h .sizes) ms sizes i) (stateOf (clamp-take (h .variables) 64 n (x .values) ns values i) (clamp-take (h .modes) 8 m (x .modes) ms modes i)) (actionIs a)))
+      (stepOf (clamp-take (h .modes) 8 m (h .sizes) ms sizes i) (stateOf (clamp-take (h .variables) 64 n (x .values) ns values i) (clamp-take (h .modes) 8 m (x .modes) ms modes i)) (actionIs a)))
 
   pub steps : {values′ : List ℤ} {modes′ : List ℕ} → Took n m (x .values) (x .modes) (stepOf (take m (h .sizes)) (declaredPart n m (wholeIs x)) (actionIs a)) true values′ modes′
       → (true, stateOf values′ modes′) ≡ stepped h x a

@@ -2,7 +2,11 @@
 //
 // A state is passed and returned by value. The work is done by functions on lent arrays, which cite the same definitions. Nothing here reads
 // a file: a step takes a decoded action, and knows of its task only the shape.
-use actions::{ADDITIONS, CONDITIONS, MODE_CONDITIONS, MODE_EFFECTS, RestrictedAction};
+use actions::ADDITIONS;
+use actions::CONDITIONS;
+use actions::MODE_CONDITIONS;
+use actions::MODE_EFFECTS;
+use actions::RestrictedAction;
 ghost use mathlib.Core.Path.{_≡_};
 ghost use mathlib.Core.Bool.{true};
 ghost use Prim.Native.Nat.{min, _<_, _≤_};
@@ -237,7 +241,12 @@ fn set_all<'a>(
 }
 
 // Whether the variables that an action adds to lie within the figure.
-fn sums_within(values: &[i64; VARIABLES], n: usize, count: usize, variables: &[u8; ADDITIONS]) -> bool
+fn sums_within(
+    values: &[i64; VARIABLES],
+    n: usize,
+    count: usize,
+    variables: &[u8; ADDITIONS],
+) -> bool
     requires { ⌜ n ≤ 64 ⌝ }
     ensures { λ r. ⌜ r ≡ every (withinAt n (now (values .entry))) (additionKeysIn count (now (variables .entry))) ⌝ }
 {
@@ -265,7 +274,13 @@ fn is_below(modes: &[u16; MODES], n: usize, sizes: &[u16; MODES], mode: u8) -> b
 }
 
 // Whether the modes that an action sets have values below their sizes.
-fn effects_below(modes: &[u16; MODES], n: usize, sizes: &[u16; MODES], count: usize, numbers: &[u8; MODE_EFFECTS]) -> bool
+fn effects_below(
+    modes: &[u16; MODES],
+    n: usize,
+    sizes: &[u16; MODES],
+    count: usize,
+    numbers: &[u8; MODE_EFFECTS],
+) -> bool
     requires { ⌜ n ≤ 8 ⌝ }
     ensures { λ r. ⌜ r ≡ every (belowAt n (now (sizes .entry)) (now (modes .entry))) (effectKeysIn count (now (numbers .entry))) ⌝ }
 {
@@ -300,7 +315,13 @@ pub fn apply<'a>(
         (modeEffectsIn «effect_count» (now («effect_modes» .entry)) (now («effect_values» .entry)))
         r (now (values .exit)) (now (modes .exit)) ⌝ }
 {
-    add_all(values, n, addition_count, addition_variables, addition_amounts);
+    add_all(
+        values,
+        n,
+        addition_count,
+        addition_variables,
+        addition_amounts,
+    );
     set_all(modes, m, effect_count, effect_modes, effect_values);
     if !sums_within(values, n, addition_count, addition_variables) {
         return false;
@@ -330,7 +351,13 @@ fn take_step(
     if !amounts_fit(action.addition_count, &action.addition_amounts) {
         return false;
     }
-    if !modes_hold(modes, m, action.mode_condition_count, &action.mode_condition_modes, &action.mode_condition_values) {
+    if !modes_hold(
+        modes,
+        m,
+        action.mode_condition_count,
+        &action.mode_condition_modes,
+        &action.mode_condition_values,
+    ) {
         return false;
     }
     if !conditions_hold(

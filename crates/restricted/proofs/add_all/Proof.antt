@@ -23,6 +23,7 @@ use borrow.Author.Needs.{needs}
 use Prim.Native.Nat.{ℕ, _-_, _≤_, _+_, _*_}
 use Rattle.restricted.proofs.add_all.Statement.{statement}
 use Rattle.restricted.proofs.add_all.Tie as tie
+
 -- before; and no value passes the figure by more than 1,000,000,000 for each addition made. Assumes nothing.
 
 abbrev Inv-loop : tie.InvT-loop
@@ -50,8 +51,10 @@ element-copy-out-add-to-2 c = omega arith
 amount-small : (c : tie.After-add-to-arg3 Inv-loop μ-loop) → Within 1000000000 (getD (now (c .before .before .before .before .before .before .args .amounts)) (c .before .before .before .before .loop .i) (pos 0))
 amount-small c =
     let s = c .before .before .before .before .before .before in
-    record { within = leb-true _ _ (every-there (λ (e : ℕ × ℤ). withinLimit (restrictedLimits .constant) (e .1)) additionRoom (s .args .count) (c .before .before .before .before .before .lesser .result) (c .before .before .before .before .loop .i) (pairAt (pos 0) (now (s .args .variables)) (now (s .args .amounts)))
-        (c .before .before .before .before .loop .inv .0 .folded .here) (c .before .before .before .loop-test .taken) (s .pre .fit)) }
+    record {
+      within = leb-true _ _ (every-there (λ (e : ℕ × ℤ). withinLimit (restrictedLimits .constant) (e .1)) additionRoom (s .args .count) (c .before .before .before .before .before .lesser .result) (c .before .before .before .before .loop .i) (pairAt (pos 0) (now (s .args .variables)) (now (s .args .amounts)))
+          (c .before .before .before .before .loop .inv .0 .folded .here) (c .before .before .before .loop-test .taken) (s .pre .fit));
+    }
 
 add-to-requires : tie.Need-add-to-requires Inv-loop μ-loop
 add-to-requires c κs =

@@ -11,6 +11,7 @@ use Prim.Native.Nat.{_-_, _≤_, _+_}
 use borrow.Author.Needs.{needs}
 use Rattle.restricted.proofs.set_all.Statement.{statement}
 use Rattle.restricted.proofs.set_all.Tie as tie
+
 -- before. Assumes nothing.
 
 abbrev Inv-loop : tie.InvT-loop
