@@ -18,7 +18,7 @@ use Rattle.model.specs.Tasks.{RestrictedAction, RestrictedTask, State}
 use Rattle.model.specs.Limits.{restrictedLimits}
 use Rattle.model.specs.TaskOk.{AmountOk, RestrictedActionOk, RestrictedTaskOk}
 use Rattle.model.specs.Systems.{bind, provided}
-use Rattle.model.specs.Steps.{integerAt, naturalAt, conditionsHold, modesHold, addAll, setAll, valuesWithin, modesBelowSizes, soundRestricted, appliesRestricted, applyRestricted, tryRestricted, sizesOf, stepRestricted, figure}
+use Rattle.model.specs.Steps.{integerAt, naturalAt, addAll, setAll, valuesWithin, modesBelowSizes, soundRestricted, appliesRestricted, applyRestricted, tryRestricted, sizesOf, stepRestricted, figure}
 use Rattle.model.specs.Judging.{declaredPart, withRest}
 use Rattle.model.proofs.StageWalk.{all-get}
 use Rattle.actions.specs.declared.RestrictedAction.{RestrictedAction as DecodedRestricted}
@@ -106,18 +106,15 @@ module _ {n m : ℕ} {values : List ℤ} {modes : List ℕ} (sizes : List ℕ) (
   pub amounts-stop : amountsFit (a .additions) ≡ false → Took n m values modes (stepOf (take m sizes) (declaredPart n m (stateOf values modes)) a) false values modes
   amounts-stop e = stopped (stops-amounts (take m sizes) (declaredPart n m (stateOf values modes)) a e)
 
-  pub mode-conditions-stop : modesHold (a .modeConditions) (naturalAt (take m modes)) ≡ false → Took n m values modes (stepOf (take m sizes) (declaredPart n m (stateOf values modes)) a) false values modes
-  mode-conditions-stop e = stopped (stops-conditions (take m sizes) (declaredPart n m (stateOf values modes)) a (rw e))
-
-  pub conditions-stop : conditionsHold (a .conditions) (integerAt (take n values)) ≡ false → Took n m values modes (stepOf (take m sizes) (declaredPart n m (stateOf values modes)) a) false values modes
-  conditions-stop e = stopped (stops-conditions (take m sizes) (declaredPart n m (stateOf values modes)) a (rw e (and-false (modesHold (a .modeConditions) (naturalAt (take m modes))))))
+  pub conditions-stop : appliesRestricted a (declaredPart n m (stateOf values modes)) ≡ false → Took n m values modes (stepOf (take m sizes) (declaredPart n m (stateOf values modes)) a) false values modes
+  conditions-stop e = stopped (stops-conditions (take m sizes) (declaredPart n m (stateOf values modes)) a e)
 
   -- where all tests pass and the effects are applied
   pub went : {r : Bool} {values′ : List ℤ} {modes′ : List ℕ} → valuesWithin figure (take n values) ≡ true → modesBelowSizes (take m sizes) (take m modes) ≡ true → amountsFit (a .additions) ≡ true
-      → modesHold (a .modeConditions) (naturalAt (take m modes)) ≡ true → conditionsHold (a .conditions) (integerAt (take n values)) ≡ true → Applied n m sizes values modes (a .additions) (a .modeEffects) r values′ modes′
+      → appliesRestricted a (declaredPart n m (stateOf values modes)) ≡ true → Applied n m sizes values modes (a .additions) (a .modeEffects) r values′ modes′
       → Took n m values modes (stepOf (take m sizes) (declaredPart n m (stateOf values modes)) a) r values′ modes′
-  went {r} {values′} {modes′} v w f p c d = record {
-    is = (λ i. cond (d .sound i) (some (stateOf (d .valuesAre .is i) (d .modesAre .is i))) none) ∙ sym (goes (take m sizes) (declaredPart n m (stateOf values modes)) a f (ap₂ _&&_ p c) (ap₂ _&&_ v w));
+  went {r} {values′} {modes′} v w f h d = record {
+    is = (λ i. cond (d .sound i) (some (stateOf (d .valuesAre .is i) (d .modesAre .is i))) none) ∙ sym (goes (take m sizes) (declaredPart n m (stateOf values modes)) a f h (ap₂ _&&_ v w));
     valuesRest = d .valuesAre .rest;
     modesRest = d .modesAre .rest;
   }

@@ -34,20 +34,6 @@ pub record CanAdd (n : ℕ) (values : List ℤ) (additions : List (ℕ × ℤ)) 
   pub within : valuesWithin figure (take n values) ≡ true
   pub fit : amountsFit additions ≡ true
 
--- what the effects ask besides: n modes, below their sizes
-pub record CanApply (n m : ℕ) (sizes : List ℕ) (values : List ℤ) (modes : List ℕ) (additions : List (ℕ × ℤ)) : Type 0 where
-  pub canAdd : CanAdd n values additions
-  pub modesRoom : m ≤ 8
-  pub modesLong : m ≤ length modes
-  pub sizesLong : m ≤ length sizes
-  pub below : modesBelowSizes (take m sizes) (take m modes) ≡ true
-
--- the effects are applied, and the answer r is whether the state after them is sound
-pub record Applied (n m : ℕ) (sizes : List ℕ) (values : List ℤ) (modes : List ℕ) (additions : List (ℕ × ℤ)) (modeEffects : List (ℕ × ℕ)) (r : Bool) (values′ : List ℤ) (modes′ : List ℕ) : Type 0 where
-  pub sound : r ≡ soundRestricted (take m sizes) (stateOf (addAll additions (take n values)) (setAll modeEffects (take m modes)))
-  pub valuesAre : Changed n values values′ (addAll additions (take n values))
-  pub modesAre : Changed m modes modes′ (setAll modeEffects (take m modes))
-
 -- n values and m modes with their sizes are there
 pub record CanStep (n m : ℕ) (sizes : List ℕ) (values : List ℤ) (modes : List ℕ) : Type 0 where
   pub room : n ≤ 64
@@ -55,6 +41,26 @@ pub record CanStep (n m : ℕ) (sizes : List ℕ) (values : List ℤ) (modes : L
   pub modesRoom : m ≤ 8
   pub modesLong : m ≤ length modes
   pub sizesLong : m ≤ length sizes
+
+-- and they are sound: all values within the figure, all modes below their sizes
+pub record Ready (n m : ℕ) (sizes : List ℕ) (values : List ℤ) (modes : List ℕ) : Type 0 where
+  pub room : n ≤ 64
+  pub modesRoom : m ≤ 8
+  pub modesLong : m ≤ length modes
+  pub sizesLong : m ≤ length sizes
+  pub within : valuesWithin figure (take n values) ≡ true
+  pub below : modesBelowSizes (take m sizes) (take m modes) ≡ true
+
+-- what the effects ask
+pub record CanApply (n m : ℕ) (sizes : List ℕ) (values : List ℤ) (modes : List ℕ) (additions : List (ℕ × ℤ)) : Type 0 where
+  pub ready : Ready n m sizes values modes
+  pub fit : amountsFit additions ≡ true
+
+-- the effects are applied, and the answer r is whether the state after them is sound
+pub record Applied (n m : ℕ) (sizes : List ℕ) (values : List ℤ) (modes : List ℕ) (additions : List (ℕ × ℤ)) (modeEffects : List (ℕ × ℕ)) (r : Bool) (values′ : List ℤ) (modes′ : List ℕ) : Type 0 where
+  pub sound : r ≡ soundRestricted (take m sizes) (stateOf (addAll additions (take n values)) (setAll modeEffects (take m modes)))
+  pub valuesAre : Changed n values values′ (addAll additions (take n values))
+  pub modesAre : Changed m modes modes′ (setAll modeEffects (take m modes))
 
 -- a step is taken in place, and the answer r is whether its action applies; where it does not, what the declared part of the arrays holds is
 -- left open

@@ -16,7 +16,7 @@ ghost use Rattle.integers.specs.Relation.{withinLimit};
 ghost use Rattle.lists.specs.Loops.{every};
 ghost use Rattle.model.specs.Limits.{restrictedLimits};
 ghost use Rattle.model.specs.Judging.{declaredPart};
-ghost use Rattle.model.specs.Steps.{integerAt, naturalAt, conditionsHold, modesHold, addAll, setAll, valuesWithin, modesBelowSizes, figure};
+ghost use Rattle.model.specs.Steps.{integerAt, naturalAt, conditionsHold, modesHold, goalHolds, addAll, setAll, valuesWithin, modesBelowSizes, figure};
 ghost use Rattle.restricted.specs.Parts.{conditionsIn, modeConditionsIn, additionsIn, modeEffectsIn, additionKeysIn, amountsIn, effectKeysIn, withinAt, belowAt};
 ghost use Rattle.restricted.specs.Changes.{putSum, putMode, stateOf, Changed, CanAdd, CanApply, Applied, CanStep, Took};
 ghost use Rattle.restricted.specs.Step.{wholeIs, actionIs, stepOf, steppedIs, stepped};
@@ -329,6 +329,44 @@ pub fn apply<'a>(
     effects_below(modes, m, sizes, effect_count, effect_modes)
 }
 
+// Whether every C and every P of an action or goal holds.
+pub fn conditions_met<'a>(
+    values: &[i64; VARIABLES],
+    modes: &[u16; MODES],
+    n: usize,
+    m: usize,
+    condition_count: usize,
+    condition_variables: &'a [u8; CONDITIONS],
+    condition_relations: &'a [u8; CONDITIONS],
+    condition_constants: &'a [i64; CONDITIONS],
+    mode_condition_count: usize,
+    mode_condition_modes: &'a [u8; MODE_CONDITIONS],
+    mode_condition_values: &'a [u16; MODE_CONDITIONS],
+) -> bool
+    requires { ⌜ (n ≤ 64) × (m ≤ 8) ⌝ }
+    ensures { λ r. ⌜ r ≡ goalHolds (modeConditionsIn «mode_condition_count» (now («mode_condition_modes» .entry)) (now («mode_condition_values» .entry)))
+        (conditionsIn «condition_count» (now («condition_variables» .entry)) (now («condition_relations» .entry)) (now («condition_constants» .entry)))
+        (declaredPart n m (stateOf (now (values .entry)) (now (modes .entry)))) ⌝ }
+{
+    if !modes_hold(
+        modes,
+        m,
+        mode_condition_count,
+        mode_condition_modes,
+        mode_condition_values,
+    ) {
+        return false;
+    }
+    conditions_hold(
+        values,
+        n,
+        condition_count,
+        condition_variables,
+        condition_relations,
+        condition_constants,
+    )
+}
+
 // A step in place: whether the action applies. Where it doesn't, the declared part of the arrays is spent.
 fn take_step(
     values: &mut [i64; VARIABLES],
@@ -351,22 +389,18 @@ fn take_step(
     if !amounts_fit(action.addition_count, &action.addition_amounts) {
         return false;
     }
-    if !modes_hold(
-        modes,
-        m,
-        action.mode_condition_count,
-        &action.mode_condition_modes,
-        &action.mode_condition_values,
-    ) {
-        return false;
-    }
-    if !conditions_hold(
+    if !conditions_met(
         values,
+        modes,
         n,
+        m,
         action.condition_count,
         &action.condition_variables,
         &action.condition_relations,
         &action.condition_constants,
+        action.mode_condition_count,
+        &action.mode_condition_modes,
+        &action.mode_condition_values,
     ) {
         return false;
     }

@@ -24,7 +24,7 @@ values-are : (c : tie.After-sums-within) → let s = c .before .before .before .
     valuesWithin figure (addAll (additionsIn (s .addition-count) (now (s .addition-variables)) (now (s .addition-amounts))) (take (s .n) (now (s .values)))) ≡ c .sums-within .result
 values-are c =
     let s = c .before .before .before .before .before .before in
-    sym (sums-tested (s .args .addition-count) (now (s .args .addition-variables)) (now (s .args .addition-amounts)) (s .pre .canAdd .within) (c .before .before .before .before .add-all .ensures)) ∙ sym (c .sums-within .ensures)
+    sym (sums-tested (s .args .addition-count) (now (s .args .addition-variables)) (now (s .args .addition-amounts)) (s .pre .ready .within) (c .before .before .before .before .add-all .ensures)) ∙ sym (c .sums-within .ensures)
 
 returns : tie.Need-returns
 returns c = record {
@@ -41,7 +41,7 @@ returns-2 c =
     let s = c .before .before .before .before .before .before .before .before .before in
     record {
       sound = rw (values-are (c .before .before .before) ∙ not-false _ (c .before .before .if1 .left))
-          (c .effects-below .ensures ∙ effects-tested (now (s .args .sizes)) (s .args .effect-count) (now (s .args .effect-modes)) (now (s .args .effect-values)) (s .pre .sizesLong) (s .pre .modesLong) (s .pre .below) (c .before .before .before .before .before .set-all .ensures));
+          (c .effects-below .ensures ∙ effects-tested (now (s .args .sizes)) (s .args .effect-count) (now (s .args .effect-modes)) (now (s .args .effect-values)) (s .pre .ready .sizesLong) (s .pre .ready .modesLong) (s .pre .ready .below) (c .before .before .before .before .before .set-all .ensures));
       valuesAre = c .before .before .before .before .before .before .before .add-all .ensures;
       modesAre = c .before .before .before .before .before .set-all .ensures;
     }

@@ -3,8 +3,8 @@ use mathlib.Core.Path.{_≡_, sym, _∙_}
 use borrow.Author.Tests.{not-true, not-false}
 use denote.Ref.{now}
 use Rattle.restricted.specs.Step.{actionIs}
-use Rattle.restricted.specs.Changes.{CanApply}
-use Rattle.restricted.proofs.Stepping.{amounts-tested, values-stop, modes-stop, amounts-stop, mode-conditions-stop, conditions-stop, went}
+use Rattle.restricted.specs.Changes.{Ready, CanApply}
+use Rattle.restricted.proofs.Stepping.{amounts-tested, values-stop, modes-stop, amounts-stop, conditions-stop, went}
 use borrow.Author.Needs.{needs}
 use Rattle.restricted.proofs.take_step.Statement.{statement}
 use Rattle.restricted.proofs.take_step.Tie as tie
@@ -33,43 +33,31 @@ returns-3 c =
     let s = c .before .before .before .before .before .before .before .before .before .before .args in
     amounts-stop (now (s .sizes)) (actionIs (s .t6)) (amounts-tested (s .t6 .«addition_count») (s .t6 .«addition_variables») (s .t6 .«addition_amounts») ∙ sym (c .before .amounts-fit .ensures) ∙ not-true _ (c .if3 .taken))
 
-modes-hold-requires : tie.Need-modes-hold-requires
-modes-hold-requires c κs = search needs
+conditions-met-requires : tie.Need-conditions-met-requires
+conditions-met-requires c κs = search needs
 
 returns-4 : tie.Need-returns-4
 returns-4 c =
-    let s = c .before .before .before .before .before .before .before .before .before .before .before .before .before .before .before .before .args in
-    mode-conditions-stop (now (s .sizes)) (actionIs (s .t6)) (sym (c .before .modes-hold .ensures) ∙ not-true _ (c .if4 .taken))
-
-conditions-hold-requires : tie.Need-conditions-hold-requires
-conditions-hold-requires c κs = search needs
-
-returns-5 : tie.Need-returns-5
-returns-5 c =
-    let s = c .before .before .before .before .before .before .before .before .before .before .before .before .before .before .before .before .before .before .before .before .before .before .before .args in
-    conditions-stop (now (s .sizes)) (actionIs (s .t6)) (sym (c .before .conditions-hold .ensures) ∙ not-true _ (c .if5 .taken))
+    let s = c .before .before .before .before .before .before .before .before .before .before .before .before .before .before .before .before .before .before .before .before .args in
+    conditions-stop (now (s .sizes)) (actionIs (s .t6)) (sym (c .before .conditions-met .ensures) ∙ not-true _ (c .if4 .taken))
 
 apply-requires : tie.Need-apply-requires
 apply-requires c κs =
-    let s = c .before .before .before .before .before .before .before .before .before .before .before .before .before .before .before .before .before .before .before .before .before .before .before .before .before .before .before .before .before .before .args in
-    let p = c .before .before .before .before .before .before .before .before .before .before .before .before .before .before .before .before .before .before .before .before .before .before .before .before .before .before .before .before .before .before .pre in
+    let s = c .before .before .before .before .before .before .before .before .before .before .before .before .before .before .before .before .before .before .before .before .before .before .before .before .before .before .before .args in
+    let p = c .before .before .before .before .before .before .before .before .before .before .before .before .before .before .before .before .before .before .before .before .before .before .before .before .before .before .before .pre in
     record {
-      canAdd = record { room = p .room; within = (sym (c .before .before .before .before .before .before .before .before .before .before .before .before .before .before .before .before .before .before .before .before .before .before .before .before .before .before .before .before .values-within .ensures) ∙ not-false _ (c .before .before .before .before .before .before .before .before .before .before .before .before .before .before .before .before .before .before .before .before .before .before .before .before .before .before .before .if1 .left)); fit = (amounts-tested (s .t6 .«addition_count») (s .t6 .«addition_variables») (s .t6 .«addition_amounts») ∙ sym (c .before .before .before .before .before .before .before .before .before .before .before .before .before .before .before .before .before .before .before .before .before .amounts-fit .ensures) ∙ not-false _ (c .before .before .before .before .before .before .before .before .before .before .before .before .before .before .before .before .before .before .before .before .if3 .left)) };
-      modesRoom = p .modesRoom;
-      modesLong = p .modesLong;
-      sizesLong = p .sizesLong;
-      below = (sym (c .before .before .before .before .before .before .before .before .before .before .before .before .before .before .before .before .before .before .before .before .before .before .before .before .before .modes-below .ensures) ∙ not-false _ (c .before .before .before .before .before .before .before .before .before .before .before .before .before .before .before .before .before .before .before .before .before .before .before .before .if2 .left));
+      ready = record { room = p .room; modesRoom = p .modesRoom; modesLong = p .modesLong; sizesLong = p .sizesLong; within = (sym (c .before .before .before .before .before .before .before .before .before .before .before .before .before .before .before .before .before .before .before .before .before .before .before .before .before .values-within .ensures) ∙ not-false _ (c .before .before .before .before .before .before .before .before .before .before .before .before .before .before .before .before .before .before .before .before .before .before .before .before .if1 .left)); below = (sym (c .before .before .before .before .before .before .before .before .before .before .before .before .before .before .before .before .before .before .before .before .before .before .modes-below .ensures) ∙ not-false _ (c .before .before .before .before .before .before .before .before .before .before .before .before .before .before .before .before .before .before .before .before .before .if2 .left)) };
+      fit = (amounts-tested (s .t6 .«addition_count») (s .t6 .«addition_variables») (s .t6 .«addition_amounts») ∙ sym (c .before .before .before .before .before .before .before .before .before .before .before .before .before .before .before .before .before .before .amounts-fit .ensures) ∙ not-false _ (c .before .before .before .before .before .before .before .before .before .before .before .before .before .before .before .before .before .if3 .left));
     }
 
-returns-6 : tie.Need-returns-6
-returns-6 c =
-    let s = c .before .before .before .before .before .before .before .before .before .before .before .before .before .before .before .before .before .before .before .before .before .before .before .before .before .before .before .before .before .before .before .args in
+returns-5 : tie.Need-returns-5
+returns-5 c =
+    let s = c .before .before .before .before .before .before .before .before .before .before .before .before .before .before .before .before .before .before .before .before .before .before .before .before .before .before .before .before .args in
     went (now (s .sizes)) (actionIs (s .t6))
-    (sym (c .before .before .before .before .before .before .before .before .before .before .before .before .before .before .before .before .before .before .before .before .before .before .before .before .before .before .before .before .before .values-within .ensures) ∙ not-false _ (c .before .before .before .before .before .before .before .before .before .before .before .before .before .before .before .before .before .before .before .before .before .before .before .before .before .before .before .before .if1 .left))
-    (sym (c .before .before .before .before .before .before .before .before .before .before .before .before .before .before .before .before .before .before .before .before .before .before .before .before .before .before .modes-below .ensures) ∙ not-false _ (c .before .before .before .before .before .before .before .before .before .before .before .before .before .before .before .before .before .before .before .before .before .before .before .before .before .if2 .left))
-    (amounts-tested (s .t6 .«addition_count») (s .t6 .«addition_variables») (s .t6 .«addition_amounts») ∙ sym (c .before .before .before .before .before .before .before .before .before .before .before .before .before .before .before .before .before .before .before .before .before .before .amounts-fit .ensures) ∙ not-false _ (c .before .before .before .before .before .before .before .before .before .before .before .before .before .before .before .before .before .before .before .before .before .if3 .left))
-    (sym (c .before .before .before .before .before .before .before .before .before .before .before .before .before .before .before .before .modes-hold .ensures) ∙ not-false _ (c .before .before .before .before .before .before .before .before .before .before .before .before .before .before .before .if4 .left))
-    (sym (c .before .before .before .before .before .before .before .before .before .conditions-hold .ensures) ∙ not-false _ (c .before .before .before .before .before .before .before .before .if5 .left))
+    (sym (c .before .before .before .before .before .before .before .before .before .before .before .before .before .before .before .before .before .before .before .before .before .before .before .before .before .before .values-within .ensures) ∙ not-false _ (c .before .before .before .before .before .before .before .before .before .before .before .before .before .before .before .before .before .before .before .before .before .before .before .before .before .if1 .left))
+    (sym (c .before .before .before .before .before .before .before .before .before .before .before .before .before .before .before .before .before .before .before .before .before .before .before .modes-below .ensures) ∙ not-false _ (c .before .before .before .before .before .before .before .before .before .before .before .before .before .before .before .before .before .before .before .before .before .before .if2 .left))
+    (amounts-tested (s .t6 .«addition_count») (s .t6 .«addition_variables») (s .t6 .«addition_amounts») ∙ sym (c .before .before .before .before .before .before .before .before .before .before .before .before .before .before .before .before .before .before .before .amounts-fit .ensures) ∙ not-false _ (c .before .before .before .before .before .before .before .before .before .before .before .before .before .before .before .before .before .before .if3 .left))
+    (sym (c .before .before .before .before .before .before .before .before .before .conditions-met .ensures) ∙ not-false _ (c .before .before .before .before .before .before .before .before .if4 .left))
     (c .apply .ensures)
 
 pub take-step-spec : {M : Type 1} → statement M
@@ -82,9 +70,7 @@ take-step-spec =
     returns-2
     amounts-fit-requires
     returns-3
-    modes-hold-requires
+    conditions-met-requires
     returns-4
-    conditions-hold-requires
-    returns-5
     apply-requires
-    returns-6)
+    returns-5)
