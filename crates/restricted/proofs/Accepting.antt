@@ -8,7 +8,7 @@ use mathlib.Core.Bool.{Bool, true, false, _&&_, cond, false≢true}
 use mathlib.Core.Option.{Option, none, some}
 use mathlib.Core.List.{List, [], _∷_, _++_}
 use lib.Dec.{eqb, ltb}
-use lib.ListN.{length, getD, take, drop, replicate, length-take, length-replicate, take-append-drop}
+use lib.ListN.{length, getD, take, drop, replicate, length-replicate, take-append-drop}
 use lib.Seq.{take-take, length-take-le}
 use lib.IntN.{ℤ, pos, natAbs}
 use borrow.Author.Tests.{le-leb, lt-ltb, le-ltb}
@@ -17,14 +17,14 @@ use Rattle.integers.specs.Numbers.{Bytes}
 use Rattle.lists.specs.Answer.{Answer, given, refused, then}
 use Rattle.lists.specs.Writing.{splice}
 use Rattle.lists.proofs.Numbers.{length-halves}
-use Rattle.model.specs.Tasks.{NumericCondition, RestrictedAction, RestrictedTask, State}
+use Rattle.model.specs.Tasks.{NumericCondition, RestrictedTask, State}
 use Rattle.model.specs.Limits.{restrictedLimits}
 use Rattle.model.specs.Reading.{Verdict as ModelVerdict, Accepted as accepted, Rejected as rejected, verdictOf, commandsOf}
 use Rattle.model.specs.Decoding.{readRestricted, restrictedActionOf, onVerdict, draftOf}
 use Rattle.model.specs.TaskOk.{InRange, ModeOk, RestrictedTaskOk}
 use Rattle.model.specs.ActionBytes.{edgeOf, actionPart, decodeAction}
 use Rattle.model.specs.Plans.{planNumbers, readPlan}
-use Rattle.model.specs.Steps.{valuesWithin, modesBelowSizes, figure, sizesOf, startModes, goalHolds, restrictedStart, restrictedGoalHolds, stepRestricted}
+use Rattle.model.specs.Steps.{valuesWithin, modesBelowSizes, figure, sizesOf, startModes, goalHolds, restrictedGoalHolds, stepRestricted}
 use Rattle.model.specs.Judging.{judge, declaredPart, withRest, ifApplies, stepAlone, judgeRestrictedTask, judgeRestricted, stepRestrictedAlone}
 use Rattle.model.proofs.AcceptedOk.{accepted-restricted-ok}
 use Rattle.model.proofs.AcceptedTrail.{Is}
@@ -45,7 +45,7 @@ use Rattle.restricted.specs.declared.Stepped.{Stepped}
 use Rattle.restricted.specs.declared.Walk.the-variants.{Through, Ended}
 use Rattle.restricted.specs.Changes.{stateOf, Beyond, Ready}
 use Rattle.restricted.specs.Step.{wholeIs, handedBack, steppedIs, stepped}
-use Rattle.restricted.specs.Judging.{zeros, judgementOf, taskIn, judgingFrom, walkIs, AcceptedPlan, Prepared, Walked}
+use Rattle.restricted.specs.Judging.{judgementOf, taskIn, judgingFrom, AcceptedPlan, Prepared, Walked}
 use Rattle.restricted.proofs.Effects.{beyond-then}
 use Rattle.restricted.proofs.Judged.{judging-ends}
 use Rattle.restricted.proofs.Walking.{decoded-steps}

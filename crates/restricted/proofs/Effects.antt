@@ -1,22 +1,20 @@
 -- Effects as a loop makes them, one write after another; and that after them only what was written need be tested.
 -- Assumes nothing.
 use mathlib.Core.Path.{_≡_, refl, sym, ap, ap₂, _∙_, subst}
-use Prim.Native.Nat.{ℕ, zero, suc, _+_, _*_, _≤_, _<_}
+use Prim.Native.Nat.{ℕ, zero, suc, _+_, _≤_, _<_}
 use native.Mathlib.Omega.{arith}
 use mathlib.Core.Bool.{Bool, true, false, cond}
-use mathlib.Core.List.{List, [], _∷_, _++_, foldl}
+use mathlib.Core.List.{List, [], _∷_, foldl}
 use lib.Dec.{eqb, ltb}
 use lib.ListN.{length, length-append, length-set, length-take, take-append-drop, getD, set, take, drop}
-use lib.Seq.{getD-set-other, take-set-lt, drop-set-lt, set-out, length-take-le, getD-take}
-use lib.IntN.{ℤ, pos, natAbs, _+ℤ_}
+use lib.Seq.{getD-set-other, take-set-lt, drop-set-lt, set-out}
+use lib.IntN.{ℤ, pos, _+ℤ_}
 use borrow.Author.Tests.{eqb-true, eqb-false, ltb-true, lt-ltb, leb-true}
 use Rattle.integers.specs.Parts.{Within, EachWithin}
 use Rattle.integers.specs.Relation.{withinLimit}
 use Rattle.integers.proofs.Parts.{ints, add}
 use Rattle.integers.specs.All.{All}
-use Rattle.lists.specs.Each.{tabulate}
 use Rattle.lists.specs.Loops.{every}
-use Rattle.lists.proofs.Loops.{Folded}
 use Rattle.model.specs.Steps.{addAll, setAll, valuesWithin, modesBelowSizes, integerAt, naturalAt, figure}
 use Rattle.restricted.specs.Parts.{belowAt}
 use Rattle.restricted.specs.Changes.{putSum, putMode, Changed, Beyond}

@@ -1,26 +1,25 @@
 -- Judging step by step: what is left to be judged at step i, from the state there, gives what the whole plan gives.
 -- Assumes nothing.
-use mathlib.Core.Path.{_≡_, refl, sym, ap, ap₂, _∙_, subst}
-use Prim.Native.Nat.{ℕ, zero, suc, _+_, _*_, _≤_, _<_}
+use mathlib.Core.Path.{_≡_, refl, sym, ap, _∙_, subst}
+use Prim.Native.Nat.{ℕ, suc, _+_, _≤_, _<_}
 use lib.Arith.{lt-of-le-ne}
 use native.Mathlib.Numerals.{add-one}
 use native.Mathlib.Omega.{arith}
-use mathlib.Core.Bool.{Bool, true, false, _&&_, cond}
-use mathlib.Core.Option.{Option, none, some}
-use mathlib.Core.List.{List, [], _∷_, _++_}
-use lib.ListN.{length, length-append, take, drop, getD, length-take, length-drop, take-append-drop}
+use mathlib.Core.Bool.{Bool, true, false, cond}
+use mathlib.Core.Option.{none, some}
+use mathlib.Core.List.{List, _∷_}
+use lib.ListN.{length, take, drop, getD, length-take}
 use lib.Seq.{drop-cons}
 use lib.IntN.{ℤ}
 use borrow.Author.Tests.{lt-ltb, le-ltb}
-use Rattle.lists.specs.Answer.{Answer, given, refused}
+use Rattle.lists.specs.Answer.{given, refused}
 use Rattle.lists.proofs.Loops.{and-left, and-right}
 use Rattle.model.specs.Tasks.{RestrictedAction, RestrictedTask, State}
 use Rattle.model.specs.Steps.{addAll, setAll, valuesWithin, modesBelowSizes, figure, appliesRestricted, stepRestricted, restrictedGoalHolds}
 use Rattle.model.specs.Plans.{planNumbers}
-use Rattle.model.specs.Judging.{judge, declaredPart, ifApplies}
-use Rattle.restricted.specs.declared.Run.{Run}
+use Rattle.model.specs.Judging.{judge, declaredPart}
 use Rattle.restricted.specs.declared.Run.the-variants.{Until, Stopped}
-use Rattle.restricted.specs.Changes.{stateOf, Beyond, Ready, CanApply, Applied, Took}
+use Rattle.restricted.specs.Changes.{stateOf, Beyond, CanApply, Applied, Took}
 use Rattle.restricted.specs.Step.{stepOf}
 use Rattle.restricted.specs.Judging.{judgingFrom, CanRun, Ran}
 use Rattle.restricted.proofs.Effects.{beyond-same, beyond-then, set-length}

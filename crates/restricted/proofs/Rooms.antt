@@ -4,7 +4,7 @@ use mathlib.Core.Path.{_≡_, sym, ap, _∙_}
 use Prim.Native.Nat.{ℕ, min, _+_, _<_, _≤_}
 use native.Mathlib.Omega.{arith}
 use mathlib.Core.Bool.{Bool, true, false}
-use mathlib.Core.List.{List, foldl}
+use mathlib.Core.List.{foldl}
 use lib.ListN.{take, getD}
 use lib.Seq.{getD-take}
 use Rattle.lists.specs.Each.{tabulate}

@@ -19,7 +19,7 @@ use Rattle.model.specs.Limits.{restrictedLimits}
 use Rattle.model.specs.TaskOk.{AmountOk, RestrictedActionOk, RestrictedTaskOk}
 use Rattle.model.specs.Systems.{bind, provided}
 use Rattle.model.specs.Steps.{integerAt, naturalAt, addAll, setAll, valuesWithin, modesBelowSizes, soundRestricted, appliesRestricted, applyRestricted, tryRestricted, sizesOf, stepRestricted, figure}
-use Rattle.model.specs.Judging.{declaredPart, withRest}
+use Rattle.model.specs.Judging.{declaredPart}
 use Rattle.model.proofs.StageWalk.{all-get}
 use Rattle.actions.specs.declared.RestrictedAction.{RestrictedAction as DecodedRestricted}
 use Rattle.actions.specs.Views.{modeEffectRoom, additionRoom, pairAt}

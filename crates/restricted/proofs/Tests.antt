@@ -1,14 +1,14 @@
 -- The tests of the model as tests of every element, so that a loop over an array makes them.
 -- Assumes nothing.
-use mathlib.Core.Path.{_≡_, refl, sym, ap, ap₂, _∙_}
+use mathlib.Core.Path.{_≡_, refl, sym, ap, ap₂}
 use Prim.Native.Nat.{ℕ, zero, suc, _≤_, _<_}
 use native.Mathlib.Omega.{arith}
 use mathlib.Core.Bool.{Bool, true, false, _&&_}
 use mathlib.Core.List.{List, [], _∷_}
-use lib.Dec.{eqb, ltb, leb}
-use lib.ListN.{length, getD, take}
-use lib.IntN.{ℤ, pos, natAbs}
-use borrow.Author.Tests.{le-leb, leb-true}
+use lib.Dec.{eqb, ltb}
+use lib.ListN.{length, take}
+use lib.IntN.{ℤ}
+use borrow.Author.Tests.{le-leb}
 use Rattle.integers.specs.Relation.{related, withinLimit}
 use Rattle.integers.specs.All.{All}
 use Rattle.lists.specs.Each.{tabulate}

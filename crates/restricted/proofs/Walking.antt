@@ -1,20 +1,19 @@
 -- The judge over an accepted file: what is decoded from the bytes of action k steps as action k of the task; and what is left of the plan at
 -- each step, from the state there, gives what the whole plan gives.
 -- Assumes nothing.
-use mathlib.Core.Path.{_≡_, refl, sym, ap, ap₂, _∙_, subst}
-use Prim.Native.Nat.{ℕ, zero, suc, _+_, _-_, _≤_, _<_}
+use mathlib.Core.Path.{_≡_, refl, sym, ap, ap₂, _∙_}
+use Prim.Native.Nat.{ℕ, suc, _+_, _-_, _≤_, _<_}
 use native.Mathlib.Numerals.{add-one}
 use native.Mathlib.Omega.{arith}
 use mathlib.Core.Bool.{true}
 use mathlib.Core.Option.{some}
 use mathlib.Core.List.{List, [], _∷_}
-use lib.ListN.{length, getD, take, drop, getElem?}
+use lib.ListN.{length, getD, take, getElem?}
 use lib.Seq.{take-take}
 use lib.IntN.{ℤ}
-use Rattle.integers.specs.All.{All}
 use Rattle.integers.specs.Numbers.{Bytes}
-use Rattle.lists.specs.Answer.{Answer, given, refused}
-use Rattle.model.specs.Tasks.{RestrictedAction, RestrictedTask, State}
+use Rattle.lists.specs.Answer.{given}
+use Rattle.model.specs.Tasks.{RestrictedAction, State}
 use Rattle.model.specs.TaskOk.{RestrictedTaskOk}
 use Rattle.model.specs.Decoding.{readRestricted, restrictedActionOf}
 use Rattle.model.specs.Plans.{planNumbers}
@@ -26,13 +25,12 @@ use Rattle.actions.specs.declared.RestrictedAction.{RestrictedAction as Decoded
 use Rattle.actions.specs.Places.{partOf}
 use Rattle.actions.specs.Views.{restrictedActionIs, fittingRestricted, conditionRoom, modeConditionRoom, modeEffectRoom, additionRoom}
 use Rattle.actions.proofs.Accepted.{restricted-action-decoded}
-use Rattle.restricted.specs.declared.Run.{Run}
 use Rattle.restricted.specs.declared.Run.the-variants.{Until, Stopped}
 use Rattle.restricted.specs.declared.Walk.the-variants.{Through, Ended}
 use Rattle.restricted.specs.Parts.{amountsFit}
 use Rattle.restricted.specs.Changes.{stateOf, Beyond, Ready}
 use Rattle.restricted.specs.Step.{actionIs, stepOf}
-use Rattle.restricted.specs.Judging.{taskIn, judgingFrom, Ran, AcceptedPlan, Prepared, Walked}
+use Rattle.restricted.specs.Judging.{taskIn, judgingFrom, Ran, Prepared, Walked}
 use Rattle.restricted.proofs.Effects.{beyond-same, beyond-then}
 use Rattle.restricted.proofs.Stepping.{accepted-amounts-fit, step-by-number}
 use Rattle.restricted.proofs.Judged.{no-such-action}

@@ -2,9 +2,8 @@
 -- Assumes nothing.
 use mathlib.Core.Path.{_≡_}
 use Prim.Native.Nat.{ℕ, _*_, _<_, _≤_}
-use mathlib.Core.Bool.{Bool}
 use mathlib.Core.Option.{Option, none, some}
-use mathlib.Core.List.{List, []}
+use mathlib.Core.List.{List}
 use lib.ListN.{length, getD, take, drop, replicate}
 use lib.IntN.{ℤ, pos}
 use Rattle.integers.specs.Numbers.{Bytes}
@@ -17,7 +16,6 @@ use Rattle.model.specs.Plans.{planNumbers}
 use Rattle.model.specs.ActionBytes.{edgeOf}
 use Rattle.model.specs.Steps.{sizesOf, stepRestricted, restrictedGoalHolds}
 use Rattle.model.specs.Judging.{judge, declaredPart, withRest}
-use Rattle.restricted.specs.declared.State.{State as StateByValue}
 use Rattle.restricted.specs.declared.Verdict.{Verdict}
 use Rattle.restricted.specs.declared.Verdict.the-variants.{Valid, Refused}
 use Rattle.restricted.specs.declared.Judgement.{Judgement}
@@ -32,12 +30,12 @@ use Rattle.restricted.specs.Changes.{stateOf, Beyond, Ready, CanApply}
 use Rattle.restricted.specs.Step.{wholeIs, stepOf}
 
 -- ---- a step by itself: its refusal, or none where the action applied; and the state after it, or the state before on a refusal
+abbrev pub refusalIs : StepVerdict → Option (ℕ × ℕ)
+refusalIs applied = none
+refusalIs (stepRefused number place) = some (number, place)
+
 abbrev pub stepAnswerIs : StepAnswer → Option (ℕ × ℕ) × State
 stepAnswerIs r = (refusalIs (r .verdict), wholeIs (r .state))
-  where
-    refusalIs : StepVerdict → Option (ℕ × ℕ)
-    refusalIs applied = none
-    refusalIs (stepRefused number place) = some (number, place)
 
 abbrev pub stepAnswerOf : State → Answer State → Option (ℕ × ℕ) × State
 stepAnswerOf x (given y) = (none, y)

@@ -26,7 +26,7 @@ ghost use Rattle.actions.specs.Views.{conditionRoom, modeConditionRoom, goalCon
 ghost use Rattle.model.specs.Steps.{integerAt, naturalAt, conditionsHold, modesHold, goalHolds, addAll, setAll, valuesWithin, modesBelowSizes, figure};
 ghost use Rattle.restricted.specs.Parts.{conditionsIn, modeConditionsIn, additionsIn, modeEffectsIn, additionKeysIn, amountsIn, effectKeysIn, withinAt, belowAt};
 ghost use Rattle.restricted.specs.Changes.{putSum, putMode, stateOf, Changed, CanAdd, CanStep, Ready, CanApply, Applied, Took};
-ghost use Rattle.restricted.specs.Judging.{stepAnswerIs, stepAnswerOf, zeros, judgementIs, judgementOf, taskIn, CanRun, Ran, AcceptedPlan, Prepared, Walked};
+ghost use Rattle.restricted.specs.Judging.{stepAnswerIs, stepAnswerOf, judgementIs, judgementOf, taskIn, CanRun, Ran, AcceptedPlan, Prepared, Walked};
 ghost use Rattle.restricted.specs.Step.{wholeIs, actionIs, stepOf, steppedIs, stepped};
 
 // The most actions of a restricted task, and one more: where its goal stands.
@@ -135,7 +135,7 @@ fn mode_at(modes: &[u16; MODES], n: usize, mode: u8) -> u16
 }
 
 // Whether every C of an action or goal holds, in a task with n variables.
-pub fn conditions_hold<'a>(
+fn conditions_hold<'a>(
     values: &[i64; VARIABLES],
     n: usize,
     count: usize,
@@ -159,7 +159,7 @@ pub fn conditions_hold<'a>(
 }
 
 // Whether every P of an action or goal holds, in a task with n modes.
-pub fn modes_hold<'a>(
+fn modes_hold<'a>(
     modes: &[u16; MODES],
     n: usize,
     count: usize,
@@ -181,7 +181,7 @@ pub fn modes_hold<'a>(
 }
 
 // Whether the first n values lie within the figure.
-pub fn values_within(values: &[i64; VARIABLES], n: usize) -> bool
+fn values_within(values: &[i64; VARIABLES], n: usize) -> bool
     requires { ⌜ (n ≤ 64) × (n ≤ length (now values)) ⌝ }
     ensures { λ r. ⌜ r ≡ valuesWithin figure (take n (now (values .entry))) ⌝ }
 {
@@ -196,7 +196,7 @@ pub fn values_within(values: &[i64; VARIABLES], n: usize) -> bool
 }
 
 // Whether the first n modes have values below their sizes.
-pub fn modes_below(modes: &[u16; MODES], n: usize, sizes: &[u16; MODES]) -> bool
+fn modes_below(modes: &[u16; MODES], n: usize, sizes: &[u16; MODES]) -> bool
     requires { ⌜ (n ≤ 8) × (n ≤ length (now modes)) × (n ≤ length (now sizes)) ⌝ }
     ensures { λ r. ⌜ r ≡ modesBelowSizes (take n (now (sizes .entry))) (take n (now (modes .entry))) ⌝ }
 {
@@ -343,7 +343,7 @@ fn effects_below(
 }
 
 // The effects of an action, taken from the lent state in place, which is sound. Whether the state after them is sound.
-pub fn apply<'a>(
+fn apply<'a>(
     values: &mut [i64; VARIABLES],
     modes: &mut [u16; MODES],
     n: usize,
@@ -377,7 +377,7 @@ pub fn apply<'a>(
 }
 
 // Whether every C and every P of an action or goal holds.
-pub fn conditions_met<'a>(
+fn conditions_met<'a>(
     values: &[i64; VARIABLES],
     modes: &[u16; MODES],
     n: usize,

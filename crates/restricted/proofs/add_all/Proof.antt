@@ -1,6 +1,6 @@
 -- `restricted::add_all` meets its contract: the additions not yet made, from the values so far, give what all of them give from the values
 -- before; and no value passes the figure by more than 1,000,000,000 for each addition made. Assumes nothing.
-use mathlib.Core.Path.{_≡_, refl, sym, _∙_}
+use mathlib.Core.Path.{_≡_, refl, _∙_}
 use lib.ListN.{getD, take, drop}
 use lib.IntN.{ℤ, pos}
 use denote.Ref.{now}
@@ -14,13 +14,13 @@ use Rattle.integers.specs.Relation.{withinLimit}
 use Rattle.model.specs.Limits.{restrictedLimits}
 use Rattle.model.specs.Steps.{figure}
 use Rattle.actions.specs.Views.{additionRoom, pairAt}
-use Rattle.restricted.specs.Changes.{putSum, Changed}
+use Rattle.restricted.specs.Changes.{putSum}
 use Rattle.restricted.proofs.Effects.{add-fold, sum-small, figure-small}
 use Rattle.restricted.proofs.Rooms.{Changing, change-start, change-next, change-end, every-there}
 use native.Mathlib.Omega.{arith}
-use Prim.Native.Nat.{ℕ, _-_, _≤_, _+_, _*_}
+use Prim.Native.Nat.{ℕ, _-_, _+_, _*_}
 use borrow.Author.Needs.{needs}
-use Prim.Native.Nat.{ℕ, _-_, _≤_, _+_, _*_}
+use Prim.Native.Nat.{ℕ, _-_, _+_, _*_}
 use Rattle.restricted.proofs.add_all.Statement.{statement}
 use Rattle.restricted.proofs.add_all.Tie as tie
 

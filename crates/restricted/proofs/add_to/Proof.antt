@@ -1,6 +1,4 @@
 -- `restricted::add_to` meets its contract: the sum of a value and an amount fits 64 bits. Assumes nothing.
-use mathlib.Core.Path.{_≡_, refl, sym}
-use Prim.Native.Nat.{_<_}
 use lib.Seq.{getD-take}
 use lib.ListN.{getD}
 use lib.IntN.{pos, _+ℤ_}
@@ -10,7 +8,6 @@ use mir.Syntax.{w64}
 use mir.Val.{SFits}
 use Rattle.integers.proofs.Parts.{ints, add}
 use Rattle.restricted.proofs.Effects.{written, unwritten}
-use native.Mathlib.Omega.{arith}
 use borrow.Author.Needs.{needs}
 use Rattle.restricted.proofs.add_to.Statement.{statement}
 use Rattle.restricted.proofs.add_to.Tie as tie

@@ -1,18 +1,18 @@
 -- `restricted::amounts_fit` meets its contract: the amounts not yet tested decide what all of them do. Assumes nothing.
-use mathlib.Core.Path.{_≡_, sym, ap, _∙_}
+use mathlib.Core.Path.{_≡_, sym, _∙_}
 use borrow.Author.Tests.{not-true, not-false}
 use denote.Ref.{now}
 use mir.Facts.{toZ-ofZ}
 use mir.Syntax.{w64}
 use mir.Val.{SFits}
-use lib.ListN.{getD, take}
+use lib.ListN.{getD}
 use lib.IntN.{pos}
 use Rattle.integers.specs.Relation.{withinLimit}
 use Rattle.model.specs.Limits.{restrictedLimits}
 use Rattle.actions.specs.Views.{additionRoom}
 use Rattle.restricted.proofs.Rooms.{Tested, test-start, test-next, test-stop, test-end}
 use native.Mathlib.Omega.{arith}
-use Prim.Native.Nat.{_-_, _≤_, _+_}
+use Prim.Native.Nat.{_-_}
 use borrow.Author.Needs.{needs}
 use Rattle.restricted.proofs.amounts_fit.Statement.{statement}
 use Rattle.restricted.proofs.amounts_fit.Tie as tie

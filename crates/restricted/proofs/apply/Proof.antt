@@ -1,11 +1,10 @@
 -- `restricted::apply` meets its contract: since the state before is sound, testing what the effects wrote is testing all. Assumes nothing.
-use mathlib.Core.Path.{_≡_, refl, sym, _∙_}
+use mathlib.Core.Path.{_≡_, sym, _∙_}
 use borrow.Author.Tests.{not-true, not-false}
 use denote.Ref.{now}
 use lib.ListN.{take}
 use Rattle.model.specs.Steps.{addAll, valuesWithin, figure}
 use Rattle.restricted.specs.Parts.{additionsIn}
-use Rattle.restricted.specs.Changes.{Applied}
 use Rattle.restricted.proofs.Stepping.{sums-tested, effects-tested}
 use borrow.Author.Needs.{needs}
 use Rattle.restricted.proofs.apply.Statement.{statement}

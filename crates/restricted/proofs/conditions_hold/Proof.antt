@@ -1,5 +1,5 @@
 -- `restricted::conditions_hold` meets its contract: the conditions not yet tested decide what all of them do. Assumes nothing.
-use mathlib.Core.Path.{_≡_, sym, ap, _∙_}
+use mathlib.Core.Path.{_≡_, sym, _∙_}
 use borrow.Author.Tests.{not-true, not-false}
 use denote.Ref.{now}
 use mir.Facts.{toZ-ofZ}
@@ -12,7 +12,7 @@ use Rattle.actions.specs.Views.{conditionRoom, conditionAt}
 use Rattle.restricted.proofs.Tests.{conditionHolds, conditions-every}
 use Rattle.restricted.proofs.Rooms.{Tested, test-start, test-next, test-stop, test-end}
 use native.Mathlib.Omega.{arith}
-use Prim.Native.Nat.{_-_, _≤_, _+_}
+use Prim.Native.Nat.{_-_}
 use borrow.Author.Needs.{needs}
 use Rattle.restricted.proofs.conditions_hold.Statement.{statement}
 use Rattle.restricted.proofs.conditions_hold.Tie as tie

@@ -1,5 +1,5 @@
 -- `restricted::conditions_met` meets its contract. Assumes nothing.
-use mathlib.Core.Path.{_≡_, refl, sym, _∙_}
+use mathlib.Core.Path.{sym, _∙_}
 use borrow.Author.Tests.{not-true, not-false}
 use borrow.Author.Needs.{needs}
 use Rattle.restricted.proofs.conditions_met.Statement.{statement}

@@ -1,12 +1,12 @@
 -- `restricted::effects_below` meets its contract: the modes not yet tested decide what all of them do. Assumes nothing.
-use mathlib.Core.Path.{_≡_, sym, _∙_}
+use mathlib.Core.Path.{sym, _∙_}
 use borrow.Author.Tests.{not-true, not-false}
 use lib.ListN.{getD}
 use Rattle.actions.specs.Views.{modeEffectRoom}
 use Rattle.restricted.specs.Parts.{belowAt}
 use Rattle.restricted.proofs.Rooms.{Tested, test-start, test-next, test-stop, test-end}
 use native.Mathlib.Omega.{arith}
-use Prim.Native.Nat.{_-_, _≤_, _+_}
+use Prim.Native.Nat.{_-_}
 use borrow.Author.Needs.{needs}
 use Rattle.restricted.proofs.effects_below.Statement.{statement}
 use Rattle.restricted.proofs.effects_below.Tie as tie

@@ -1,5 +1,4 @@
 -- `restricted::is_below` meets its contract. Assumes nothing.
-use mathlib.Core.Path.{_≡_, refl, sym}
 use borrow.Author.Tests.{lt-ltb, le-ltb}
 use borrow.Author.Needs.{needs}
 use Rattle.restricted.proofs.is_below.Statement.{statement}

@@ -1,5 +1,5 @@
 -- `restricted::judge` meets its contract: the file's refusals come first, then those of the plan's bytes. Assumes nothing.
-use mathlib.Core.Path.{_≡_, sym, ap, _∙_}
+use mathlib.Core.Path.{sym, ap, _∙_}
 use native.Mathlib.Omega.{arith}
 use denote.Ref.{now}
 use Rattle.tasks.specs.Views.{verdictIs}

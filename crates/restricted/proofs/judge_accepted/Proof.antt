@@ -1,8 +1,8 @@
 -- `restricted::judge_accepted` meets its contract: what the readers leave makes the judge ready, and what it finds is the answer. Assumes nothing.
-use mathlib.Core.Path.{_≡_, sym, ap, _∙_}
+use mathlib.Core.Path.{sym, ap, _∙_}
 use borrow.Author.Tests.{not-true, not-false}
 use Rattle.restricted.specs.Judging.{judgementOf}
-use Rattle.restricted.proofs.Accepting.{held, start-ready, prepared, judged-ended, judged-unmet, judged-valid}
+use Rattle.restricted.proofs.Accepting.{start-ready, prepared, judged-ended, judged-unmet, judged-valid}
 use borrow.Author.Needs.{needs}
 use Rattle.restricted.proofs.judge_accepted.Statement.{statement}
 use Rattle.restricted.proofs.judge_accepted.Tie as tie

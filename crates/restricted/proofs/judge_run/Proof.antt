@@ -1,11 +1,10 @@
 -- `restricted::judge_run` meets its contract: at each step of the run, what is left to be judged gives what there was. Assumes nothing.
-use mathlib.Core.Path.{_≡_, sym, _∙_}
-use Prim.Native.Nat.{_-_, _≤_, _+_}
+use mathlib.Core.Path.{sym, _∙_}
+use Prim.Native.Nat.{_-_}
 use native.Mathlib.Omega.{arith}
 use borrow.Author.Tests.{not-true, not-false}
 use Rattle.restricted.specs.Step.{actionIs}
 use Rattle.restricted.proofs.Judged.{Running, run-start, run-changes, run-ends, run-conditions-stop, run-effects-stop, run-next}
-use borrow.Author.Needs.{needs}
 use Rattle.restricted.proofs.judge_run.Statement.{statement}
 use Rattle.restricted.proofs.judge_run.Tie as tie
 

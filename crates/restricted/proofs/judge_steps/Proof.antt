@@ -1,8 +1,7 @@
 -- `restricted::judge_steps` meets its contract: where a run ends, what is left to be judged gives what there was. Assumes nothing.
-use mathlib.Core.Path.{_≡_, sym, _∙_}
-use Prim.Native.Nat.{_-_, _≤_, _+_}
+use mathlib.Core.Path.{sym}
+use Prim.Native.Nat.{_-_}
 use native.Mathlib.Omega.{arith}
-use Rattle.restricted.specs.Judging.{CanRun}
 use Rattle.restricted.proofs.Walking.{Walking, walk-start, walk-ends, walk-no-action, walk-fits, walk-stops, walk-next}
 use borrow.Author.Needs.{needs}
 use Rattle.restricted.proofs.judge_steps.Statement.{statement}

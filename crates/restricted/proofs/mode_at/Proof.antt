@@ -1,7 +1,5 @@
 -- `restricted::mode_at` meets its contract: past the declared ones stands 0. Assumes nothing.
-use mathlib.Core.Path.{_≡_, sym, _∙_}
 use lib.Seq.{getD-take}
-use lib.IntN.{pos}
 use denote.Ref.{now}
 use Rattle.restricted.proofs.Effects.{past}
 use borrow.Author.Needs.{needs}

@@ -1,11 +1,10 @@
 -- `restricted::modes_below` meets its contract: the modes not yet tested decide what all of them do. Assumes nothing.
-use mathlib.Core.Path.{_≡_, sym, _∙_}
 use borrow.Author.Tests.{lt-ltb, le-ltb}
 use denote.Ref.{now}
 use Rattle.restricted.proofs.Tests.{besideSize, isBelow, below-every}
 use Rattle.restricted.proofs.Rooms.{Tested, test-start, test-next, test-stop, test-end}
 use native.Mathlib.Omega.{arith}
-use Prim.Native.Nat.{_-_, _≤_, _+_}
+use Prim.Native.Nat.{_-_}
 use borrow.Author.Needs.{needs}
 use Rattle.restricted.proofs.modes_below.Statement.{statement}
 use Rattle.restricted.proofs.modes_below.Tie as tie

@@ -1,5 +1,5 @@
 -- `restricted::modes_hold` meets its contract: the mode conditions not yet tested decide what all of them do. Assumes nothing.
-use mathlib.Core.Path.{_≡_, sym, ap, _∙_}
+use mathlib.Core.Path.{sym}
 use borrow.Author.Tests.{eq-eqb, ne-eqb}
 use lib.ListN.{take}
 use Rattle.model.specs.Steps.{naturalAt}
@@ -7,7 +7,7 @@ use Rattle.actions.specs.Views.{modeConditionRoom, pairAt}
 use Rattle.restricted.proofs.Tests.{modeHolds, modes-every}
 use Rattle.restricted.proofs.Rooms.{Tested, test-start, test-next, test-stop, test-end}
 use native.Mathlib.Omega.{arith}
-use Prim.Native.Nat.{_-_, _≤_, _+_}
+use Prim.Native.Nat.{_-_}
 use borrow.Author.Needs.{needs}
 use Rattle.restricted.proofs.modes_hold.Statement.{statement}
 use Rattle.restricted.proofs.modes_hold.Tie as tie

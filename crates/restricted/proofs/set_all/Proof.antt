@@ -1,13 +1,13 @@
 -- `restricted::set_all` meets its contract: the mode effects not yet made, from the modes so far, give what all of them give from the modes
 -- before. Assumes nothing.
-use mathlib.Core.Path.{_≡_, refl, sym, _∙_}
+use mathlib.Core.Path.{_≡_, refl, _∙_}
 use lib.ListN.{take, drop}
 use Rattle.actions.specs.Views.{modeEffectRoom, pairAt}
-use Rattle.restricted.specs.Changes.{putMode, Changed}
+use Rattle.restricted.specs.Changes.{putMode}
 use Rattle.restricted.proofs.Effects.{set-fold}
 use Rattle.restricted.proofs.Rooms.{Changing, change-start, change-next, change-end}
 use native.Mathlib.Omega.{arith}
-use Prim.Native.Nat.{_-_, _≤_, _+_}
+use Prim.Native.Nat.{_-_}
 use borrow.Author.Needs.{needs}
 use Rattle.restricted.proofs.set_all.Statement.{statement}
 use Rattle.restricted.proofs.set_all.Tie as tie

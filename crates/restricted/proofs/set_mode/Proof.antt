@@ -1,5 +1,4 @@
 -- `restricted::set_mode` meets its contract. Assumes nothing.
-use mathlib.Core.Path.{_≡_, refl, sym}
 use Rattle.restricted.proofs.Effects.{written, unwritten}
 use borrow.Author.Needs.{needs}
 use Rattle.restricted.proofs.set_mode.Statement.{statement}

@@ -1,5 +1,5 @@
 -- `restricted::step_accepted` meets its contract: the action that is decoded is action k, and the shape is the task's. Assumes nothing.
-use mathlib.Core.Path.{_≡_, sym, ap, _∙_}
+use mathlib.Core.Path.{ap, _∙_}
 use native.Mathlib.Omega.{arith}
 use denote.Ref.{now}
 use borrow.Author.Tests.{not-true, not-false}

@@ -1,17 +1,16 @@
 -- `restricted::sums_within` meets its contract: the variables not yet tested decide what all of them do. Assumes nothing.
-use mathlib.Core.Path.{_≡_, sym, ap, _∙_}
+use mathlib.Core.Path.{_≡_, sym, _∙_}
 use borrow.Author.Tests.{not-true, not-false}
 use denote.Ref.{now}
 use mir.Facts.{toZ-ofZ}
 use mir.Syntax.{w64}
 use mir.Val.{SFits}
-use lib.ListN.{getD, take}
-use lib.IntN.{pos}
+use lib.ListN.{getD}
 use Rattle.actions.specs.Views.{additionRoom}
 use Rattle.restricted.specs.Parts.{withinAt}
 use Rattle.restricted.proofs.Rooms.{Tested, test-start, test-next, test-stop, test-end}
 use native.Mathlib.Omega.{arith}
-use Prim.Native.Nat.{_-_, _≤_, _+_}
+use Prim.Native.Nat.{_-_}
 use borrow.Author.Needs.{needs}
 use Rattle.restricted.proofs.sums_within.Statement.{statement}
 use Rattle.restricted.proofs.sums_within.Tie as tie

@@ -1,9 +1,8 @@
 -- `restricted::take_step` meets its contract: each test that fails decides; where all pass, the effects do. Assumes nothing.
-use mathlib.Core.Path.{_≡_, sym, _∙_}
+use mathlib.Core.Path.{sym, _∙_}
 use borrow.Author.Tests.{not-true, not-false}
 use denote.Ref.{now}
 use Rattle.restricted.specs.Step.{actionIs}
-use Rattle.restricted.specs.Changes.{Ready, CanApply}
 use Rattle.restricted.proofs.Stepping.{amounts-tested, values-stop, modes-stop, amounts-stop, conditions-stop, went}
 use borrow.Author.Needs.{needs}
 use Rattle.restricted.proofs.take_step.Statement.{statement}

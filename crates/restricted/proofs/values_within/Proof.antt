@@ -1,18 +1,18 @@
 -- `restricted::values_within` meets its contract: the values not yet tested decide what all of them do. Assumes nothing.
-use mathlib.Core.Path.{_≡_, sym, ap, _∙_}
+use mathlib.Core.Path.{_≡_, sym, _∙_}
 use borrow.Author.Tests.{not-true, not-false}
 use denote.Ref.{now}
 use mir.Facts.{toZ-ofZ}
 use mir.Syntax.{w64}
 use mir.Val.{SFits}
-use lib.ListN.{getD, take}
+use lib.ListN.{getD}
 use lib.IntN.{pos}
 use Rattle.integers.specs.Relation.{withinLimit}
 use Rattle.lists.proofs.Loops.{Scanned, there-all, scan-start, scan-next, scan-stop, scan-end}
 use Rattle.model.specs.Steps.{figure}
 use Rattle.restricted.proofs.Tests.{within-every}
 use native.Mathlib.Omega.{arith}
-use Prim.Native.Nat.{_-_, _≤_, _+_}
+use Prim.Native.Nat.{_-_}
 use borrow.Author.Needs.{needs}
 use Rattle.restricted.proofs.values_within.Statement.{statement}
 use Rattle.restricted.proofs.values_within.Tie as tie

@@ -1,5 +1,5 @@
 -- `restricted::State::next` meets its contract. Assumes nothing.
-use mathlib.Core.Path.{_≡_, ap}
+use mathlib.Core.Path.{ap}
 use mathlib.Core.Bool.{Bool}
 use Rattle.model.specs.Tasks.{State}
 use borrow.Author.Needs.{needs}

@@ -1,5 +1,5 @@
 -- `restricted::State::step` meets its contract: it hands back the copy in which the step was taken, or the state before. Assumes nothing.
-use mathlib.Core.Path.{_≡_, sym}
+use mathlib.Core.Path.{_≡_}
 use native.Mathlib.Omega.{arith}
 use lib.ListN.{length}
 use Rattle.restricted.proofs.Stepping.{steps, stays}
