@@ -1,4 +1,6 @@
-// The actions of a task file: where they stand, their bytes, and what the bytes of one say.
+// The actions of a task file: where they stand, their bytes as a part of the file, and what the bytes of one action or of the goal say, as
+// a value. Every function takes any bytes and has no duty on its caller; of an accepted file, what is decoded is the task's own (proofs/Accepted).
+// It applies no action and knows no state.
 use commands::Command;
 use tasks::Verdict;
 ghost use mathlib.Core.Path.{_≡_};
@@ -351,24 +353,24 @@ struct RestrictedCounts {
 // The commands of a restricted action or of a goal, taken one by one up to the next A or G and stored by their kinds.
 fn gather_restricted(
     bytes: &[u8],
-    condition_variables: &mut [u8; CONDITIONS],
-    condition_relations: &mut [u8; CONDITIONS],
-    condition_constants: &mut [i64; CONDITIONS],
-    mode_condition_modes: &mut [u8; MODE_CONDITIONS],
-    mode_condition_values: &mut [u16; MODE_CONDITIONS],
-    mode_effect_modes: &mut [u8; MODE_EFFECTS],
-    mode_effect_values: &mut [u16; MODE_EFFECTS],
-    addition_variables: &mut [u8; ADDITIONS],
-    addition_amounts: &mut [i64; ADDITIONS],
+    variables: &mut [u8; CONDITIONS],
+    relations: &mut [u8; CONDITIONS],
+    constants: &mut [i64; CONDITIONS],
+    modes: &mut [u8; MODE_CONDITIONS],
+    values: &mut [u16; MODE_CONDITIONS],
+    set_modes: &mut [u8; MODE_EFFECTS],
+    set_values: &mut [u16; MODE_EFFECTS],
+    added: &mut [u8; ADDITIONS],
+    amounts: &mut [i64; ADDITIONS],
 ) -> RestrictedCounts
-    ensures { λ r. ⌜ FillsConditions conditionRoom (now («condition_variables» .entry)) (now («condition_relations» .entry)) (now («condition_constants» .entry))
-        (r .conditions) (now («condition_variables» .exit)) (now («condition_relations» .exit)) (now («condition_constants» .exit)) (decodeAction (now (bytes .entry)) .conditions) ⌝ }
-    ensures { λ r. ⌜ FillsPairs 0 modeConditionRoom (now («mode_condition_modes» .entry)) (now («mode_condition_values» .entry))
-        (r .«mode_conditions») (now («mode_condition_modes» .exit)) (now («mode_condition_values» .exit)) (decodeAction (now (bytes .entry)) .modeConditions) ⌝ }
-    ensures { λ r. ⌜ FillsPairs 0 modeEffectRoom (now («mode_effect_modes» .entry)) (now («mode_effect_values» .entry))
-        (r .«mode_effects») (now («mode_effect_modes» .exit)) (now («mode_effect_values» .exit)) (decodeAction (now (bytes .entry)) .modeEffects) ⌝ }
-    ensures { λ r. ⌜ FillsPairs (pos 0) additionRoom (now («addition_variables» .entry)) (now («addition_amounts» .entry))
-        (r .additions) (now («addition_variables» .exit)) (now («addition_amounts» .exit)) (decodeAction (now (bytes .entry)) .additions) ⌝ }
+    ensures { λ r. ⌜ FillsConditions conditionRoom (now (variables .entry)) (now (relations .entry)) (now (constants .entry))
+        (r .conditions) (now (variables .exit)) (now (relations .exit)) (now (constants .exit)) (decodeAction (now (bytes .entry)) .conditions) ⌝ }
+    ensures { λ r. ⌜ FillsPairs 0 modeConditionRoom (now (modes .entry)) (now (values .entry))
+        (r .«mode_conditions») (now (modes .exit)) (now (values .exit)) (decodeAction (now (bytes .entry)) .modeConditions) ⌝ }
+    ensures { λ r. ⌜ FillsPairs 0 modeEffectRoom (now («set_modes» .entry)) (now («set_values» .entry))
+        (r .«mode_effects») (now («set_modes» .exit)) (now («set_values» .exit)) (decodeAction (now (bytes .entry)) .modeEffects) ⌝ }
+    ensures { λ r. ⌜ FillsPairs (pos 0) additionRoom (now (added .entry)) (now (amounts .entry))
+        (r .additions) (now (added .exit)) (now (amounts .exit)) (decodeAction (now (bytes .entry)) .additions) ⌝ }
 {
     let mut conditions: usize = 0;
     let mut mode_conditions: usize = 0;
@@ -378,42 +380,14 @@ fn gather_restricted(
     while at < bytes.len() {
         let rest = &bytes[at..];
         let byte = rest[0];
-        let next = at + commands::size_of(byte);
+        at += commands::size_of(byte);
         match byte {
-            b'C' => {
-                conditions = put_condition(
-                    rest,
-                    condition_variables,
-                    condition_relations,
-                    condition_constants,
-                    conditions,
-                );
-                at = next;
-            }
-            b'P' => {
-                mode_conditions = put_mode_condition(
-                    rest,
-                    mode_condition_modes,
-                    mode_condition_values,
-                    mode_conditions,
-                );
-                at = next;
-            }
-            b'E' => {
-                mode_effects = put_mode_effect(
-                    rest,
-                    mode_effect_modes,
-                    mode_effect_values,
-                    mode_effects,
-                );
-                at = next;
-            }
-            b'+' => {
-                additions = put_addition(rest, addition_variables, addition_amounts, additions);
-                at = next;
-            }
+            b'C' => conditions = put_condition(rest, variables, relations, constants, conditions),
+            b'P' => mode_conditions = put_mode_condition(rest, modes, values, mode_conditions),
+            b'E' => mode_effects = put_mode_effect(rest, set_modes, set_values, mode_effects),
+            b'+' => additions = put_addition(rest, added, amounts, additions),
             b'A' | b'G' => at = bytes.len(),
-            _ => at = next,
+            _ => {}
         }
     }
     RestrictedCounts {
@@ -570,20 +544,20 @@ struct SourceCounts {
 // The commands of a source action, taken one by one up to the next A or G and stored by their kinds.
 fn gather_source(
     bytes: &[u8],
-    condition_variables: &mut [u8; CONDITIONS],
-    condition_relations: &mut [u8; CONDITIONS],
-    condition_constants: &mut [i64; CONDITIONS],
-    mode_condition_modes: &mut [u8; MODE_CONDITIONS],
-    mode_condition_values: &mut [u16; MODE_CONDITIONS],
-    mode_effect_modes: &mut [u8; MODE_EFFECTS],
-    mode_effect_values: &mut [u16; MODE_EFFECTS],
+    variables: &mut [u8; CONDITIONS],
+    relations: &mut [u8; CONDITIONS],
+    constants: &mut [i64; CONDITIONS],
+    modes: &mut [u8; MODE_CONDITIONS],
+    values: &mut [u16; MODE_CONDITIONS],
+    set_modes: &mut [u8; MODE_EFFECTS],
+    set_values: &mut [u16; MODE_EFFECTS],
 ) -> SourceCounts
-    ensures { λ r. ⌜ FillsConditions conditionRoom (now («condition_variables» .entry)) (now («condition_relations» .entry)) (now («condition_constants» .entry))
-        (r .conditions) (now («condition_variables» .exit)) (now («condition_relations» .exit)) (now («condition_constants» .exit)) (decodeAction (now (bytes .entry)) .conditions) ⌝ }
-    ensures { λ r. ⌜ FillsPairs 0 modeConditionRoom (now («mode_condition_modes» .entry)) (now («mode_condition_values» .entry))
-        (r .«mode_conditions») (now («mode_condition_modes» .exit)) (now («mode_condition_values» .exit)) (decodeAction (now (bytes .entry)) .modeConditions) ⌝ }
-    ensures { λ r. ⌜ FillsPairs 0 modeEffectRoom (now («mode_effect_modes» .entry)) (now («mode_effect_values» .entry))
-        (r .«mode_effects») (now («mode_effect_modes» .exit)) (now («mode_effect_values» .exit)) (decodeAction (now (bytes .entry)) .modeEffects) ⌝ }
+    ensures { λ r. ⌜ FillsConditions conditionRoom (now (variables .entry)) (now (relations .entry)) (now (constants .entry))
+        (r .conditions) (now (variables .exit)) (now (relations .exit)) (now (constants .exit)) (decodeAction (now (bytes .entry)) .conditions) ⌝ }
+    ensures { λ r. ⌜ FillsPairs 0 modeConditionRoom (now (modes .entry)) (now (values .entry))
+        (r .«mode_conditions») (now (modes .exit)) (now (values .exit)) (decodeAction (now (bytes .entry)) .modeConditions) ⌝ }
+    ensures { λ r. ⌜ FillsPairs 0 modeEffectRoom (now («set_modes» .entry)) (now («set_values» .entry))
+        (r .«mode_effects») (now («set_modes» .exit)) (now («set_values» .exit)) (decodeAction (now (bytes .entry)) .modeEffects) ⌝ }
     ensures { λ r. ⌜ (effectWith (r .numeric) noEffect [] ≡ fittingEffect (decodeAction (now (bytes .entry)) .effect)) × (r .numeric .«term_count» ≤ termRoom) ⌝ }
 {
     let mut conditions: usize = 0;
@@ -594,41 +568,13 @@ fn gather_source(
     while at < bytes.len() {
         let rest = &bytes[at..];
         let byte = rest[0];
-        let next = at + commands::size_of(byte);
+        at += commands::size_of(byte);
         match byte {
-            b'C' => {
-                conditions = put_condition(
-                    rest,
-                    condition_variables,
-                    condition_relations,
-                    condition_constants,
-                    conditions,
-                );
-                at = next;
-            }
-            b'P' => {
-                mode_conditions = put_mode_condition(
-                    rest,
-                    mode_condition_modes,
-                    mode_condition_values,
-                    mode_conditions,
-                );
-                at = next;
-            }
-            b'E' => {
-                mode_effects = put_mode_effect(
-                    rest,
-                    mode_effect_modes,
-                    mode_effect_values,
-                    mode_effects,
-                );
-                at = next;
-            }
+            b'C' => conditions = put_condition(rest, variables, relations, constants, conditions),
+            b'P' => mode_conditions = put_mode_condition(rest, modes, values, mode_conditions),
+            b'E' => mode_effects = put_mode_effect(rest, set_modes, set_values, mode_effects),
             b'A' | b'G' => at = bytes.len(),
-            _ => {
-                numeric = with_numeric(numeric, commands::read(rest));
-                at = next;
-            }
+            _ => numeric = with_numeric(numeric, commands::read(rest)),
         }
     }
     SourceCounts {

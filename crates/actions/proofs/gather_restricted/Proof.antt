@@ -15,15 +15,15 @@ use Rattle.actions.proofs.gather_restricted.Statement.{statement}
 use Rattle.actions.proofs.gather_restricted.Tie as tie
 
 abbrev Inv-loop : tie.InvT-loop
-Inv-loop bytes condition-variables₀ condition-relations₀ condition-constants₀ mode-condition-modes₀ mode-condition-values₀ mode-effect-modes₀ mode-effect-values₀ addition-variables₀ addition-amounts₀ conditions₀ mode-conditions₀ mode-effects₀ additions₀ at₀ condition-variables condition-relations condition-constants mode-condition-modes mode-condition-values mode-effect-modes mode-effect-values addition-variables addition-amounts conditions mode-conditions mode-effects additions at =
+Inv-loop bytes variables₀ relations₀ constants₀ modes₀ values₀ set-modes₀ set-values₀ added₀ amounts₀ conditions₀ mode-conditions₀ mode-effects₀ additions₀ at₀ variables relations constants modes values set-modes set-values added amounts conditions mode-conditions mode-effects additions at =
     Gathering bytes at
-    (FillsConditions conditionRoom condition-variables₀ condition-relations₀ condition-constants₀ conditions condition-variables condition-relations condition-constants)
-    (FillsPairs 0 modeConditionRoom mode-condition-modes₀ mode-condition-values₀ mode-conditions mode-condition-modes mode-condition-values)
-    (FillsPairs 0 modeEffectRoom mode-effect-modes₀ mode-effect-values₀ mode-effects mode-effect-modes mode-effect-values)
-    (AdditionsLeft (FillsPairs (pos 0) additionRoom addition-variables₀ addition-amounts₀ additions addition-variables addition-amounts) (decodeAction bytes .additions))
+    (FillsConditions conditionRoom variables₀ relations₀ constants₀ conditions variables relations constants)
+    (FillsPairs 0 modeConditionRoom modes₀ values₀ mode-conditions modes values)
+    (FillsPairs 0 modeEffectRoom set-modes₀ set-values₀ mode-effects set-modes set-values)
+    (AdditionsLeft (FillsPairs (pos 0) additionRoom added₀ amounts₀ additions added amounts) (decodeAction bytes .additions))
 
 abbrev μ-loop : tie.MeasureT-loop
-μ-loop bytes condition-variables₀ condition-relations₀ condition-constants₀ mode-condition-modes₀ mode-condition-values₀ mode-effect-modes₀ mode-effect-values₀ addition-variables₀ addition-amounts₀ conditions₀ mode-conditions₀ mode-effects₀ additions₀ at₀ condition-variables condition-relations condition-constants mode-condition-modes mode-condition-values mode-effect-modes mode-effect-values addition-variables addition-amounts conditions mode-conditions mode-effects additions at = length bytes - at
+μ-loop bytes variables₀ relations₀ constants₀ modes₀ values₀ set-modes₀ set-values₀ added₀ amounts₀ conditions₀ mode-conditions₀ mode-effects₀ additions₀ at₀ variables relations constants modes values set-modes set-values added amounts conditions mode-conditions mode-effects additions at = length bytes - at
 
 body-start-requires : tie.Need-body-start-requires Inv-loop μ-loop
 body-start-requires c κs = search needs
@@ -48,8 +48,8 @@ shared-slice-read-byte c = search needs
 size-of-requires : tie.Need-size-of-requires Inv-loop μ-loop
 size-of-requires c κs = search needs
 
-add-next : tie.Need-add-next Inv-loop μ-loop
-add-next c = search needs
+add-at : tie.Need-add-at Inv-loop μ-loop
+add-at c = search needs
 
 put-condition-requires : tie.Need-put-condition-requires Inv-loop μ-loop
 put-condition-requires c κs = search needs
@@ -153,7 +153,7 @@ gather-restricted-spec =
     part-rest-end
     shared-slice-read-byte
     size-of-requires
-    add-next
+    add-at
     put-condition-requires
     loop-less
     loop-again

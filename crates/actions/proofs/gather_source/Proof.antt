@@ -15,15 +15,15 @@ use Rattle.actions.proofs.gather_source.Statement.{statement}
 use Rattle.actions.proofs.gather_source.Tie as tie
 
 abbrev Inv-loop : tie.InvT-loop
-Inv-loop bytes condition-variables₀ condition-relations₀ condition-constants₀ mode-condition-modes₀ mode-condition-values₀ mode-effect-modes₀ mode-effect-values₀ conditions₀ mode-conditions₀ mode-effects₀ numeric₀ at₀ condition-variables condition-relations condition-constants mode-condition-modes mode-condition-values mode-effect-modes mode-effect-values conditions mode-conditions mode-effects numeric at =
+Inv-loop bytes variables₀ relations₀ constants₀ modes₀ values₀ set-modes₀ set-values₀ conditions₀ mode-conditions₀ mode-effects₀ numeric₀ at₀ variables relations constants modes values set-modes set-values conditions mode-conditions mode-effects numeric at =
     Gathering bytes at
-    (FillsConditions conditionRoom condition-variables₀ condition-relations₀ condition-constants₀ conditions condition-variables condition-relations condition-constants)
-    (FillsPairs 0 modeConditionRoom mode-condition-modes₀ mode-condition-values₀ mode-conditions mode-condition-modes mode-condition-values)
-    (FillsPairs 0 modeEffectRoom mode-effect-modes₀ mode-effect-values₀ mode-effects mode-effect-modes mode-effect-values)
+    (FillsConditions conditionRoom variables₀ relations₀ constants₀ conditions variables relations constants)
+    (FillsPairs 0 modeConditionRoom modes₀ values₀ mode-conditions modes values)
+    (FillsPairs 0 modeEffectRoom set-modes₀ set-values₀ mode-effects set-modes set-values)
     (λ numbers. (effectWith numeric (numbers .effect) (numbers .terms) ≡ fittingEffect (decodeAction bytes .effect)) × (numeric .«term_count» ≤ termRoom))
 
 abbrev μ-loop : tie.MeasureT-loop
-μ-loop bytes condition-variables₀ condition-relations₀ condition-constants₀ mode-condition-modes₀ mode-condition-values₀ mode-effect-modes₀ mode-effect-values₀ conditions₀ mode-conditions₀ mode-effects₀ numeric₀ at₀ condition-variables condition-relations condition-constants mode-condition-modes mode-condition-values mode-effect-modes mode-effect-values conditions mode-conditions mode-effects numeric at = length bytes - at
+μ-loop bytes variables₀ relations₀ constants₀ modes₀ values₀ set-modes₀ set-values₀ conditions₀ mode-conditions₀ mode-effects₀ numeric₀ at₀ variables relations constants modes values set-modes set-values conditions mode-conditions mode-effects numeric at = length bytes - at
 
 no-effect-requires : tie.Need-no-effect-requires Inv-loop μ-loop
 no-effect-requires c κs = search needs
@@ -51,8 +51,8 @@ shared-slice-read-byte c = search needs
 size-of-requires : tie.Need-size-of-requires Inv-loop μ-loop
 size-of-requires c κs = search needs
 
-add-next : tie.Need-add-next Inv-loop μ-loop
-add-next c = search needs
+add-at : tie.Need-add-at Inv-loop μ-loop
+add-at c = search needs
 
 put-condition-requires : tie.Need-put-condition-requires Inv-loop μ-loop
 put-condition-requires c κs = search needs
@@ -150,7 +150,7 @@ gather-source-spec =
     part-rest-end
     shared-slice-read-byte
     size-of-requires
-    add-next
+    add-at
     put-condition-requires
     loop-less
     loop-again
