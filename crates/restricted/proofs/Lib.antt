@@ -1,0 +1,4 @@
+pub mod Tests
+pub mod Rooms
+pub mod Effects
+pub mod Stepping
