@@ -1,0 +1,4 @@
+pub mod Kept
+pub mod Numeric
+pub mod Places
+pub mod Views

@@ -1,0 +1,36 @@
+-- Where the actions of a file stand: the answers of the code in the words of the definitions.
+-- Assumes nothing.
+use Prim.Native.Nat.{ℕ, suc, _-_}
+use mathlib.Core.List.{List, [], _∷_}
+use lib.ListN.{length, take, drop}
+use Rattle.lists.specs.Answer.{Answer, given, refused}
+use Rattle.commands.specs.Table.{sizeOfByte}
+use Rattle.model.specs.ActionBytes.{edges, edgeOf}
+use Rattle.actions.specs.declared.Placed.{Placed}
+use Rattle.actions.specs.declared.Placed.the-variants.{At, Refused}
+
+-- the offsets of the commands A of a file, and last that of G
+abbrev pub edgesOf : List ℕ → List ℕ
+edgesOf file = edges (suc (length file)) 0 file
+
+-- the bytes from a start up to an end
+abbrev pub partOf : List ℕ → ℕ → ℕ → List ℕ
+partOf file start end = take (end - start) (drop start file)
+
+abbrev pub placedIs : List ℕ → Placed → Answer (List ℕ)
+placedIs file (At start end) = given (partOf file start end)
+placedIs file (Refused number place) = refused number place
+
+-- what is given; nothing where the answer is a refusal
+abbrev pub bytesGiven : Answer (List ℕ) → List ℕ
+bytesGiven (given bytes) = bytes
+bytesGiven (refused number place) = []
+
+-- the goal of a file with so many actions stands from its G, behind them, up to its Z, which is the last byte
+abbrev pub goalPart : List ℕ → ℕ → List ℕ
+goalPart file actions = partOf file (edgeOf file actions) (length file - 1)
+
+-- the offset behind the first command of a run of bytes, or 0 where there is none
+abbrev pub bodyStart : List ℕ → ℕ
+bodyStart [] = 0
+bodyStart (b ∷ s) = sizeOfByte b

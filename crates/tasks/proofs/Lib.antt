@@ -1,0 +1,3 @@
+pub mod Tests
+pub mod Taking
+pub mod Runs
