@@ -33,7 +33,7 @@ pub record CommandsLeft (s : List ℕ) (at : ℕ) (left : List Command) : Type 0
   pub enough : length s < most + at
   pub are : left ≡ commandsIn most (drop at s)
 
-size-positive : (b : ℕ) → 0 < sizeOfByte b
+pub size-positive : (b : ℕ) → 0 < sizeOfByte b
 unfolding sizeOfByte
 size-positive b = go (ltb (rowOf b) rows)
   where

@@ -1,4 +1,9 @@
+pub mod Accepted
+pub mod Distinct
 pub mod Edges
+pub mod Fits
 pub mod Gathering
+pub mod GoalBytes
 pub mod Kept
 pub mod NumericPart
+pub mod Parts

@@ -1,0 +1,190 @@
+-- Where the goal of an accepted file stands: its G is the edge behind its actions, and its bytes give the task's goal. And how many edges there are.
+-- Assumes nothing.
+use mathlib.Core.Path.{_≡_, refl, _∙_, sym, ap, subst, subst⁻¹}
+use mathlib.Core.Bool.{true, false}
+use mathlib.Core.List.{List, [], _∷_, _++_, append-assoc}
+use Prim.Native.Nat.{ℕ, zero, suc, _+_, _-_, _<_, _≤_}
+use native.Mathlib.Nat.{add-zero}
+use native.Mathlib.Omega.{arith}
+use lib.Dec.{leb, leb→le}
+use lib.ListN.{length, length-append, length-drop, take, drop, getD}
+use lib.Seq.{drop-drop, getD-drop, take-at}
+use borrow.Author.Tests.{ne-eqb}
+use Rattle.integers.specs.All.{All}
+use Rattle.integers.specs.Numbers.{Bytes}
+use Rattle.commands.specs.Table.{letterA, letterG, sizeOfByte}
+use Rattle.commands.specs.declared.Command.{Command}
+use Rattle.commands.specs.declared.Command.the-variants.{Variable, Start, Mode, Action, Condition, ModeCondition, ModeEffect, Add, Linear, Term, Quotient, Residue, Goal, End, Refused}
+use Rattle.commands.specs.Encoding.{byteOf, encode, encodeAll}
+use Rattle.model.specs.Limits.{Limits}
+use Rattle.model.specs.ReadingState.{ReadingState, Taken, Going, begin, goOn}
+use Rattle.model.specs.Rules.{allowed, testsOf, nextOf, onwards, ruleOf}
+use Rattle.model.specs.Reading.{verdictOf, commandsOf}
+use Rattle.model.specs.Decoding.{Draft, blank, before, beforeAll, draftOf}
+use Rattle.model.specs.Trail.{Trail}
+use Rattle.model.specs.ActionBytes.{edgeOf, commandsIn, decodeAction}
+use Rattle.model.proofs.CommandBytes.{Ok, command-encode, drop-encode}
+use Rattle.model.proofs.Walk.{count}
+use Rattle.model.proofs.ReadingLaws.{clash, holds, rule-none}
+use Rattle.model.proofs.AcceptedTrail.{Is, accepted-trail}
+use Rattle.model.proofs.FileBytes.{file-is-its-commands}
+use Rattle.actions.specs.Places.{edgesOf, goalPart}
+use Rattle.actions.proofs.Edges.{EdgesLeft, all-left, at-goal, at-action, at-other}
+use Rattle.actions.proofs.Gathering.{size-positive}
+
+-- ---- what matters of a command here: a command but A, G and Z changes neither the section, nor the actions, nor the goal
+record Plain (c : Command) : Type 0 where
+  goesOn : (p : ReadingState) → onwards c (nextOf p c) ≡ goOn (nextOf p c)
+  section : (p : ReadingState) → nextOf p c .section ≡ p .section
+  actions : (d : Draft) → before c d .actions ≡ d .actions
+  goal : (d : Draft) → before c d .goal ≡ d .goal
+  noA : byteOf c ≡ letterA → ⊥
+  noG : byteOf c ≡ letterG → ⊥
+
+data Kind (c : Command) : Type 0 where
+  plain : Plain c → Kind c
+  opens : c ≡ Action → Kind c
+  closes : c ≡ Goal → Kind c
+  never : ((l : Limits) (p : ReadingState) → allowed l p (byteOf c) ≡ true → ruleOf l p c .progress ≡ Going → ⊥) → Kind c
+
+kind : (c : Command) → Kind c
+unfolding testsOf nextOf
+kind (Variable x y w) = plain (record { goesOn = λ p. refl; section = λ p. refl; actions = λ d. refl; goal = λ d. refl; noA = λ e. omega (arith, e); noG = λ e. omega (arith, e) })
+kind (Start x) = plain (record { goesOn = λ p. refl; section = λ p. refl; actions = λ d. refl; goal = λ d. refl; noA = λ e. omega (arith, e); noG = λ e. omega (arith, e) })
+kind (Mode x y) = plain (record { goesOn = λ p. refl; section = λ p. refl; actions = λ d. refl; goal = λ d. refl; noA = λ e. omega (arith, e); noG = λ e. omega (arith, e) })
+kind Action = opens refl
+kind (Condition x y w) = plain (record { goesOn = λ p. refl; section = λ p. refl; actions = λ d. refl; goal = λ d. refl; noA = λ e. omega (arith, e); noG = λ e. omega (arith, e) })
+kind (ModeCondition x y) = plain (record { goesOn = λ p. refl; section = λ p. refl; actions = λ d. refl; goal = λ d. refl; noA = λ e. omega (arith, e); noG = λ e. omega (arith, e) })
+kind (ModeEffect x y) = plain (record { goesOn = λ p. refl; section = λ p. refl; actions = λ d. refl; goal = λ d. refl; noA = λ e. omega (arith, e); noG = λ e. omega (arith, e) })
+kind (Add x y) = plain (record { goesOn = λ p. refl; section = λ p. refl; actions = λ d. refl; goal = λ d. refl; noA = λ e. omega (arith, e); noG = λ e. omega (arith, e) })
+kind (Linear x y) = plain (record { goesOn = λ p. refl; section = λ p. refl; actions = λ d. refl; goal = λ d. refl; noA = λ e. omega (arith, e); noG = λ e. omega (arith, e) })
+kind (Term x y) = plain (record { goesOn = λ p. refl; section = λ p. refl; actions = λ d. refl; goal = λ d. refl; noA = λ e. omega (arith, e); noG = λ e. omega (arith, e) })
+kind (Quotient x y w) = plain (record { goesOn = λ p. refl; section = λ p. refl; actions = λ d. refl; goal = λ d. refl; noA = λ e. omega (arith, e); noG = λ e. omega (arith, e) })
+kind (Residue x y w) = plain (record { goesOn = λ p. refl; section = λ p. refl; actions = λ d. refl; goal = λ d. refl; noA = λ e. omega (arith, e); noG = λ e. omega (arith, e) })
+kind Goal = closes refl
+kind End = never (λ l p a g. let z : _≡_ {A = ℕ} 0 1 = cc in omega arith)
+kind (Refused n) = never (λ l p a g. clash (sym a))
+
+-- the commands that follow one that is taken
+onward : (l : Limits) (p : ReadingState) (c : Command) (cs : List Command) → onwards c (nextOf p c) ≡ goOn (nextOf p c) → ruleOf l p c .progress ≡ Going → Trail l (ruleOf l p c .state) cs → Trail l (nextOf p c) cs
+onward l p c cs n g t =
+    let (o, e) = rule-none p (testsOf l p c) (onwards c (nextOf p c)) g in
+    subst (λ (x : ReadingState). Trail l x cs) (ap (λ (x : Taken). x .state) (e ∙ n)) t
+
+-- no action follows G
+none-after : (l : Limits) (cs : List Command) (p : ReadingState) → p .section ≡ 3 → Trail l p cs → length (beforeAll cs blank .actions) ≡ 0
+unfolding testsOf nextOf
+none-after l [] p s t = refl
+none-after l (c ∷ cs) p s (a, g, t) = go (kind c) (λ q s′ t′. none-after l cs q s′ t′)
+  where
+    go : Kind c → ((q : ReadingState) → q .section ≡ 3 → Trail l q cs → length (beforeAll cs blank .actions) ≡ 0) → length (before c (beforeAll cs blank) .actions) ≡ 0
+    go (plain k) f = ap length (k .actions (beforeAll cs blank)) ∙ f (nextOf p c) (k .section p ∙ s) (onward l p c cs (k .goesOn p) g t)
+    go (opens e) f = absurd (omega (arith, leb→le (p .section) 2 (holds (subst (λ (d : Command). allowed l p (byteOf d) ≡ true) e a))))
+    go (closes e) f = absurd (omega (arith, leb→le (p .section) 2 (holds (subst (λ (d : Command). allowed l p (byteOf d) ≡ true) e a))))
+    go (never n) f = absurd (n l p a g)
+
+-- ---- the walk to G
+record Found (file : List ℕ) (left : List Command) (edges : List ℕ) : Type 0 where
+  place : ℕ
+  body : List Command
+  oks : All Ok body
+  bytes : drop place file ≡ encodeAll (Goal ∷ body) ++ encode End
+  last : (d : ℕ) → getD edges (length (beforeAll left blank .actions)) d ≡ place
+  long : length edges ≡ suc (length (beforeAll left blank .actions))
+  goal : beforeAll left blank .goal ≡ beforeAll body blank .current
+
+module _ (l : Limits) (file : List ℕ) where
+  find : (left : List Command) (p : ReadingState) (at : ℕ) (edges : List ℕ) → p .section ≤ 2 → Trail l p left → All Ok left → drop at file ≡ encodeAll left ++ encode End → EdgesLeft file at edges → Found file left edges
+  unfolding testsOf nextOf
+  find [] p at edges s t o w e = absurd (omega (arith, s, t))
+  find (c ∷ cs) p at edges s (a, g, t) (o, os) w e = go (kind c) (λ q at′ edges′ s′ t′ w′ e′. find cs q at′ edges′ s′ t′ os w′ e′)
+    where
+      w₁ : drop at file ≡ encode c ++ (encodeAll cs ++ encode End)
+      w₁ = w ∙ append-assoc (encode c) (encodeAll cs) (encode End)
+
+      there : at < length file
+      there = omega (arith, ap length w₁, length-drop at file)
+
+      byte : getD file at 0 ≡ byteOf c
+      byte = sym (getD-drop at file 0 0 ∙ ap (λ (i : ℕ). getD file i 0) (add-zero at)) ∙ ap (λ (z : List ℕ). getD z 0 0) w₁
+
+      size : ℕ
+      size = sizeOfByte (getD file at 0)
+
+      behind : drop (at + sizeOfByte (getD file at 0)) file ≡ encodeAll cs ++ encode End
+      behind = sym (drop-drop (sizeOfByte (getD file at 0)) at file) ∙ ap (drop (sizeOfByte (getD file at 0))) w₁ ∙ ap (λ (b : ℕ). drop (sizeOfByte b) (encode c ++ (encodeAll cs ++ encode End))) byte ∙ drop-encode c (encodeAll cs ++ encode End) o
+
+      Rest : Type 0
+      Rest = (q : ReadingState) (at′ : ℕ) (edges′ : List ℕ) → q .section ≤ 2 → Trail l q cs → drop at′ file ≡ encodeAll cs ++ encode End → EdgesLeft file at′ edges′ → Found file cs edges′
+
+      go : Kind c → Rest → Found file (c ∷ cs) edges
+      go (plain k) f =
+          let F : Found file cs edges = f (nextOf p c) (at + sizeOfByte (getD file at 0)) edges (omega (arith, s, k .section p)) (onward l p c cs (k .goesOn p) g t) behind
+          (at-other file at edges there (sizeOfByte (getD file at 0)) refl (size-positive (getD file at 0)) (λ q. k .noG (sym byte ∙ q)) (λ q. k .noA (sym byte ∙ q)) e) in
+          record {
+            place = F .place;
+            body = F .body;
+            oks = F .oks;
+            bytes = F .bytes;
+            last = λ d. ap (λ (n : ℕ). getD edges n d) (ap length (k .actions (beforeAll cs blank))) ∙ F .last d;
+            long = F .long ∙ ap suc (sym (ap length (k .actions (beforeAll cs blank))));
+            goal = k .goal (beforeAll cs blank) ∙ F .goal;
+          }
+      go (opens q) f =
+          let (more, is, left) = at-action file at edges there (sizeOfByte (getD file at 0)) refl (size-positive (getD file at 0)) (byte ∙ ap byteOf q) e in
+          let F : Found file cs more = f (nextOf p Action) (at + sizeOfByte (getD file at 0)) more (omega arith) (onward l p Action cs refl (subst (λ (d : Command). ruleOf l p d .progress ≡ Going) q g) (subst (λ (d : Command). Trail l (ruleOf l p d .state) cs) q t)) behind left in
+          subst⁻¹ (λ (d : Command). Found file (d ∷ cs) edges) q (record {
+            place = F .place;
+            body = F .body;
+            oks = F .oks;
+            bytes = F .bytes;
+            last = λ d. ap (λ (z : List ℕ). getD z (suc (length (beforeAll cs blank .actions))) d) is ∙ F .last d;
+            long = ap length is ∙ ap suc (F .long);
+            goal = F .goal;
+          })
+      go (closes q) f =
+          let is : edges ≡ at ∷ [] = at-goal file at edges there (byte ∙ ap byteOf q) e in
+          let none : length (beforeAll cs blank .actions) ≡ 0 = none-after l cs (nextOf p Goal) refl (onward l p Goal cs refl (subst (λ (d : Command). ruleOf l p d .progress ≡ Going) q g) (subst (λ (d : Command). Trail l (ruleOf l p d .state) cs) q t)) in
+          subst⁻¹ (λ (d : Command). Found file (d ∷ cs) edges) q (record {
+            place = at;
+            body = cs;
+            oks = os;
+            bytes = w ∙ ap (λ (d : Command). encodeAll (d ∷ cs) ++ encode End) q;
+            last = λ d. ap (λ (z : List ℕ). getD z (length (beforeAll cs blank .actions)) d) is ∙ ap (λ (n : ℕ). getD (at ∷ []) n d) none;
+            long = ap length is ∙ ap suc (sym none);
+            goal = refl;
+          })
+      go (never n) f = absurd (n l p a g)
+
+-- ---- the bytes of commands are read as those commands
+in-all : (cs : List Command) (n : ℕ) → length cs ≤ n → All Ok cs → commandsIn n (encodeAll cs) ≡ cs
+unfolding commandsIn
+in-all [] zero h o = refl
+in-all [] (suc n) h o = refl
+in-all (c ∷ cs) zero h o = absurd (omega (arith, h))
+in-all (c ∷ cs) (suc n) h (o, os) =
+    rw (ne-eqb (length (encode c ++ encodeAll cs)) 0 (λ e. omega (arith, e)), command-encode c (encodeAll cs) o, drop-encode c (encodeAll cs) o) (ap (λ (z : List Command). c ∷ z) (in-all cs n (omega (arith, h)) os))
+
+module _ (l : Limits) (file : List ℕ) (b : Bytes file) (h : Is (verdictOf l file)) where
+  found : Found file (commandsOf l file) (edgesOf file)
+  found =
+      let (w, o) = file-is-its-commands l file b h in
+      find l file (commandsOf l file) begin 0 (edgesOf file) (omega arith) (accepted-trail l file h .0) o w (all-left file)
+
+  -- as many edges as actions, and one more
+  pub edges-counted : length (edgesOf file) ≡ suc (length (draftOf (commandsOf l file) .actions))
+  edges-counted = found .long
+
+  -- the bytes from G up to Z give the task's goal
+  pub goal-decodes : draftOf (commandsOf l file) .goal ≡ decodeAction (goalPart file (length (draftOf (commandsOf l file) .actions)))
+  unfolding decodeAction edgeOf
+  goal-decodes =
+      let F : Found file (commandsOf l file) (edgesOf file) = found in
+      let all : List ℕ = encodeAll (Goal ∷ F .body) in
+      let from : edgeOf file (length (draftOf (commandsOf l file) .actions)) ≡ F .place = F .last (length file) in
+      let n : length (encodeAll (Goal ∷ F .body)) ≡ (length file - 1) - F .place = omega (arith, ap length (F .bytes), length-drop (F .place) file, length-append (encodeAll (Goal ∷ F .body)) (encode End)) in
+      let part : goalPart file (length (draftOf (commandsOf l file) .actions)) ≡ encodeAll (Goal ∷ F .body)
+      = ap (λ (at : ℕ). take ((length file - 1) - at) (drop at file)) from ∙ ap (take ((length file - 1) - F .place)) (F .bytes) ∙ take-at (encodeAll (Goal ∷ F .body)) (encode End) ((length file - 1) - F .place) n in
+      F .goal
+      ∙ ap (λ (cs : List Command). beforeAll (drop 1 cs) blank .current)
+      (sym (in-all (Goal ∷ F .body) (suc (length (goalPart file (length (draftOf (commandsOf l file) .actions))))) (omega (arith, ap length part, count (F .body))) (tt, F .oks)) ∙ ap (commandsIn (suc (length (goalPart file (length (draftOf (commandsOf l file) .actions)))))) (sym part))
