@@ -98,7 +98,8 @@ module _ {letters file : List ℕ} {at : ℕ} {left : List Command} (e : Left le
       go zero n q = absurd (omega arith)
       go (suc most) n q = (commandsWith letters most (drop (at + size) file), q ∙ rw (first file at, b, ← is, drop-drop size at file), record { most = most; enough = omega arith; are = refl })
 
--- ---- the walk: `some` are the variables of a draft, and `store` stores one of them; a₀ and m₀ are the arrays at the start of the walk, a and m at an offset
+-- ---- the walk: `some` are the variables of a draft, and `store` stores one of them. a₀ and m₀ are the arrays when the walk begins, a and m
+-- when it has come to an offset
 pub record Walk {A X : Type 0} (l : Limits) (store : A → X → A) (some : Draft → List X) (file : List ℕ) (a₀ : A) (m₀ : Modes) (a : A) (m : Modes) (at : ℕ) : Type 0 where
   pub left : List Command
   pub there : Left (declaring l) file at left

@@ -40,13 +40,13 @@ fn put_variable(
     ensures { λ r. ⌜ variables r (now (lower .exit)) (now (upper .exit)) (now (start .exit))
         ≡ storeVariables (variables count (now (lower .entry)) (now (upper .entry)) (now (start .entry))) (declaredBy (commandAt (now (rest .entry))) .variables) ⌝ }
 {
-    let Command::Variable(least, most, first) = commands::read_variable(rest) else {
+    let Command::Variable(lower_bits, upper_bits, start_bits) = commands::read_variable(rest) else {
         return count;
     };
     if count < SOURCE_VARIABLES {
-        lower[count] = integers::signed(least);
-        upper[count] = integers::signed(most);
-        start[count] = integers::signed(first);
+        lower[count] = integers::signed(lower_bits);
+        upper[count] = integers::signed(upper_bits);
+        start[count] = integers::signed(start_bits);
         return count + 1;
     }
     count
@@ -57,11 +57,11 @@ fn put_start(rest: &[u8], start: &mut [i64; RESTRICTED_VARIABLES], count: usize)
     requires { ⌜ (0 < length (now rest)) × (getD (now rest) 0 0 ≡ letterU) ⌝ }
     ensures { λ r. ⌜ starts r (now (start .exit)) ≡ storeStarts (starts count (now (start .entry))) (declaredBy (commandAt (now (rest .entry))) .starts) ⌝ }
 {
-    let Command::Start(first) = commands::read_start(rest) else {
+    let Command::Start(bits) = commands::read_start(rest) else {
         return count;
     };
     if count < RESTRICTED_VARIABLES {
-        start[count] = integers::signed(first);
+        start[count] = integers::signed(bits);
         return count + 1;
     }
     count

@@ -16,8 +16,8 @@ use Rattle.declarations.proofs.put_start.Tie as tie
 read-start-requires : tie.Need-read-start-requires
 read-start-requires c κs = search needs
 
-enum-known-first : tie.Need-enum-known-first
-enum-known-first c = search needs
+enum-known-bits : tie.Need-enum-known-bits
+enum-known-bits c = search needs
 
 returns : tie.Need-returns
 returns c =
@@ -40,7 +40,7 @@ returns-2 : tie.Need-returns-2
 returns-2 c =
     let k = c .before .before .before in
     let r = k .before .before in
-    let e : commandAt (now (r .before .before .args .rest)) ≡ Start (k .first .given .0 .0) = sym (r .read-start .ensures) ∙ k .first .given .1 in
+    let e : commandAt (now (r .before .before .args .rest)) ≡ Start (k .bits .given .0 .0) = sym (r .read-start .ensures) ∙ k .bits .given .1 in
     let start : SFits w64 (c .signed .result) = sfits-of (c .signed .ok) in
     rw (toZ-ofZ start ∙ c .signed .ensures, e, lt-ltb _ _ (c .before .if1 .taken))
 
@@ -48,7 +48,7 @@ returns-3 : tie.Need-returns-3
 returns-3 c =
     let k = c .before .before in
     let r = k .before .before in
-    let e : commandAt (now (r .before .before .args .rest)) ≡ Start (k .first .given .0 .0) = sym (r .read-start .ensures) ∙ k .first .given .1 in
+    let e : commandAt (now (r .before .before .args .rest)) ≡ Start (k .bits .given .0 .0) = sym (r .read-start .ensures) ∙ k .bits .given .1 in
     rw (e, le-ltb _ _ (c .if1 .left))
 
 pub put-start-spec : {M : Type 1} → statement M
@@ -56,7 +56,7 @@ put-start-spec =
     tie.close
     (tie.spec
     read-start-requires
-    enum-known-first
+    enum-known-bits
     returns
     signed-requires
     mul-t8

@@ -16,8 +16,8 @@ use Rattle.declarations.proofs.put_variable.Tie as tie
 read-variable-requires : tie.Need-read-variable-requires
 read-variable-requires c κs = search needs
 
-enum-known-least : tie.Need-enum-known-least
-enum-known-least c = search needs
+enum-known-lower-bits : tie.Need-enum-known-lower-bits
+enum-known-lower-bits c = search needs
 
 returns : tie.Need-returns
 returns c =
@@ -58,7 +58,7 @@ returns-2 : tie.Need-returns-2
 returns-2 c =
     let k = c .before .before .before .before .before in
     let r = k .before .before in
-    let e : commandAt (now (r .before .before .args .rest)) ≡ Variable (k .least .given .0 .0) (k .least .given .0 .1 .0) (k .least .given .0 .1 .1 .0) = sym (r .read-variable .ensures) ∙ k .least .given .1 in
+    let e : commandAt (now (r .before .before .args .rest)) ≡ Variable (k .lower-bits .given .0 .0) (k .lower-bits .given .0 .1 .0) (k .lower-bits .given .0 .1 .1 .0) = sym (r .read-variable .ensures) ∙ k .lower-bits .given .1 in
     let lower : SFits w64 (c .before .before .signed .result) = sfits-of (c .before .before .signed .ok) in
     let upper : SFits w64 (c .before .signed2 .result) = sfits-of (c .before .signed2 .ok) in
     let start : SFits w64 (c .signed3 .result) = sfits-of (c .signed3 .ok) in
@@ -68,7 +68,7 @@ returns-3 : tie.Need-returns-3
 returns-3 c =
     let k = c .before .before in
     let r = k .before .before in
-    let e : commandAt (now (r .before .before .args .rest)) ≡ Variable (k .least .given .0 .0) (k .least .given .0 .1 .0) (k .least .given .0 .1 .1 .0) = sym (r .read-variable .ensures) ∙ k .least .given .1 in
+    let e : commandAt (now (r .before .before .args .rest)) ≡ Variable (k .lower-bits .given .0 .0) (k .lower-bits .given .0 .1 .0) (k .lower-bits .given .0 .1 .1 .0) = sym (r .read-variable .ensures) ∙ k .lower-bits .given .1 in
     rw (e, le-ltb _ _ (c .if1 .left))
 
 pub put-variable-spec : {M : Type 1} → statement M
@@ -76,7 +76,7 @@ put-variable-spec =
     tie.close
     (tie.spec
     read-variable-requires
-    enum-known-least
+    enum-known-lower-bits
     returns
     signed-requires
     mul-upper
