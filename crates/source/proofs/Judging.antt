@@ -30,7 +30,7 @@ use Rattle.model.proofs.StageWalk.{all-get}
 use Rattle.actions.specs.declared.Goal.{Goal}
 use Rattle.actions.specs.declared.SourceAction.{SourceAction as DecodedSource}
 use Rattle.actions.specs.Places.{goalPart}
-use Rattle.actions.specs.Views.{conditionRoom, modeConditionRoom, goalConditionsIs, goalModesIs, sourceActionIs, fittingSource}
+use Rattle.actions.specs.Views.{GoalDecoded, conditionRoom, modeConditionRoom, sourceActionIs, fittingSource}
 use Rattle.actions.proofs.Fits.{source-fits}
 use Rattle.actions.proofs.Accepted.{source-action-decoded, source-goal-conditions, source-goal-modes}
 use Rattle.declarations.specs.declared.Declared.{Declared}
@@ -98,18 +98,14 @@ module _ (file : List ℕ) (bytes : Bytes file) (t : SourceTask) (is : readSourc
     sizesAre = h .sizesAre;
   }
 
-  module _ (g : Goal) (count : ℕ) (c : count ≡ length (t .actions))
-      (cs : goalConditionsIs g ≡ take conditionRoom (decodeAction (goalPart file count) .conditions)) (ps : goalModesIs g ≡ take modeConditionRoom (decodeAction (goalPart file count) .modeConditions)) where
-    cs′ : goalConditionsIs g ≡ take conditionRoom (decodeAction (goalPart file (length (t .actions))) .conditions)
-    cs′ = cs ∙ ap (λ (n : ℕ). take conditionRoom (decodeAction (goalPart file n) .conditions)) c
-
-    ps′ : goalModesIs g ≡ take modeConditionRoom (decodeAction (goalPart file (length (t .actions))) .modeConditions)
-    ps′ = ps ∙ ap (λ (n : ℕ). take modeConditionRoom (decodeAction (goalPart file n) .modeConditions)) c
+  module _ (g : Goal) (count : ℕ) (c : count ≡ length (t .actions)) (decoded : GoalDecoded (goalPart file count) g) where
+    decoded′ : GoalDecoded (goalPart file (length (t .actions))) g
+    decoded′ = subst (λ (n : ℕ). GoalDecoded (goalPart file n) g) c decoded
 
     pub goal-is : (x : State) → goalHolds (goalModesIn g) (goalConditionsIn g) x ≡ sourceGoalHolds t x
     goal-is x = ap₂ (λ ps cs. goalHolds ps cs x)
-        (ap (take modeConditionRoom) (source-goal-modes file bytes t is g cs′ ps′) ∙ take-all modeConditionRoom (t .goalModes) (omega (arith, ok .goal .modeConditionsFew)))
-        (ap (take conditionRoom) (source-goal-conditions file bytes t is g cs′ ps′) ∙ take-all conditionRoom (t .goalConditions) (omega (arith, ok .goal .conditionsFew)))
+        (ap (take modeConditionRoom) (source-goal-modes file bytes t is g decoded′) ∙ take-all modeConditionRoom (t .goalModes) (omega (arith, ok .goal .modeConditionsFew)))
+        (ap (take conditionRoom) (source-goal-conditions file bytes t is g decoded′) ∙ take-all conditionRoom (t .goalConditions) (omega (arith, ok .goal .conditionsFew)))
 
 -- ---- the verdict
 last-is : (pr : Progress) (met : Bool) (steps : ℕ) (x : State) → withState (lastVerdict pr met steps) x ≡ onProgress pr (cond met (given (steps, x)) (refused 13 steps))

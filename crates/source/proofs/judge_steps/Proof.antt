@@ -63,7 +63,7 @@ returns c = let s = c .before .before .before .before .before .before .before .b
           let g = rw (c .before .before .before .before .before .goal-bytes .ensures) at (c .before .before .before .before .decode-goal .ensures) in
           rw (c .last-verdict .ensures)
           (judged-so t (planNumbers (now (s .args .plan))) (s .args .count) _ _ _ _ _ _ _ _ _ _ h r (c .before .before .before .before .before .before .run .ensures) _
-          (c .before .goal-holds .ensures ∙ goal-is file bytes t e (c .before .before .before .before .decode-goal .result) (s .args .count) n (g .0) (g .1) (declaredPart (c .before .before .before .before .before .before .before .before .before .before .before .before .before .read-source .result .variables) (c .before .before .before .before .before .before .before .before .before .before .before .before .before .read-source .result .modes) (state (c .before .before .before .before .before .before .run .last .1 .1 .1 .1 .1 .1 .1 .1 .1 .0) (c .before .before .before .before .before .before .run .last .1 .1 .1 .1 .1 .1 .1 .1 .1 .1 .0)))) (s .args .steps) (s .pre .1));
+          (c .before .goal-holds .ensures ∙ goal-is file bytes t e (c .before .before .before .before .decode-goal .result) (s .args .count) n g (declaredPart (c .before .before .before .before .before .before .before .before .before .before .before .before .before .read-source .result .variables) (c .before .before .before .before .before .before .before .before .before .before .before .before .before .read-source .result .modes) (state (c .before .before .before .before .before .before .run .last .1 .1 .1 .1 .1 .1 .1 .1 .1 .0) (c .before .before .before .before .before .before .run .last .1 .1 .1 .1 .1 .1 .1 .1 .1 .1 .0)))) (s .args .steps) (s .pre .1));
     }
 
 pub judge-steps-spec : {M : Type 1} → statement M
