@@ -1,12 +1,12 @@
 -- Effects as a loop makes them, one write after another; and that after them only what was written need be tested.
 -- Assumes nothing.
-use mathlib.Core.Path.{_≡_, refl, sym, ap, _∙_, subst}
+use mathlib.Core.Path.{_≡_, refl, sym, ap, ap₂, _∙_, subst}
 use Prim.Native.Nat.{ℕ, zero, suc, _+_, _*_, _≤_, _<_}
 use native.Mathlib.Omega.{arith}
 use mathlib.Core.Bool.{Bool, true, false, cond}
 use mathlib.Core.List.{List, [], _∷_, _++_, foldl}
 use lib.Dec.{eqb, ltb}
-use lib.ListN.{length, length-set, length-take, getD, set, take, drop}
+use lib.ListN.{length, length-append, length-set, length-take, take-append-drop, getD, set, take, drop}
 use lib.Seq.{getD-set-other, take-set-lt, drop-set-lt, set-out, length-take-le, getD-take}
 use lib.IntN.{ℤ, pos, natAbs, _+ℤ_}
 use borrow.Author.Tests.{eqb-true, eqb-false, ltb-true, lt-ltb, leb-true}
@@ -19,7 +19,7 @@ use Rattle.lists.specs.Loops.{every}
 use Rattle.lists.proofs.Loops.{Folded}
 use Rattle.model.specs.Steps.{addAll, setAll, valuesWithin, modesBelowSizes, integerAt, naturalAt, figure}
 use Rattle.restricted.specs.Parts.{belowAt}
-use Rattle.restricted.specs.Changes.{putSum, putMode, Changed}
+use Rattle.restricted.specs.Changes.{putSum, putMode, Changed, Beyond}
 use Rattle.restricted.proofs.Tests.{same-test, every-all, each-every, within-at, at-within, below-at, at-below}
 
 -- ---- the effects of an action, one after another
@@ -37,6 +37,21 @@ written n l i x h = record { is = take-set-lt n l i x h; rest = drop-set-lt n l 
 
 pub unwritten : {A : Type 0} (n : ℕ) (l : List A) (i : ℕ) (x : A) → n ≤ i → Changed n l l (set (take n l) i x)
 unwritten n l i x h = record { is = sym (set-out (take n l) i x (omega (arith, length-take n l))); rest = refl }
+
+pub beyond-same : {A : Type 0} {n : ℕ} {l : List A} → Beyond n l l
+beyond-same = record { rest = refl; long = refl }
+
+pub beyond-then : {A : Type 0} {n : ℕ} {l m k : List A} → Beyond n l m → Beyond n m k → Beyond n l k
+beyond-then a b = record { rest = b .rest ∙ a .rest; long = b .long ∙ a .long }
+
+pub changed-beyond : {A : Type 0} {n : ℕ} {old new front : List A} → Changed n old new front → length front ≡ length (take n old) → Beyond n old new
+changed-beyond {A} {n} {old} {new} {front} c e = record {
+  rest = c .rest;
+  long = split new ∙ ap₂ _+_ (ap length (c .is) ∙ e) (ap length (c .rest)) ∙ sym (split old);
+}
+  where
+    split : (l : List A) → length l ≡ length (take n l) + length (drop n l)
+    split l = ap length (sym (take-append-drop n l)) ∙ length-append (take n l) (drop n l)
 
 -- past the first n elements stands nothing
 pub past : {A : Type 0} (n : ℕ) (l : List A) (i : ℕ) (d : A) → n ≤ i → getD (take n l) i d ≡ d
@@ -114,3 +129,9 @@ effects-below n sizes es l z m before = rw (set-fold es l) (same-test _ _ forth 
         one : (i : ℕ) (b : Bool) → ltb i n ≡ b → cond b (ltb (naturalAt (foldl putMode l es) i) (naturalAt sizes i)) true ≡ true
         one i true q = below-at sizes (foldl putMode l es) (z ∙ sym (length-writes 0 setting es l ∙ m)) h i (omega (arith, ltb-true i n q, length-writes 0 setting es l))
         one i false q = refl
+
+pub add-length : (es : List (ℕ × ℤ)) (l : List ℤ) → length (addAll es l) ≡ length l
+add-length es l = ap length (add-fold es l) ∙ length-writes (pos 0) sum es l
+
+pub set-length : (es : List (ℕ × ℕ)) (l : List ℕ) → length (setAll es l) ≡ length l
+set-length es l = ap length (set-fold es l) ∙ length-writes 0 setting es l

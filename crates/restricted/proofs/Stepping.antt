@@ -29,7 +29,7 @@ use Rattle.restricted.specs.Parts.{additionsIn, modeEffectsIn, additionK
 use Rattle.restricted.specs.Changes.{stateOf, Changed, Applied, Took}
 use Rattle.restricted.specs.Step.{wholeIs, actionIs, stepOf, handedBack, stepped}
 use Rattle.restricted.proofs.Tests.{every-tabulate}
-use Rattle.restricted.proofs.Effects.{sums-within, effects-below}
+use Rattle.restricted.proofs.Effects.{beyond-same, changed-beyond, add-length, set-length, sums-within, effects-below}
 
 -- ---- after the effects: what the loops test is whether the state is sound
 module _ {n : ℕ} {values values′ : List ℤ} (count : ℕ) (variables : List ℕ) (amounts : List ℤ) where
@@ -95,7 +95,7 @@ amounts-tested count variables amounts = every-tabulate _ _ additionRoom count (
 
 module _ {n m : ℕ} {values : List ℤ} {modes : List ℕ} (sizes : List ℕ) (a : RestrictedAction) where
   stopped : none ≡ stepOf (take m sizes) (declaredPart n m (stateOf values modes)) a → Took n m values modes (stepOf (take m sizes) (declaredPart n m (stateOf values modes)) a) false values modes
-  stopped e = record { is = e; valuesRest = refl; modesRest = refl }
+  stopped e = record { is = e; valuesBeyond = beyond-same; modesBeyond = beyond-same }
 
   pub values-stop : valuesWithin figure (take n values) ≡ false → Took n m values modes (stepOf (take m sizes) (declaredPart n m (stateOf values modes)) a) false values modes
   values-stop e = stopped (stops-unsound (take m sizes) (declaredPart n m (stateOf values modes)) a (rw e))
@@ -115,12 +115,12 @@ module _ {n m : ℕ} {values : List ℤ} {modes : List ℕ} (sizes : List ℕ) (
       → Took n m values modes (stepOf (take m sizes) (declaredPart n m (stateOf values modes)) a) r values′ modes′
   went {r} {values′} {modes′} v w f h d = record {
     is = (λ i. cond (d .sound i) (some (stateOf (d .valuesAre .is i) (d .modesAre .is i))) none) ∙ sym (goes (take m sizes) (declaredPart n m (stateOf values modes)) a f h (ap₂ _&&_ v w));
-    valuesRest = d .valuesAre .rest;
-    modesRest = d .modesAre .rest;
+    valuesBeyond = changed-beyond (d .valuesAre) (add-length (a .additions) (take n values));
+    modesBeyond = changed-beyond (d .modesAre) (set-length (a .modeEffects) (take m modes));
   }
 
 -- ---- past the last element nothing is left
-none-left : {A : Type 0} (n : ℕ) (l : List A) → length l ≤ n → drop n l ≡ []
+pub none-left : {A : Type 0} (n : ℕ) (l : List A) → length l ≤ n → drop n l ≡ []
 none-left zero [] h = refl
 none-left zero (x ∷ l) h = absurd (omega arith)
 none-left (suc n) [] h = refl
@@ -151,10 +151,10 @@ handed : {n m : ℕ} {values values′ : List ℤ} {modes modes′ : List ℕ} {
 handed {n} {m} {values} {values′} {modes} {modes′} t = (λ i. (true, stateOf (v i) (w i))) ∙ ap (handedBack n m (stateOf values modes)) (t .is)
   where
     v : values′ ≡ take n values′ ++ drop n values
-    v = sym (take-append-drop n values′) ∙ ap (λ (l : List ℤ). take n values′ ++ l) (t .valuesRest)
+    v = sym (take-append-drop n values′) ∙ ap (λ (l : List ℤ). take n values′ ++ l) (t .valuesBeyond .rest)
 
     w : modes′ ≡ take m modes′ ++ drop m modes
-    w = sym (take-append-drop m modes′) ∙ ap (λ (l : List ℕ). take m modes′ ++ l) (t .modesRest)
+    w = sym (take-append-drop m modes′) ∙ ap (λ (l : List ℕ). take m modes′ ++ l) (t .modesBeyond .rest)
 
 module _ (h : Shape) (x : StateByValue) (a : DecodedRestricted) {n m : ℕ} (ns : n ≡ min (h .variables) 64) (ms : m ≡ min (h .modes) 8)
     (values : length (x .values) ≡ 64) (modes : length (x .modes) ≡ 8) (sizes : length (h .sizes) ≡ 8) where

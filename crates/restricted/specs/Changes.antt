@@ -28,6 +28,11 @@ pub record Changed {A : Type 0} (n : ℕ) (old new front : List A) : Type 0 wher
   pub is : take n new ≡ front
   pub rest : drop n new ≡ drop n old
 
+-- it is as long as before, and past the first n elements the same
+pub record Beyond {A : Type 0} (n : ℕ) (old new : List A) : Type 0 where
+  pub rest : drop n new ≡ drop n old
+  pub long : length new ≡ length old
+
 -- what the additions ask of n values: that every value lies within the figure, and every amount within the constants
 pub record CanAdd (n : ℕ) (values : List ℤ) (additions : List (ℕ × ℤ)) : Type 0 where
   pub room : n ≤ 64
@@ -66,5 +71,5 @@ pub record Applied (n m : ℕ) (sizes : List ℕ) (values : List ℤ) (modes : L
 -- left open
 pub record Took (n m : ℕ) (values : List ℤ) (modes : List ℕ) (after : Option State) (r : Bool) (values′ : List ℤ) (modes′ : List ℕ) : Type 0 where
   pub is : cond r (some (declaredPart n m (stateOf values′ modes′))) none ≡ after
-  pub valuesRest : drop n values′ ≡ drop n values
-  pub modesRest : drop m modes′ ≡ drop m modes
+  pub valuesBeyond : Beyond n values values′
+  pub modesBeyond : Beyond m modes modes′

@@ -1,3 +1,4 @@
 pub mod Parts
 pub mod Changes
 pub mod Step
+pub mod Judging
