@@ -3,10 +3,12 @@
 use mathlib.Core.Path.{_≡_, refl, sym, ap, _∙_}
 use Prim.Native.Nat.{ℕ, suc, _+_, _*_, _≤_, _<_}
 use native.Mathlib.Omega.{arith}
-use native.Mathlib.Nat.{mul-le-mul}
+use native.Mathlib.Nat.{mul-le-mul, div-le-self}
 use mathlib.Core.Bool.{Bool, true, false, not, _&&_}
 use lib.Dec.{leb}
-use lib.IntN.{ℤ, pos, natAbs, _+ℤ_, _*ℤ_}
+use lib.IntN.{ℤ, pos, negsuc, natAbs, _+ℤ_, _*ℤ_}
+use Rattle.integers.specs.Division.{unitLess, sign, floor, quotientOf, residueOf}
+use Rattle.integers.proofs.Division.{euclid}
 use borrow.Author.Tests.{leb-true, leb-false}
 use mir.Syntax.{w64}
 use mir.Val.{SFits}
@@ -81,3 +83,36 @@ module _ (v : ℕ → ℤ) where
 
   pub division-by : (t y : ℕ) (c : ℤ) → effectFits (quotientEffect t y c) v ≡ true → Within 2000000000000000 c × (0 < natAbs c)
   division-by t y c e = divisor c (and-right (small (v t) && small (v y)) (divides c) e)
+
+-- ---- the sizes of a quotient and a residue
+floor-small : (y : ℤ) (u : ℕ) → natAbs (floor y u) ≤ natAbs y
+floor-small (pos n) u = div-le-self n (suc u)
+floor-small (negsuc n) u = let h = div-le-self n (suc u) in omega arith
+
+sign-one : (c : ℤ) → natAbs (sign c) ≡ 1
+sign-one (pos n) = refl
+sign-one (negsuc n) = refl
+
+pub quotient-small : (y c : ℤ) → natAbs (quotientOf y c) ≤ natAbs y
+quotient-small y c = rw (mul-abs (floor y (unitLess c)) (sign c), sign-one c) (omega (arith, floor-small y (unitLess c)))
+
+pub residue-small : (y c : ℤ) → 0 < natAbs c → natAbs (residueOf y c) < natAbs c
+residue-small y c h = let e = euclid y c h in omega (ints, e .high, e .low, abs (residueOf y c))
+
+module _ (t y c : ℤ) (e : ((small t && small y) && divides c) ≡ true) where
+  pub priced-target : natAbs t ≤ 10_000
+  priced-target = first t y (and-left (small t && small y) (divides c) e)
+
+  pub priced-operand : natAbs y ≤ 10_000
+  priced-operand = second t y (and-left (small t && small y) (divides c) e)
+
+  pub priced-by : Within 2000000000000000 c × (0 < natAbs c)
+  priced-by = divisor c (and-right (small t && small y) (divides c) e)
+
+  pub priced-quotient : natAbs (quotientOf y c) ≤ 10_000
+  priced-quotient = omega (arith, quotient-small y c, priced-operand)
+
+  pub priced-residue : natAbs (residueOf y c) ≤ 10_000
+  priced-residue =
+      let h = small-is c (and-left (small c) (not (withinLimit 0 c)) (and-right (small t && small y) (divides c) e)) in
+      omega (arith, residue-small y c (priced-by .1), h)
