@@ -14,14 +14,14 @@ use mathlib.Core.Logic.{_⊎_, inl, inr}
 use types.Run.{OneOf}
 use Rattle.commands.specs.Table.{rows, rowAt, rowOf, sizeOfRow, sizeOfByte, letterA, letterC, letterP, letterE, letterG, plusSign}
 use Rattle.commands.specs.Reading.{commandAt, readRow}
-use Rattle.commands.specs.Encoding.{NoRefusal, byteOf}
+use Rattle.commands.specs.Encoding.{byteOf, NoRefusal}
 use Rattle.commands.specs.declared.Command.{Command}
 use Rattle.commands.specs.declared.Command.the-variants.{Variable, Start, Mode, Action, Condition, ModeCondition, ModeEffect, Add, Linear, Term, Quotient, Residue, Goal, End, Refused}
 use Rattle.commands.proofs.Known.{read-as, whole-as}
+use Rattle.commands.proofs.Encoding.{byte-read}
 use Rattle.model.specs.Tasks.{NumericCondition, Effect}
 use Rattle.model.specs.Decoding.{Part, emptyPart, Draft, blank, inFront, before, beforeAll}
 use Rattle.model.specs.ActionBytes.{commandsIn, decodeAction}
-use Rattle.commands.proofs.Encoding.{byte-read}
 use Rattle.actions.specs.Kept.{givenBy}
 use Rattle.actions.specs.Places.{bodyStart}
 

@@ -15,7 +15,7 @@ use Rattle.integers.specs.Numbers.{Bytes}
 use Rattle.commands.specs.Table.{letterA, letterG, sizeOfByte}
 use Rattle.commands.specs.declared.Command.{Command}
 use Rattle.commands.specs.declared.Command.the-variants.{Variable, Start, Mode, Action, Condition, ModeCondition, ModeEffect, Add, Linear, Term, Quotient, Residue, Goal, End, Refused}
-use Rattle.commands.specs.Encoding.{Fits, byteOf, encode, encodeAll}
+use Rattle.commands.specs.Encoding.{byteOf, encode, encodeAll, Fits}
 use Rattle.model.specs.Limits.{Limits}
 use Rattle.model.specs.ReadingState.{ReadingState, Taken, Going, begin, goOn}
 use Rattle.model.specs.Rules.{allowed, testsOf, nextOf, onwards, ruleOf}
@@ -87,7 +87,7 @@ none-after l (c ∷ cs) p s (a, g, t) = go (kind c) (λ q s′ t′. none-after 
 record Found (file : List ℕ) (left : List Command) (edges : List ℕ) : Type 0 where
   place : ℕ
   body : List Command
-  oks : All Fits body
+  fit : All Fits body
   bytes : drop place file ≡ encodeAll (Goal ∷ body) ++ encode End
   last : (d : ℕ) → getD edges (length (beforeAll left blank .actions)) d ≡ place
   long : length edges ≡ suc (length (beforeAll left blank .actions))
@@ -124,7 +124,7 @@ module _ (l : Limits) (file : List ℕ) where
           record {
             place = F .place;
             body = F .body;
-            oks = F .oks;
+            fit = F .fit;
             bytes = F .bytes;
             last = λ d. ap (λ (n : ℕ). getD edges n d) (ap length (k .actions (beforeAll cs blank))) ∙ F .last d;
             long = F .long ∙ ap suc (sym (ap length (k .actions (beforeAll cs blank))));
@@ -136,7 +136,7 @@ module _ (l : Limits) (file : List ℕ) where
           subst⁻¹ (λ (d : Command). Found file (d ∷ cs) edges) q (record {
             place = F .place;
             body = F .body;
-            oks = F .oks;
+            fit = F .fit;
             bytes = F .bytes;
             last = λ d. ap (λ (z : List ℕ). getD z (suc (length (beforeAll cs blank .actions))) d) is ∙ F .last d;
             long = ap length is ∙ ap suc (F .long);
@@ -148,7 +148,7 @@ module _ (l : Limits) (file : List ℕ) where
           subst⁻¹ (λ (d : Command). Found file (d ∷ cs) edges) q (record {
             place = at;
             body = cs;
-            oks = os;
+            fit = os;
             bytes = w ∙ ap (λ (d : Command). encodeAll (d ∷ cs) ++ encode End) q;
             last = λ d. ap (λ (z : List ℕ). getD z (length (beforeAll cs blank .actions)) d) is ∙ ap (λ (n : ℕ). getD (at ∷ []) n d) none;
             long = ap length is ∙ ap suc (sym none);
@@ -187,4 +187,4 @@ module _ (l : Limits) (file : List ℕ) (b : Bytes file) (h : Is (verdictOf l fi
       = ap (λ (at : ℕ). take ((length file - 1) - at) (drop at file)) from ∙ ap (take ((length file - 1) - F .place)) (F .bytes) ∙ take-at (encodeAll (Goal ∷ F .body)) (encode End) ((length file - 1) - F .place) n in
       F .goal
       ∙ ap (λ (cs : List Command). beforeAll (drop 1 cs) blank .current)
-      (sym (in-all (Goal ∷ F .body) (suc (length (goalPart file (length (draftOf (commandsOf l file) .actions))))) (omega (arith, ap length part, count (F .body))) ((tt, tt), F .oks)) ∙ ap (commandsIn (suc (length (goalPart file (length (draftOf (commandsOf l file) .actions)))))) (sym part))
+      (sym (in-all (Goal ∷ F .body) (suc (length (goalPart file (length (draftOf (commandsOf l file) .actions))))) (omega (arith, ap length part, count (F .body))) ((tt, tt), F .fit)) ∙ ap (commandsIn (suc (length (goalPart file (length (draftOf (commandsOf l file) .actions)))))) (sym part))

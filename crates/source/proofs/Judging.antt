@@ -1,0 +1,164 @@
+-- What the judge's parts make of an accepted file.
+-- Assumes nothing.
+use mathlib.Core.Path.{_≡_, refl, sym, ap, ap₂, _∙_, subst}
+use Prim.Native.Nat.{ℕ, zero, suc, _%_, _≤_, _<_}
+use native.Mathlib.Omega.{arith}
+use mathlib.Core.Bool.{Bool, true, false, cond}
+use mathlib.Core.Option.{Option, none, some}
+use mathlib.Core.List.{List, [], _∷_}
+use lib.ListN.{length, getD, take, replicate, length-replicate}
+use lib.Dec.{eqb, ltb}
+use lib.Seq.{take-all}
+use lib.IntN.{ℤ, pos}
+use Rattle.integers.specs.Numbers.{Bytes}
+use Rattle.lists.specs.Answer.{Answer, given, refused, then}
+use Rattle.model.specs.Tasks.{SourceTask, SourceAction, State}
+use Rattle.model.specs.Limits.{sourceLimits}
+use Rattle.model.specs.TaskOk.{SourceActionOk, SourceTaskOk}
+use Rattle.model.specs.Reading.{Verdict as FileVerdict, Accepted, Rejected, verdictOf, commandsOf}
+use Rattle.model.specs.Decoding.{draftOf, sourceActionOf, sourceTaskOf, onVerdict, readSource}
+use Rattle.model.specs.ActionBytes.{actionPart, decodeAction}
+use Rattle.model.specs.Steps.{stepSource, sizesOf, sourceStart, goalHolds, sourceGoalHolds}
+use Rattle.model.specs.Judging.{judge, declaredPart, judgeSourceTask, judgeSource}
+use Rattle.model.specs.Plans.{readPlan, planNumbers}
+use Rattle.planbytes.specs.Counted.{countOf}
+use Rattle.model.proofs.ReadingLaws.{length-each}
+use Rattle.model.proofs.AcceptedTrail.{Is}
+use Rattle.model.proofs.AcceptedOk.{accepted-source-ok}
+use Rattle.model.proofs.Actions.{verdict-counts-actions}
+use Rattle.model.proofs.StageWalk.{all-get}
+use Rattle.actions.specs.declared.Goal.{Goal}
+use Rattle.actions.specs.declared.SourceAction.{SourceAction as DecodedSource}
+use Rattle.actions.specs.Places.{goalPart}
+use Rattle.actions.specs.Views.{GoalDecoded, conditionRoom, modeConditionRoom, sourceActionIs, fittingSource}
+use Rattle.actions.proofs.Fits.{source-fits}
+use Rattle.actions.proofs.Accepted.{source-action-decoded, source-goal-conditions, source-goal-modes}
+use Rattle.declarations.specs.declared.Declared.{Declared}
+use Rattle.declarations.specs.Holding.{SourceRoom, HoldsSource}
+use Rattle.source.specs.declared.Progress.{Progress}
+use Rattle.source.specs.declared.Progress.the-variants.{Through, Stopped}
+use Rattle.source.specs.declared.Judgement.{Judgement}
+use Rattle.source.specs.Step.{state, actionIs, wholeIs, Shaped}
+use Rattle.source.specs.Judged.{Decoded, Ready, Ran, onProgress, goalConditionsIn, goalModesIn, AcceptedWith, refusal, lastVerdict, withState, judged, StepsJudged}
+use Rattle.source.specs.declared.Verdict.{Verdict}
+
+-- the bytes of a slice
+pub bytes-of : (s : List ℕ) → ((i : ℕ) → getD s i 0 < 256) → Bytes s
+bytes-of [] h = tt
+bytes-of (b ∷ s) h = (h 0, bytes-of s (λ i. h (suc i)))
+
+-- an accepted file has a task, with so many actions
+module _ (file : List ℕ) (count : ℕ) where
+  abbrev pub task-of : SourceTask
+  task-of = sourceTaskOf (draftOf (commandsOf sourceLimits file))
+
+  pub accepted-task : AcceptedWith (verdictOf sourceLimits file) count → readSource file ≡ given task-of
+  accepted-task = go (verdictOf sourceLimits file)
+    where
+      go : (v : FileVerdict) → AcceptedWith v count → onVerdict v task-of ≡ given task-of
+      go (Accepted a b c) h = refl
+      go (Rejected a b) h = absurd h
+
+  pub counted-task : Bytes file → AcceptedWith (verdictOf sourceLimits file) count → (t : SourceTask) → readSource file ≡ given t → count ≡ length (t .actions)
+  counted-task bytes h t e = go (verdictOf sourceLimits file) refl h
+    where
+      same : task-of ≡ t
+      same = cc (accepted-task h, e)
+
+      go : (v : FileVerdict) → verdictOf sourceLimits file ≡ v → AcceptedWith v count → count ≡ length (t .actions)
+      go (Accepted a b c) q k =
+          sym k ∙ verdict-counts-actions sourceLimits file bytes (subst Is (sym q) tt) a b c q
+          ∙ sym (length-each sourceActionOf (draftOf (commandsOf sourceLimits file) .actions)) ∙ ap (λ (u : SourceTask). length (u .actions)) same
+      go (Rejected a b) q k = absurd k
+
+  pub few-actions : Bytes file → AcceptedWith (verdictOf sourceLimits file) count → count ≤ 32
+  few-actions bytes h =
+      let e = accepted-task h in
+      omega (arith, counted-task bytes h task-of e, accepted-source-ok file task-of e .actionsFew)
+
+-- ---- what is decoded is the task's
+module _ (file : List ℕ) (bytes : Bytes file) (t : SourceTask) (is : readSource file ≡ given t) where
+  ok : SourceTaskOk t
+  ok = accepted-source-ok file t is
+
+  pub action-is : (k : ℕ) (a : DecodedSource) → k < length (t .actions) → sourceActionIs a ≡ fittingSource (sourceActionOf (decodeAction (actionPart file k))) → _≡_ {A = Option SourceAction} (some (actionIs a)) (some (sourceActionIs a))
+  action-is k a h e =
+      let d = source-action-decoded file bytes t is k h a e in
+      ap some (source-fits (length (t .variables)) (sizesOf (t .modes)) (sourceActionIs a) (all-get (SourceActionOk sourceLimits (length (t .variables)) (sizesOf (t .modes))) (t .actions) k (sourceActionIs a) (ok .actionsOk) d)
+      (omega (arith, ok .modesFew, length-each (λ (m : ℕ × ℕ). m .0) (t .modes))))
+
+  pub ready : (count : ℕ) (table : List DecodedSource) (r : Declared) (lower upper start : List ℤ) (sizes values : List ℕ) → count ≡ length (t .actions) → Decoded file count table
+      → HoldsSource t r lower upper start sizes values → Ready t count table (r .variables) lower upper (r .modes) sizes
+  ready count table r lower upper start sizes values c d h = record {
+    ok = ok;
+    counted = c;
+    actionsAre = λ k e l. source-action-decoded file bytes t is k (omega (arith, c, l)) (getD table k e) (d k e l) ∙ sym (action-is k (getD table k e) (omega (arith, c, l)) (d k e l));
+    lowersAre = h .lowersAre;
+    uppersAre = h .uppersAre;
+    sizesAre = h .sizesAre;
+  }
+
+  module _ (g : Goal) (count : ℕ) (c : count ≡ length (t .actions)) (decoded : GoalDecoded (goalPart file count) g) where
+    decoded′ : GoalDecoded (goalPart file (length (t .actions))) g
+    decoded′ = subst (λ (n : ℕ). GoalDecoded (goalPart file n) g) c decoded
+
+    pub goal-is : (x : State) → goalHolds (goalModesIn g) (goalConditionsIn g) x ≡ sourceGoalHolds t x
+    goal-is x = ap₂ (λ ps cs. goalHolds ps cs x)
+        (ap (take modeConditionRoom) (source-goal-modes file bytes t is g decoded′) ∙ take-all modeConditionRoom (t .goalModes) (omega (arith, ok .goal .modeConditionsFew)))
+        (ap (take conditionRoom) (source-goal-conditions file bytes t is g decoded′) ∙ take-all conditionRoom (t .goalConditions) (omega (arith, ok .goal .conditionsFew)))
+
+-- ---- the verdict
+last-is : (pr : Progress) (met : Bool) (steps : ℕ) (x : State) → withState (lastVerdict pr met steps) x ≡ onProgress pr (cond met (given (steps, x)) (refused 13 steps))
+last-is Through true steps x = refl
+last-is Through false steps x = refl
+last-is (Stopped number place) met steps x = refl
+
+module _ (t : SourceTask) (p : List ℕ) (count : ℕ) (table : List DecodedSource) (r : Declared) (lower upper : List ℤ) (sizes : List ℕ) (values : List ℤ) (modes : List ℕ) (pr : Progress) (values′ : List ℤ) (modes′ : List ℕ) where
+  pub judged-so : HoldsSource t r lower upper values sizes modes → Ready t count table (r .variables) lower upper (r .modes) sizes → Ran p count table (r .variables) lower upper (r .modes) sizes values modes pr values′ modes′
+      → (met : Bool) → met ≡ sourceGoalHolds t (declaredPart (r .variables) (r .modes) (state values′ modes′)) → (steps : ℕ) → steps ≡ length p
+      → withState (lastVerdict pr met steps) (declaredPart (length (t .variables)) (length (t .modes)) (state values′ modes′)) ≡ judgeSourceTask t p
+  unfolding judge
+  judged-so h R N met m steps s =
+      ap₂ (λ (a b : ℕ). withState (lastVerdict pr met steps) (declaredPart a b (state values′ modes′))) (sym (h .variableCount)) (sym (h .modeCount))
+      ∙ last-is pr met steps (declaredPart (r .variables) (r .modes) (state values′ modes′))
+      ∙ ap₂ (λ (b : Bool) (n : ℕ). onProgress pr (cond b (given (n, declaredPart (r .variables) (r .modes) (state values′ modes′))) (refused 13 n))) m s
+      ∙ sym (N .judges t R (sourceGoalHolds t))
+      ∙ ap (judge (length (t .actions)) (stepSource t) (sourceGoalHolds t) 0 p) (h .startIs)
+
+pub zero-room : SourceRoom (replicate 8 (pos 0)) (replicate 8 (pos 0)) (replicate 8 (pos 0)) (replicate 4 0) (replicate 4 0)
+zero-room = record { lowerLong = length-replicate 8 (pos 0); upperLong = length-replicate 8 (pos 0); startLong = length-replicate 8 (pos 0); sizesLong = length-replicate {A = ℕ} 4 0; valuesLong = length-replicate {A = ℕ} 4 0 }
+
+-- ---- the plan
+pub steps-of : (plan : List ℕ) (n : ℕ) → given n ≡ countOf plan → (readPlan plan ≡ given (planNumbers plan)) × (n ≡ length (planNumbers plan))
+unfolding readPlan
+steps-of plan n = go (eqb (length plan % 2) 1) (ltb 2_000_000 (length plan))
+  where
+    go : (a b : Bool) → given n ≡ then (cond a (refused 10 (length plan)) (cond b (refused 10 (length plan)) (given (planNumbers plan)))) (λ p. given (length p))
+        → (cond a (refused 10 (length plan)) (cond b (refused 10 (length plan)) (given (planNumbers plan))) ≡ given (planNumbers plan)) × (n ≡ length (planNumbers plan))
+    go true b e = let z : _≡_ {A = ℕ} 0 1 = cc in absurd (omega arith)
+    go false true e = let z : _≡_ {A = ℕ} 0 1 = cc in absurd (omega arith)
+    go false false e = (refl, cc)
+
+pub no-steps : (plan : List ℕ) (number place : ℕ) → refused number place ≡ countOf plan → readPlan plan ≡ refused number place
+no-steps plan number place = go (readPlan plan)
+  where
+    go : (o : Answer (List ℕ)) → refused number place ≡ then o (λ p. given (length p)) → o ≡ refused number place
+    go (given p) e = let z : _≡_ {A = ℕ} 0 1 = cc in absurd (omega arith)
+    go (refused a b) e = let x : number ≡ a = cc in let y : place ≡ b = cc in cc
+
+-- ---- the three ways of judging
+module _ (file plan : List ℕ) (j : Judgement) where
+  pub when-rejected : (number place : ℕ) → Rejected number place ≡ verdictOf sourceLimits file → j .verdict ≡ refusal number place → judged (readSource file) j ≡ judgeSource file plan
+  when-rejected number place e h = subst (λ (v : FileVerdict). judged (onVerdict v (task-of file 0)) j ≡ then (onVerdict v (task-of file 0)) (λ t. then (readPlan plan) (judgeSourceTask t))) e (ap (λ (v : Verdict). withState v (declaredPart 0 0 (wholeIs (j .state)))) h)
+
+  pub when-no-plan : (count number place : ℕ) → AcceptedWith (verdictOf sourceLimits file) count → readPlan plan ≡ refused number place → j .verdict ≡ refusal number place → judged (readSource file) j ≡ judgeSource file plan
+  when-no-plan count number place a e h =
+      let t = task-of file count in
+      subst (λ (o : Answer SourceTask). judged o j ≡ then o (λ t. then (readPlan plan) (judgeSourceTask t))) (sym (accepted-task file count a))
+      (ap (λ (v : Verdict). withState v (declaredPart (length (t .variables)) (length (t .modes)) (wholeIs (j .state)))) h ∙ ap (λ (o : Answer (List ℕ)). then o (judgeSourceTask t)) (sym e))
+
+  pub when-judged : (count : ℕ) (p : List ℕ) → AcceptedWith (verdictOf sourceLimits file) count → readPlan plan ≡ given p → StepsJudged file p j → judged (readSource file) j ≡ judgeSource file plan
+  when-judged count p a e h =
+      let t = task-of file count in
+      subst (λ (o : Answer SourceTask). judged o j ≡ then o (λ t. then (readPlan plan) (judgeSourceTask t))) (sym (accepted-task file count a))
+      (h .meets t (accepted-task file count a) ∙ ap (λ (o : Answer (List ℕ)). then o (judgeSourceTask t)) (sym e))

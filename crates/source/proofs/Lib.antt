@@ -1,0 +1,8 @@
+pub mod Alone
+pub mod Judging
+pub mod Numbers
+pub mod Rows
+pub mod Running
+pub mod Sound
+pub mod Steps
+pub mod Trying

@@ -1,0 +1,98 @@
+use native.Mathlib.Omega.{arith}
+use mathlib.Core.Path.{_≡_, refl, sym, ap, _∙_}
+use Prim.Native.Nat.{ℕ, _+_, _-_, _≤_, _<_}
+use denote.Ref.{now}
+use mir.Facts.{toZ-ofZ}
+use mir.Syntax.{w64}
+use mir.Val.{SFits, toZ}
+use borrow.Author.Tests.{not-true, not-false, lt-ltb, le-ltb}
+use mathlib.Core.Bool.{Bool, true, false, cond, _&&_}
+use lib.IntN.{ℤ, pos}
+use lib.ListN.{length, getD, take, drop}
+use Rattle.lists.specs.Each.{tabulate}
+use Rattle.lists.specs.Loops.{every}
+use Rattle.model.specs.Steps.{integerAt, naturalAt}
+use Rattle.source.proofs.Rows.{Left, left-start, left-next, left-none, left-pass, left-stop, row-tabulate, row-room, row-terms}
+use Rattle.integers.specs.Relation.{between}
+use borrow.Author.Needs.{needs}
+use Rattle.source.proofs.values_between.Statement.{statement}
+use Rattle.source.proofs.values_between.Tie as tie
+use Rattle.source.proofs.values_between.Reads as reads
+use Rattle.source.proofs.values_between.Lts as lts
+use Rattle.integers.proofs.is_between.Reads as is-between-reads
+
+abbrev Inv-loop : tie.InvT-loop
+Inv-loop values n lower upper i₀ i = Left (tabulate n (λ j. between (integerAt lower j) (integerAt upper j) (integerAt values j))) n (λ j. between (integerAt lower j) (integerAt upper j) (integerAt values j)) i (every (λ b. b)) (every (λ b. b) (tabulate n (λ j. between (integerAt lower j) (integerAt upper j) (integerAt values j))))
+
+abbrev μ-loop : tie.MeasureT-loop
+μ-loop values n lower upper i₀ i = n - i
+
+loop-holds : tie.Need-loop-holds Inv-loop μ-loop
+loop-holds c = left-start (every (λ b. b)) (row-tabulate _ _)
+
+mul-is-between : tie.Need-mul-is-between Inv-loop μ-loop
+mul-is-between c = search (needs, arith)
+
+element-copy-out-is-between : tie.Need-element-copy-out-is-between Inv-loop μ-loop
+element-copy-out-is-between c = search (needs, arith)
+
+mul-is-between-2 : tie.Need-mul-is-between-2 Inv-loop μ-loop
+mul-is-between-2 c = search (needs, arith)
+
+element-copy-out-is-between-2 : tie.Need-element-copy-out-is-between-2 Inv-loop μ-loop
+element-copy-out-is-between-2 c = search (needs, arith)
+
+mul-is-between-3 : tie.Need-mul-is-between-3 Inv-loop μ-loop
+mul-is-between-3 c = search (needs, arith)
+
+element-copy-out-is-between-3 : tie.Need-element-copy-out-is-between-3 Inv-loop μ-loop
+element-copy-out-is-between-3 c = search (needs, arith)
+
+is-between-requires : tie.Need-is-between-requires Inv-loop μ-loop
+is-between-requires c κs = search needs
+
+-- what one turn tests
+turn : (c : tie.After-is-between Inv-loop μ-loop) → let h = c .before .before .before .before in let s = h .before .before in
+    between (integerAt (now (s .args .lower)) (h .before .loop .i)) (integerAt (now (s .args .upper)) (h .before .loop .i)) (integerAt (now (s .args .values)) (h .before .loop .i)) ≡ c .is-between .result
+turn c =
+    let h = c .before .before .before .before in
+    let s = h .before .before in
+    let a : SFits w64 (integerAt (now (s .args .lower)) (h .before .loop .i)) = search needs in
+    let x : SFits w64 (integerAt (now (s .args .values)) (h .before .loop .i)) = search needs in
+    let b : SFits w64 (integerAt (now (s .args .upper)) (h .before .loop .i)) = search needs in
+    sym (simp (toZ-ofZ, a, x, b) at (c .is-between .ensures))
+
+returns : tie.Need-returns Inv-loop μ-loop
+returns c = let h = c .before .before .before .before .before in left-stop (h .before .loop .inv) (h .loop-test .taken) _ (λ rest. refl) (turn (c .before) ∙ not-true _ (c .if1 .taken))
+
+add-i : tie.Need-add-i Inv-loop μ-loop
+add-i c = search (needs, arith)
+
+loop-less : tie.Need-loop-less Inv-loop μ-loop
+loop-less c = omega arith
+
+loop-again : tie.Need-loop-again Inv-loop μ-loop
+loop-again c = let h = c .before .before .before .before .before in left-pass (h .before .loop .inv) (h .loop-test .taken) _ (λ rest. refl) (turn (c .before) ∙ not-false _ (c .if1 .left))
+
+returns-2 : tie.Need-returns-2 Inv-loop μ-loop
+returns-2 c = left-none (c .before .loop .inv) (c .loop-test .left)
+
+pub values-between-spec : {M : Type 1} → statement M
+values-between-spec =
+    tie.close
+    (tie.spec
+    Inv-loop
+    μ-loop
+    loop-holds
+    mul-is-between
+    element-copy-out-is-between
+    mul-is-between-2
+    element-copy-out-is-between-2
+    mul-is-between-3
+    element-copy-out-is-between-3
+    is-between-requires
+    returns
+    add-i
+    loop-less
+    loop-again
+    returns-2)

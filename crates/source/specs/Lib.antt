@@ -1,0 +1,5 @@
+pub mod Alone
+pub mod Judged
+pub mod Parts
+pub mod Prices
+pub mod Step
