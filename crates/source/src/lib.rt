@@ -70,7 +70,7 @@ pub enum Outcome {
     Put(u8, i64),
 }
 
-fn lesser(a: usize, b: usize) -> usize
+pub fn lesser(a: usize, b: usize) -> usize
     ensures { λ r. ⌜ r ≡ min a b ⌝ }
 {
     if a < b { a } else { b }
@@ -83,7 +83,7 @@ fn wide(x: u8) -> usize
 }
 
 // The value of a variable, of n; 0 where it is not declared.
-fn value_at(values: &[i64; VARIABLES], n: usize, variable: u8) -> i64
+pub fn value_at(values: &[i64; VARIABLES], n: usize, variable: u8) -> i64
     requires { ⌜ n ≤ 8 ⌝ }
     ensures { λ r. ⌜ r ≡ integerAt (take n (now (values .entry))) variable ⌝ }
 {
@@ -95,7 +95,7 @@ fn value_at(values: &[i64; VARIABLES], n: usize, variable: u8) -> i64
 }
 
 // The value of a mode, of n; 0 where it is not declared.
-fn mode_at(modes: &[u16; MODES], n: usize, mode: u8) -> u16
+pub fn mode_at(modes: &[u16; MODES], n: usize, mode: u8) -> u16
     requires { ⌜ n ≤ 4 ⌝ }
     ensures { λ r. ⌜ r ≡ naturalAt (take n (now (modes .entry))) mode ⌝ }
 {
@@ -107,7 +107,7 @@ fn mode_at(modes: &[u16; MODES], n: usize, mode: u8) -> u16
 }
 
 // Whether every C of an action or goal holds, in a task with n variables.
-fn conditions_hold<'a>(
+pub fn conditions_hold<'a>(
     values: &[i64; VARIABLES],
     n: usize,
     count: usize,
@@ -131,7 +131,7 @@ fn conditions_hold<'a>(
 }
 
 // Whether every P of an action or goal holds, in a task with n modes.
-fn modes_hold<'a>(
+pub fn modes_hold<'a>(
     modes: &[u16; MODES],
     n: usize,
     count: usize,
@@ -259,7 +259,7 @@ fn division_fits(target: i64, operand: i64, c: i64) -> bool
 }
 
 // Whether all that an effect reads does, so that its value and its price can be worked out in 64 bits.
-fn effect_fits(
+pub fn effect_fits(
     values: &[i64; VARIABLES],
     n: usize,
     effect: Effect,
@@ -306,7 +306,7 @@ fn plus_term(z: i64, value: i64, weight: i64) -> i64
 }
 
 // What an L gives.
-fn linear_of(values: &[i64; VARIABLES], n: usize, c: i64, count: usize, terms: [Term; TERMS]) -> i64
+pub fn linear_of(values: &[i64; VARIABLES], n: usize, c: i64, count: usize, terms: [Term; TERMS]) -> i64
     requires { ⌜ (n ≤ 8) × (small c ≡ true) × (every (termFits (integerAt (take n (now values)))) (termsIn count terms) ≡ true) ⌝ }
     ensures { λ r. ⌜ (r ≡ linear c (termsIn count terms) (integerAt (take n (now (values .entry))))) × Within 1000000000 r ⌝ }
 {
@@ -392,7 +392,7 @@ fn settle(
 }
 
 // Takes an action in a lent state where it applies, and else leaves the state as it was. Whether it applies.
-fn try_action(
+pub fn try_action(
     values: &mut [i64; VARIABLES],
     modes: &mut [u16; MODES],
     n: usize,
@@ -508,12 +508,12 @@ impl State {
 const ACTIONS: usize = 32;
 
 // The actions of a task, decoded.
-struct Table {
-    actions: [SourceAction; ACTIONS],
+pub struct Table {
+    pub actions: [SourceAction; ACTIONS],
 }
 
 // Action k of a file, decoded.
-fn decode_action(file: &[u8], k: usize) -> SourceAction
+pub fn decode_action(file: &[u8], k: usize) -> SourceAction
     requires { ⌜ k < 4294967296 ⌝ }
     ensures { λ r. ⌜ sourceActionIs r ≡ fittingSource (sourceActionOf (decodeAction (actionPart (now (file .entry)) k))) ⌝ }
 {
@@ -523,7 +523,7 @@ fn decode_action(file: &[u8], k: usize) -> SourceAction
 }
 
 // The first `count` actions of a file.
-fn decode_actions(file: &[u8], count: usize) -> Table
+pub fn decode_actions(file: &[u8], count: usize) -> Table
     requires { ⌜ count ≤ 32 ⌝ }
     ensures { λ r. ⌜ Decoded (now (file .entry)) count (r .actions) ⌝ }
 {
@@ -539,7 +539,7 @@ fn decode_actions(file: &[u8], count: usize) -> Table
     table
 }
 
-fn wide16(x: u16) -> usize
+pub fn wide16(x: u16) -> usize
     ensures { λ r. ⌜ r ≡ x ⌝ }
 {
     x as usize
@@ -584,7 +584,7 @@ fn run<'a>(
 }
 
 // Whether a goal is met, in a task with n variables and m modes.
-fn goal_holds(
+pub fn goal_holds(
     values: &[i64; VARIABLES],
     n: usize,
     modes: &[u16; MODES],
