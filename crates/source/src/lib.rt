@@ -306,7 +306,13 @@ fn plus_term(z: i64, value: i64, weight: i64) -> i64
 }
 
 // What an L gives.
-pub fn linear_of(values: &[i64; VARIABLES], n: usize, c: i64, count: usize, terms: [Term; TERMS]) -> i64
+pub fn linear_of(
+    values: &[i64; VARIABLES],
+    n: usize,
+    c: i64,
+    count: usize,
+    terms: [Term; TERMS],
+) -> i64
     requires { ⌜ (n ≤ 8) × (small c ≡ true) × (every (termFits (integerAt (take n (now values)))) (termsIn count terms) ≡ true) ⌝ }
     ensures { λ r. ⌜ (r ≡ linear c (termsIn count terms) (integerAt (take n (now (values .entry))))) × Within 1000000000 r ⌝ }
 {
