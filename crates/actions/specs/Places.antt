@@ -17,9 +17,9 @@ edgesOf file = edges (suc (length file)) 0 file
 abbrev pub partOf : List ℕ → ℕ → ℕ → List ℕ
 partOf file start end = take (end - start) (drop start file)
 
-abbrev pub placedIs : List ℕ → Placed → Answer (List ℕ)
-placedIs file (At start end) = given (partOf file start end)
-placedIs file (Refused number place) = refused number place
+abbrev pub placedIs : Placed → Answer (ℕ × ℕ)
+placedIs (At start end) = given (start, end)
+placedIs (Refused number place) = refused number place
 
 -- what is given; nothing where the answer is a refusal
 abbrev pub bytesGiven : Answer (List ℕ) → List ℕ

@@ -14,7 +14,8 @@ ghost use Rattle.commands.specs.Reading.{commandAt};
 ghost use Rattle.model.specs.Rules.{constant};
 ghost use Rattle.model.specs.Tasks.{noEffect};
 ghost use Rattle.model.specs.Decoding.{sourceActionOf, restrictedActionOf};
-ghost use Rattle.model.specs.ActionBytes.{edgeOf, ofVerdict, actionBytes, decodeAction};
+ghost use Rattle.lists.specs.Answer.{given, then};
+ghost use Rattle.model.specs.ActionBytes.{edgeOf, ofVerdict, actionPlace, partAt, actionBytes, decodeAction};
 ghost use Rattle.model.specs.Limits.{sourceLimits, restrictedLimits};
 ghost use Rattle.tasks.specs.Views.{verdictIs};
 ghost use Rattle.actions.specs.Places.{edgesOf, bodyStart, partOf, placedIs, bytesGiven, goalPart};
@@ -159,7 +160,7 @@ pub enum Placed {
 
 // The place of action k in a file with this verdict.
 fn place_action(file: &[u8], verdict: Verdict, k: usize) -> Placed
-    ensures { λ r. ⌜ placedIs (now (file .entry)) r ≡ ofVerdict (verdictIs verdict) (now (file .entry)) k ⌝ }
+    ensures { λ r. ⌜ placedIs r ≡ ofVerdict (verdictIs verdict) (now (file .entry)) k ⌝ }
 {
     match verdict {
         Verdict::Accepted(_, _, actions) => {
@@ -176,14 +177,14 @@ fn place_action(file: &[u8], verdict: Verdict, k: usize) -> Placed
 
 // The place of action k of a source file: the file's own refusal first, then 11 with place k where there is no such action.
 pub fn place_source_action(file: &[u8], k: usize) -> Placed
-    ensures { λ r. ⌜ placedIs (now (file .entry)) r ≡ actionBytes sourceLimits (now (file .entry)) k ⌝ }
+    ensures { λ r. ⌜ placedIs r ≡ actionPlace sourceLimits (now (file .entry)) k ⌝ }
 {
     place_action(file, tasks::check_source(file), k)
 }
 
 // The same of a restricted file.
 pub fn place_restricted_action(file: &[u8], k: usize) -> Placed
-    ensures { λ r. ⌜ placedIs (now (file .entry)) r ≡ actionBytes restrictedLimits (now (file .entry)) k ⌝ }
+    ensures { λ r. ⌜ placedIs r ≡ actionPlace restrictedLimits (now (file .entry)) k ⌝ }
 {
     place_action(file, tasks::check_restricted(file), k)
 }
@@ -206,7 +207,7 @@ pub fn part(file: &[u8], start: usize, end: usize) -> &[u8]
 
 // The part of a file where an action stands; nothing on a refusal.
 fn placed_part(file: &[u8], placed: Placed) -> &[u8]
-    ensures { λ r. ⌜ now r ≡ bytesGiven (placedIs (now (file .entry)) placed) ⌝ }
+    ensures { λ r. ⌜ now r ≡ bytesGiven (then (placedIs placed) (λ place. given (partAt (now (file .entry)) place))) ⌝ }
 {
     match placed {
         Placed::At(start, end) => part(file, start, end),

@@ -5,7 +5,7 @@ use mathlib.Core.Bool.{cond}
 use mathlib.Core.List.{List, [], _∷_}
 use lib.Dec.{eqb, ltb}
 use lib.ListN.{length, getD, take, drop}
-use Rattle.lists.specs.Answer.{Answer, given, refused}
+use Rattle.lists.specs.Answer.{Answer, given, refused, then}
 use Rattle.commands.specs.Table.{sizeOfByte, letterA, letterG}
 use Rattle.commands.specs.Reading.{commandAt}
 use Rattle.commands.specs.declared.Command.{Command}
@@ -32,13 +32,20 @@ edgeOf file k = getD (edges (suc (length file)) 0 file) k (length file)
 abbrev pub actionPart : List ℕ → ℕ → List ℕ
 actionPart file k = take (edgeOf file (suc k) - edgeOf file k) (drop (edgeOf file k) file)
 
--- the file's refusal first; "a k past the last action gives 11 with place k"
-abbrev pub ofVerdict : Verdict → List ℕ → ℕ → Answer (List ℕ)
-ofVerdict (Accepted variables modes actions) file k = cond (ltb k actions) (given (actionPart file k)) (refused 11 k)
+-- where they start and where they end: the file's refusal first; "a k past the last action gives 11 with place k"
+abbrev pub ofVerdict : Verdict → List ℕ → ℕ → Answer (ℕ × ℕ)
+ofVerdict (Accepted variables modes actions) file k = cond (ltb k actions) (given (edgeOf file k, edgeOf file (suc k))) (refused 11 k)
 ofVerdict (Rejected number place) file k = refused number place
 
-unfoldable pub actionBytes : Limits → List ℕ → ℕ → Answer (List ℕ)
-actionBytes l file k = ofVerdict (verdictOf l file) file k
+unfoldable pub actionPlace : Limits → List ℕ → ℕ → Answer (ℕ × ℕ)
+actionPlace l file k = ofVerdict (verdictOf l file) file k
+
+-- the bytes there, a part of the caller's file
+abbrev pub partAt : List ℕ → ℕ × ℕ → List ℕ
+partAt file place = take (place .1 - place .0) (drop (place .0) file)
+
+abbrev pub actionBytes : Limits → List ℕ → ℕ → Answer (List ℕ)
+actionBytes l file k = then (actionPlace l file k) (λ place. given (partAt file place))
 
 -- ---- the commands in a run of bytes, and the action whose bytes they are: all but its A
 unfoldable pub commandsIn : ℕ → List ℕ → List Command

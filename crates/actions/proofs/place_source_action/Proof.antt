@@ -1,5 +1,5 @@
 -- `actions::place_source_action` meets its contract: the place of the action by the file's verdict. Assumes nothing.
-use Rattle.model.specs.ActionBytes.{actionBytes}
+use Rattle.model.specs.ActionBytes.{actionPlace}
 use borrow.Author.Needs.{needs}
 use Rattle.actions.proofs.place_source_action.Statement.{statement}
 use Rattle.actions.proofs.place_source_action.Tie as tie
@@ -11,7 +11,7 @@ place-action-requires : tie.Need-place-action-requires
 place-action-requires c κs = search needs
 
 returns : tie.Need-returns
-unfolding actionBytes
+unfolding actionPlace
 returns c = rw (← c .before .check-source .ensures) (c .place-action .ensures)
 
 pub place-source-action-spec : {M : Type 1} → statement M
