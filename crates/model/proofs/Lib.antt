@@ -10,6 +10,8 @@ pub mod Figure
 pub mod FileBytes
 pub mod Follow
 pub mod Followed
+pub mod FollowingPlans
+pub mod FollowingWalks
 pub mod Forced
 pub mod GuardedPairing
 pub mod Guards
