@@ -43,7 +43,7 @@ module _ {S X : Type 0} (stepS : S → ℕ → Option S) (step : X → ℕ → O
     projected = projectOver count stepS goalS own numbersOf opens
 
     abbrev kept : List ℕ → ℕ → List ℕ → X → Answer (List ℕ)
-    kept = judgedAs count step goalR Rest
+    kept = judgedAs count step goalR
 
     -- one source step and what follows
     abbrev onward : ℕ → ℕ → S → ℕ → List ℕ → Answer (List ℕ)

@@ -57,11 +57,11 @@ next-place : (i d : ℕ) → suc i + d ≡ i + suc d
 next-place i d = omega arith
 
 -- ---- judging
-module _ {X : Type 0} (count : ℕ) (step : X → ℕ → Option X) (goal : X → Bool) (Rest : X → Type 0) where
-  -- what the judge refuses, or else c
-  abbrev pub judgedAs : List ℕ → ℕ → List ℕ → X → Answer (List ℕ)
-  judgedAs c i q x = then (judge count step goal i q x) (λ v. given c)
+-- what the judge refuses, or else c
+abbrev pub judgedAs : {X : Type 0} → ℕ → (X → ℕ → Option X) → (X → Bool) → List ℕ → ℕ → List ℕ → X → Answer (List ℕ)
+judgedAs count step goal c i q x = then (judge count step goal i q x) (λ v. given c)
 
+module _ {X : Type 0} (count : ℕ) (step : X → ℕ → Option X) (goal : X → Bool) (Rest : X → Type 0) where
   none-applies : (x : X) (k : ℕ) → ((y : X) → ¬ (step x k ≡ some y)) → step x k ≡ none
   none-applies x k n = go (step x k) refl
     where
@@ -69,7 +69,7 @@ module _ {X : Type 0} (count : ℕ) (step : X → ℕ → Option X) (goal : X �
       go none e = refl
       go (some y) e = absurd (n y e)
 
-  pub strays : (c : List ℕ) (i k : ℕ) (q : List ℕ) (x : X) → ((y : X) → ¬ (step x k ≡ some y)) → judgedAs c i (k ∷ q) x ≡ strayed count i (k ∷ q)
+  pub strays : (c : List ℕ) (i k : ℕ) (q : List ℕ) (x : X) → ((y : X) → ¬ (step x k ≡ some y)) → judgedAs count step goal c i (k ∷ q) x ≡ strayed count i (k ∷ q)
   unfolding judge
   strays c i k q x n = rw (none-applies x k n) (go (ltb k count))
     where
@@ -90,7 +90,7 @@ module _ {X : Type 0} (count : ℕ) (step : X → ℕ → Option X) (goal : X �
 
     module _ (goal-rests : (x : X) → T (goal x) → Rest x) where
       -- off rest the plan can't end
-      ends-early : (c : List ℕ) (i : ℕ) (x : X) → ¬ (Rest x) → judgedAs c i [] x ≡ refused 13 i
+      ends-early : (c : List ℕ) (i : ℕ) (x : X) → ¬ (Rest x) → judgedAs count step goal c i [] x ≡ refused 13 i
       unfolding judge
       ends-early c i x b = go (goal x) refl
         where
@@ -98,12 +98,12 @@ module _ {X : Type 0} (count : ℕ) (step : X → ℕ → Option X) (goal : X �
           go true e = absurd (b (goal-rests x (subst T (sym e) tt)))
           go false e = refl
 
-      stuck-strays : (c : List ℕ) (i : ℕ) (q : List ℕ) (x : X) → Stuck step Rest x → judgedAs c i q x ≡ strayed count i q
+      stuck-strays : (c : List ℕ) (i : ℕ) (q : List ℕ) (x : X) → Stuck step Rest x → judgedAs count step goal c i q x ≡ strayed count i q
       stuck-strays c i [] x (b, n) = ends-early c i x b
       stuck-strays c i (k ∷ q) x (b, n) = strays c i k q x (n k)
 
       -- the plan leaves the walk before its end, or the walk ends where nothing applies
-      pub judge-leaves : (c ks q : List ℕ) (i : ℕ) (x z : X) → Forced step Rest x ks z → (agreeing ks q < length ks) ⊎ Stuck step Rest z → judgedAs c i q x ≡ strayedAfter count i q (agreeing ks q)
+      pub judge-leaves : (c ks q : List ℕ) (i : ℕ) (x z : X) → Forced step Rest x ks z → (agreeing ks q < length ks) ⊎ Stuck step Rest z → judgedAs count step goal c i q x ≡ strayedAfter count i q (agreeing ks q)
       judge-leaves c [] q i x z e (inl l) = absurd (omega arith)
       judge-leaves c [] q i x z e (inr st) = stuck-strays c i q x (subst (Stuck step Rest) (sym e) st) ∙ ap (λ (n : ℕ). strayed count n q) (sym (add-zero i))
       judge-leaves c (k ∷ ks) [] i x z (y, b, o, e, f) h = ends-early c i x b ∙ ap (λ (n : ℕ). refused 13 n) (sym (add-zero i))
@@ -114,8 +114,8 @@ module _ {X : Type 0} (count : ℕ) (step : X → ℕ → Option X) (goal : X �
           earlier (inr st) = inr st
 
           go : (a : Bool) → eqb k j ≡ a → (cond a (suc (agreeing ks q)) zero < suc (length ks)) ⊎ Stuck step Rest z
-              → ((agreeing ks q < length ks) ⊎ Stuck step Rest z → judgedAs c (suc i) q y ≡ strayedAfter count (suc i) q (agreeing ks q))
-              → judgedAs c i (j ∷ q) x ≡ strayedAfter count i (j ∷ q) (cond a (suc (agreeing ks q)) zero)
+              → ((agreeing ks q < length ks) ⊎ Stuck step Rest z → judgedAs count step goal c (suc i) q y ≡ strayedAfter count (suc i) q (agreeing ks q))
+              → judgedAs count step goal c i (j ∷ q) x ≡ strayedAfter count i (j ∷ q) (cond a (suc (agreeing ks q)) zero)
           go true s h ih =
               ap (λ (a : Answer (ℕ × X)). then a (λ v. given c)) (judge-step i j q x y (subst (λ (n : ℕ). step x n ≡ some y) (eqb→eq k j (subst T (sym s) tt)) e))
               ∙ ih (earlier h) ∙ ap (λ (n : ℕ). strayed count n (drop (agreeing ks q) q)) (next-place i (agreeing ks q))

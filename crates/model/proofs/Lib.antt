@@ -10,6 +10,7 @@ pub mod Figure
 pub mod FileBytes
 pub mod Follow
 pub mod Followed
+pub mod FollowingAgrees
 pub mod FollowingPlans
 pub mod FollowingWalks
 pub mod Forced
