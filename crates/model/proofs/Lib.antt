@@ -11,6 +11,7 @@ pub mod FileBytes
 pub mod Follow
 pub mod Followed
 pub mod FollowingAgrees
+pub mod FollowingNamed
 pub mod FollowingPlans
 pub mod FollowingWalks
 pub mod Forced
