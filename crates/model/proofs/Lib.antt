@@ -10,6 +10,7 @@ pub mod Figure
 pub mod FileBytes
 pub mod Follow
 pub mod Followed
+pub mod Following
 pub mod FollowingAgrees
 pub mod FollowingNamed
 pub mod FollowingPlans
