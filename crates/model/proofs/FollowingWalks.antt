@@ -3,7 +3,7 @@
 use mathlib.Core.Path.{_≡_, refl, sym, ap, ap₂, _∙_, subst}
 use mathlib.Core.Logic.{_⊎_, inl, inr}
 use Prim.Native.Nat.{ℕ, zero, suc, _+_, _-_, _≤_, _<_, min}
-use native.Mathlib.Nat.{add-zero}
+use native.Mathlib.Nat.{add-zero, zero-add}
 use native.Mathlib.Omega.{arith}
 use mathlib.Core.Bool.{Bool, true, false, cond}
 use mathlib.Core.Option.{Option, none, some}
@@ -43,6 +43,20 @@ agreeing-few (k ∷ ks) (j ∷ q) = go (eqb k j) (agreeing-few ks q)
     go : (b : Bool) → agreeing ks q ≤ length ks → cond b (suc (agreeing ks q)) zero ≤ suc (length ks)
     go true h = omega arith
     go false h = omega arith
+
+-- two lists one behind the other: past the first, or short of its end
+pub agreeing-past : (ks ls q : List ℕ) → agreeing ks q ≡ length ks → agreeing (ks ++ ls) q ≡ length ks + agreeing ls (drop (length ks) q)
+agreeing-past [] ls q e = sym (zero-add (agreeing ls q))
+agreeing-past (k ∷ ks) ls [] e = absurd (omega arith)
+agreeing-past (k ∷ ks) ls (j ∷ q) e = go (eqb k j) e (agreeing-past ks ls q)
+  where
+    go : (b : Bool) → cond b (suc (agreeing ks q)) zero ≡ suc (length ks) → (agreeing ks q ≡ length ks → agreeing (ks ++ ls) q ≡ length ks + agreeing ls (drop (length ks) q))
+        → cond b (suc (agreeing (ks ++ ls) q)) zero ≡ suc (length ks) + agreeing ls (drop (length ks) q)
+    go true e ih = let h : agreeing (ks ++ ls) q ≡ length ks + agreeing ls (drop (length ks) q) = ih (omega arith) in omega arith
+    go false e ih = absurd (omega arith)
+
+pub agreeing-short : (ks ls q : List ℕ) → agreeing ks q < length ks → agreeing (ks ++ ls) q ≡ agreeing ks q
+agreeing-short ks ls q l = omega (arith, agreeing-front ks ls q)
 
 -- a first number that is the plan's
 pub agreeing-first : (n k : ℕ) (ks q : List ℕ) → n ≡ k → agreeing (n ∷ ks) (k ∷ q) ≡ suc (agreeing ks q)

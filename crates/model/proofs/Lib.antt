@@ -12,6 +12,7 @@ pub mod Follow
 pub mod Followed
 pub mod Following
 pub mod FollowingAgrees
+pub mod FollowingBound
 pub mod FollowingNamed
 pub mod FollowingPlans
 pub mod FollowingWalks
