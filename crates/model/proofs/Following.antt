@@ -6,14 +6,13 @@ use Prim.Native.Nat.{ℕ, suc, _%_, _≤_}
 use native.Mathlib.Omega.{arith}
 use mathlib.Core.Bool.{_&&_, Bool, true, false, not, cond}
 use mathlib.Core.Option.{Option, none, some}
-use mathlib.Core.List.{List, [], _∷_, _++_}
+use mathlib.Core.List.{List, [], _∷_}
 use lib.ListN.{length}
 use lib.Dec.{T, eqb, ltb, nltb→le}
 use lib.IntN.{ℤ}
-use Rattle.integers.specs.All.{All}
 use Rattle.lists.specs.Answer.{Answer, given, refused, then}
 use Rattle.lists.proofs.Numbers.{length-halves}
-use Rattle.model.specs.Tasks.{SourceAction, SourceTask, RestrictedTask, State}
+use Rattle.model.specs.Tasks.{SourceTask, RestrictedTask, State}
 use Rattle.model.specs.Steps.{sourceStep, restrictedStep, soundSource, soundRestricted, sizesOf, lowerBounds, upperBounds, sourceStart, stepSource, sourceGoalHolds, restrictedStart, restrictedGoalHolds}
 use Rattle.model.specs.Stages.{NamedAction, lowerActions, opening, sourceNumber, stageCount}
 use Rattle.model.specs.Lowering.{helpersAtRest, lowerTask, lowerFile}
@@ -38,7 +37,7 @@ use Rattle.model.proofs.Figure.{Within, start-within, steps-within}
 use Rattle.model.proofs.Claim.{each-app}
 use Rattle.model.proofs.ReadsBack.{reads-back}
 use Rattle.model.proofs.AcceptedOk.{accepted-source-ok}
-use Rattle.model.proofs.FollowingWalks.{judgedAs}
+use Rattle.model.proofs.FollowingWalks.{then-made, judgedAs}
 use Rattle.model.proofs.FollowingPlans.{judging-is-following}
 use Rattle.model.proofs.FollowingAgrees.{judges-agree, projections-agree, guarded-judge}
 use Rattle.model.proofs.FollowingNamed.{opensNamed, goalNamed, goalLowered, named-projects}
@@ -139,10 +138,6 @@ plan-length plan q e = go (eqb (length plan % 2) 1) (ltb 2_000_000 (length plan)
     go false true r e = absurd (subst Gives (sym e) tt)
     go false false r e = omega (arith, ap length (given-injective e), length-halves plan, nltb→le 2_000_000 (length plan) (subst (λ (x : Bool). T (not x)) (sym r) tt))
 
-then-then : {B : Type 0} (a : Answer B) (p : List ℕ) → then a (λ v. given (planBytes p)) ≡ then (then a (λ v. given p)) (λ p. given (planBytes p))
-then-then (given v) p = refl
-then-then (refused number place) p = refl
-
 pub projecting-follows : (file plan : List ℕ)
     → projectBytes file plan ≡ then (readSource file) (λ t. then (readPlan plan) (λ q. then (projectFrom t (length q) 0 q (sourceStart t)) (λ p. given (planBytes p))))
 projecting-follows file plan = go (readSource file) refl
@@ -154,7 +149,7 @@ projecting-follows file plan = go (readSource file) refl
     following t q = then (projectFrom t (length q) 0 q (sourceStart t)) (λ p. given (planBytes p))
 
     planned : (t : SourceTask) → SourceTaskOk t → (b : Answer (List ℕ)) → readPlan plan ≡ b → judging t b (lowerTask t) ≡ then b (following t)
-    planned t S (given q) r = then-then (judgeRestrictedTask (lowerTask t) q) (projectTask t q) ∙ ap (λ (a : Answer (List ℕ)). then a (λ p. given (planBytes p))) (task-follows t S q (plan-length plan q r))
+    planned t S (given q) r = then-made (judgeRestrictedTask (lowerTask t) q) (projectTask t q) planBytes ∙ ap (λ (a : Answer (List ℕ)). then a (λ p. given (planBytes p))) (task-follows t S q (plan-length plan q r))
     planned t S (refused number place) r = refl
 
     go : (a : Answer SourceTask) → readSource file ≡ a → then a (λ t. then (readRestricted (lowerFile t)) (judging t (readPlan plan))) ≡ then a (λ t. then (readPlan plan) (following t))

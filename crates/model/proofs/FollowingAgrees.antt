@@ -1,6 +1,6 @@
 -- Judging goes the same way over two systems that go together, and over a step whose guard never bites; so does projecting told by source steps.
 -- Assumes nothing.
-use mathlib.Core.Path.{_≡_, refl, sym, ap, ap₂, _∙_, fun-ext}
+use mathlib.Core.Path.{_≡_, refl, ap, ap₂, _∙_, fun-ext}
 use Prim.Native.Nat.{ℕ, zero, suc, _+_, _≤_}
 use native.Mathlib.Omega.{arith}
 use mathlib.Core.Bool.{Bool, true, false, cond}
@@ -36,20 +36,20 @@ module _ {X Y : Type 0} (Sim : X → Y → Type 0) (stepX : X → ℕ → Option
       go true (some x) (some y) a ih = ih x y a
 
   -- what projecting by source steps answers
-  pub projections-agree : (count : ℕ) (own : ℕ → Option ℕ) (numbersX : X → ℕ → List ℕ) (numbersY : Y → ℕ → List ℕ) → ((x : X) (y : Y) (a : ℕ) → Sim x y → numbersX x a ≡ numbersY y a)
+  pub projections-agree : (count : ℕ) (sourceNumber : ℕ → Option ℕ) (numbersX : X → ℕ → List ℕ) (numbersY : Y → ℕ → List ℕ) → ((x : X) (y : Y) (a : ℕ) → Sim x y → numbersX x a ≡ numbersY y a)
       → (opensX : X → ℕ → Bool) (opensY : Y → ℕ → Bool) → ((x : X) (y : Y) (a : ℕ) → Sim x y → opensX x a ≡ opensY y a)
-      → (most i : ℕ) (q : List ℕ) (x : X) (y : Y) → Sim x y → projectOver count stepX goalX own numbersX opensX most i q x ≡ projectOver count stepY goalY own numbersY opensY most i q y
+      → (most i : ℕ) (q : List ℕ) (x : X) (y : Y) → Sim x y → projectOver count stepX goalX sourceNumber numbersX opensX most i q x ≡ projectOver count stepY goalY sourceNumber numbersY opensY most i q y
   unfolding projectOver
-  projections-agree count own numbersX numbersY n opensX opensY o zero i [] x y s = ap (λ (b : Bool). cond b (given []) (refused 13 i)) (goals x y s)
-  projections-agree count own numbersX numbersY n opensX opensY o zero i (k ∷ q) x y s = refl
-  projections-agree count own numbersX numbersY n opensX opensY o (suc most) i [] x y s = ap (λ (b : Bool). cond b (given []) (refused 13 i)) (goals x y s)
-  projections-agree count own numbersX numbersY n opensX opensY o (suc most) i (k ∷ q) x y s = at (own k) (λ j rest. projections-agree count own numbersX numbersY n opensX opensY o most j rest)
+  projections-agree count sourceNumber numbersX numbersY n opensX opensY o zero i [] x y s = ap (λ (b : Bool). cond b (given []) (refused 13 i)) (goals x y s)
+  projections-agree count sourceNumber numbersX numbersY n opensX opensY o zero i (k ∷ q) x y s = refl
+  projections-agree count sourceNumber numbersX numbersY n opensX opensY o (suc most) i [] x y s = ap (λ (b : Bool). cond b (given []) (refused 13 i)) (goals x y s)
+  projections-agree count sourceNumber numbersX numbersY n opensX opensY o (suc most) i (k ∷ q) x y s = at (sourceNumber k) (λ j rest. projections-agree count sourceNumber numbersX numbersY n opensX opensY o most j rest)
     where
       projectX : ℕ → List ℕ → X → Answer (List ℕ)
-      projectX = projectOver count stepX goalX own numbersX opensX most
+      projectX = projectOver count stepX goalX sourceNumber numbersX opensX most
 
       projectY : ℕ → List ℕ → Y → Answer (List ℕ)
-      projectY = projectOver count stepY goalY own numbersY opensY most
+      projectY = projectOver count stepY goalY sourceNumber numbersY opensY most
 
       afterX : ℕ → Option X → List ℕ → Bool → Answer (List ℕ)
       afterX a o ns b = ifAny o (λ z. pastMacro count ns i (k ∷ q) (λ j rest. then (projectX j rest z) (λ p. given (a ∷ p)))) (cond b (intoMacro count ns i (k ∷ q)) (refused 12 i))
@@ -63,8 +63,8 @@ module _ {X Y : Type 0} (Sim : X → Y → Type 0) (stepX : X → ℕ → Option
       on a ns b (some x) none h ih = absurd h
       on a ns b (some x) (some y) h ih = ap (λ (f : ℕ → List ℕ → Answer (List ℕ)). pastMacro count ns i (k ∷ q) (λ j rest. then (f j rest) (λ p. given (a ∷ p)))) (fun-ext (λ j. fun-ext (λ rest. ih j rest x y h)))
 
-      at : (own-k : Option ℕ) → ((j : ℕ) (rest : List ℕ) (x : X) (y : Y) → Sim x y → projectX j rest x ≡ projectY j rest y)
-          → ifAny own-k (λ a. afterX a (stepX x a) (numbersX x a) (opensX x a)) (strayed count i (k ∷ q)) ≡ ifAny own-k (λ a. afterY a (stepY y a) (numbersY y a) (opensY y a)) (strayed count i (k ∷ q))
+      at : (number-of-k : Option ℕ) → ((j : ℕ) (rest : List ℕ) (x : X) (y : Y) → Sim x y → projectX j rest x ≡ projectY j rest y)
+          → ifAny number-of-k (λ a. afterX a (stepX x a) (numbersX x a) (opensX x a)) (strayed count i (k ∷ q)) ≡ ifAny number-of-k (λ a. afterY a (stepY y a) (numbersY y a) (opensY y a)) (strayed count i (k ∷ q))
       at none ih = refl
       at (some a) ih = ap₂ (afterX a (stepX x a)) (n x y a s) (o x y a s) ∙ on a (numbersY y a) (opensY y a) (stepX x a) (stepY y a) (steps x y a s) ih
 

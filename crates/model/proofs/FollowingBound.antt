@@ -1,6 +1,6 @@
 -- The bound on the recursion of projecting by source steps: any that is no less than the length of the plan gives the same answer.
 -- Assumes nothing.
-use mathlib.Core.Path.{_≡_, refl, sym, ap, _∙_, subst}
+use mathlib.Core.Path.{_≡_, refl, sym, ap, subst}
 use Prim.Native.Nat.{ℕ, zero, suc, _+_, _≤_}
 use native.Mathlib.Omega.{arith}
 use mathlib.Core.Bool.{Bool, true, false, cond}
@@ -15,10 +15,10 @@ use Rattle.model.specs.Stages.{sourceNumber}
 use Rattle.model.specs.Lowering.{lowerTask}
 use Rattle.model.specs.Following.{agreeing, ifAny, strayed, strayedAfter, intoMacro, projectOver, macroNumbers, opens, projectFrom}
 
-module _ {S : Type 0} (count : ℕ) (step : S → ℕ → Option S) (goal : S → Bool) (own : ℕ → Option ℕ) (numbers : S → ℕ → List ℕ) (opening : S → ℕ → Bool)
+module _ {S : Type 0} (count : ℕ) (step : S → ℕ → Option S) (goal : S → Bool) (sourceNumber : ℕ → Option ℕ) (numbers : S → ℕ → List ℕ) (opensAt : S → ℕ → Bool)
     (some-number : (s : S) (a : ℕ) → 1 ≤ length (numbers s a)) where
   abbrev project : ℕ → ℕ → List ℕ → S → Answer (List ℕ)
-  project = projectOver count step goal own numbers opening
+  project = projectOver count step goal sourceNumber numbers opensAt
 
   at-the-end : (most i : ℕ) (s : S) → project most i [] s ≡ cond (goal s) (given []) (refused 13 i)
   unfolding projectOver
@@ -31,13 +31,13 @@ module _ {S : Type 0} (count : ℕ) (step : S → ℕ → Option S) (goal : S �
   bounds-agree zero more i (k ∷ q) s l h = absurd (omega arith)
   bounds-agree (suc most) more i [] s l h = sym (at-the-end more i s)
   bounds-agree (suc most) zero i (k ∷ q) s l h = absurd (omega arith)
-  bounds-agree (suc most) (suc more) i (k ∷ q) s l h = at (own k) (bounds-agree most more)
+  bounds-agree (suc most) (suc more) i (k ∷ q) s l h = at (sourceNumber k) (bounds-agree most more)
     where
       after : ℕ → ℕ → Option S → Answer (List ℕ)
       after bound a o = ifAny o (λ y. cond (eqb (agreeing (numbers s a) (k ∷ q)) (length (numbers s a)))
           (then (project bound (i + agreeing (numbers s a) (k ∷ q)) (drop (agreeing (numbers s a) (k ∷ q)) (k ∷ q)) y) (λ p. given (a ∷ p)))
           (strayedAfter count i (k ∷ q) (agreeing (numbers s a) (k ∷ q))))
-          (cond (opening s a) (intoMacro count (numbers s a) i (k ∷ q)) (refused 12 i))
+          (cond (opensAt s a) (intoMacro count (numbers s a) i (k ∷ q)) (refused 12 i))
 
       past : (a : ℕ) (y : S) (d : ℕ) (b : Bool) → eqb d (length (numbers s a)) ≡ b → ((j : ℕ) (rest : List ℕ) (s : S) → length rest ≤ most → length rest ≤ more → project most j rest s ≡ project more j rest s)
           → cond b (then (project most (i + d) (drop d (k ∷ q)) y) (λ p. given (a ∷ p))) (strayedAfter count i (k ∷ q) d) ≡ cond b (then (project more (i + d) (drop d (k ∷ q)) y) (λ p. given (a ∷ p))) (strayedAfter count i (k ∷ q) d)

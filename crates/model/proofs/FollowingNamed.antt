@@ -180,6 +180,7 @@ module _ (lo hi : ℕ → ℤ) where
       abbrev pub goalLowered : NamedState → Bool
       goalLowered x = (modesHold gp (x .mode) && eqb (x .control) 0) && conditionsHold (onSourceVariables gc) (x .value)
 
+      -- the terms of following are met
       pub named-projects : Projects (stepNamedSource lo hi acts) (stepNamed R) Rest atRest (Good lo hi) (opening lo hi acts) (sourceNumber lo hi acts) (stageSteps lo hi acts) (priceAt acts) (deadEndSteps lo hi acts)
           (length R) goalNamed goalLowered opensNamed
       named-projects = record {

@@ -18,32 +18,33 @@ use Rattle.model.specs.Walks.{Forced, Stuck, Outcome, notOpened, hangs, 
 use Rattle.model.specs.Judging.{judge}
 use Rattle.model.specs.Following.{agreeing, ifAny, strayed, strayedAfter, pastMacro, intoMacro, projectOver}
 use Rattle.model.proofs.Pairing.{none-not-some, keep-quiet}
-use Rattle.model.proofs.FollowingWalks.{agreeing-whole, agreeing-few, agreeing-first, agreeing-but-last, judgedAs, strays, judge-step, judge-along, judge-leaves}
+use Rattle.model.proofs.FollowingWalks.{agreeing-whole, agreeing-few, agreeing-first, agreeing-but-last, next-place, then-made, judgedAs, strays, judge-step, judge-along, judge-leaves}
 
-module _ {S X : Type 0} (stepS : S → ℕ → Option S) (step : X → ℕ → Option X) (Rest : X → Type 0) (emb : S → X) (Good : S → Type 0)
-    (opn : ℕ → ℕ) (own : ℕ → Option ℕ) (tail : S → ℕ → List ℕ) (price : S → ℕ → ℕ) (stuck : S → ℕ → List ℕ)
-    (count : ℕ) (goalS : S → Bool) (goalR : X → Bool) (opens : S → ℕ → Bool) where
+module _ {S X : Type 0} (sourceStep : S → ℕ → Option S) (step : X → ℕ → Option X) (Rest : X → Type 0) (atRest : S → X) (Good : S → Type 0)
+    (opening : ℕ → ℕ) (sourceNumber : ℕ → Option ℕ) (stageSteps : S → ℕ → List ℕ) (price : S → ℕ → ℕ) (deadEnd : S → ℕ → List ℕ)
+    (count : ℕ) (sourceGoal : S → Bool) (goal : X → Bool) (opens : S → ℕ → Bool) where
+  -- what is asked of a source system and its lowering, of R's count of actions, of the two goals, and of `opens`
   pub record Projects : Type 0 where
-    pub lowers : Lowers stepS step Rest emb Good opn own tail price stuck
+    pub lowers : Lowers sourceStep step Rest atRest Good opening sourceNumber stageSteps price deadEnd
     pub counted : (x : X) (k : ℕ) (y : X) → step x k ≡ some y → k < count
-    pub goalRests : (x : X) → T (goalR x) → Rest x
-    pub goalsAgree : (s : S) → goalR (emb s) ≡ goalS s
+    pub goalRests : (x : X) → T (goal x) → Rest x
+    pub goalsAgree : (s : S) → goal (atRest s) ≡ sourceGoal s
     -- what applies at rest has a source number, and is that action's opening
-    pub fromRest : (s : S) (k : ℕ) (y : X) → step (emb s) k ≡ some y → (a : ℕ) × (own k ≡ some a)
-    pub numbers : (k a : ℕ) → own k ≡ some a → (opn a ≡ k) × (k < count)
+    pub fromRest : (s : S) (k : ℕ) (y : X) → step (atRest s) k ≡ some y → (a : ℕ) × (sourceNumber k ≡ some a)
+    pub numbers : (k a : ℕ) → sourceNumber k ≡ some a → (opening a ≡ k) × (k < count)
     -- `opens` says, of an action that doesn't apply, whether its opening does; the walk behind it then lacks its last step
-    pub hanging : (s : S) → Good s → (a : ℕ) (y : X) → stepS s a ≡ none → step (emb s) (opn a) ≡ some y → (opens s a ≡ true) × (last : ℕ) × (tail s a ≡ stuck s a ++ (last ∷ []))
-    pub unopened : (s : S) → Good s → (a : ℕ) → ((y : X) → ¬ (step (emb s) (opn a) ≡ some y)) → opens s a ≡ false
+    pub hanging : (s : S) → Good s → (a : ℕ) (y : X) → sourceStep s a ≡ none → step (atRest s) (opening a) ≡ some y → (opens s a ≡ true) × (last : ℕ) × (stageSteps s a ≡ deadEnd s a ++ (last ∷ []))
+    pub unopened : (s : S) → Good s → (a : ℕ) → ((y : X) → ¬ (step (atRest s) (opening a) ≡ some y)) → opens s a ≡ false
 
   module _ (P : Projects) where
     abbrev numbersOf : S → ℕ → List ℕ
-    numbersOf s a = opn a ∷ tail s a
+    numbersOf s a = opening a ∷ stageSteps s a
 
     abbrev projected : ℕ → ℕ → List ℕ → S → Answer (List ℕ)
-    projected = projectOver count stepS goalS own numbersOf opens
+    projected = projectOver count sourceStep sourceGoal sourceNumber numbersOf opens
 
     abbrev kept : List ℕ → ℕ → List ℕ → X → Answer (List ℕ)
-    kept = judgedAs count step goalR
+    kept = judgedAs count step goal
 
     -- one source step and what follows
     abbrev onward : ℕ → ℕ → S → ℕ → List ℕ → Answer (List ℕ)
@@ -52,49 +53,39 @@ module _ {S X : Type 0} (stepS : S → ℕ → Option S) (step : X → ℕ → O
     abbrev answer : S → ℕ → ℕ → ℕ → List ℕ → ℕ → Option S → Answer (List ℕ)
     answer s most i k q a o = ifAny o (λ y. pastMacro count (numbersOf s a) i (k ∷ q) (onward most a y)) (cond (opens s a) (intoMacro count (numbersOf s a) i (k ∷ q)) (refused 12 i))
 
-    module _ (s : S) (g : Good s) (most i k : ℕ) (q : List ℕ) (a : ℕ) (own-k : own k ≡ some a) where
-      opened : (c : List ℕ) (y : X) → step (emb s) (opn a) ≡ some y → kept c i (k ∷ q) (emb s) ≡ kept c (suc i) q y
-      opened c y e = ap (λ (v : Answer (ℕ × X)). then v (λ w. given c)) (judge-step count step goalR Rest (P .counted) i k q (emb s) y (subst (λ (n : ℕ). step (emb s) n ≡ some y) (P .numbers k a own-k .0) e))
+    module _ (s : S) (g : Good s) (most i k : ℕ) (q : List ℕ) (a : ℕ) (number-of-k : sourceNumber k ≡ some a) where
+      opened : (c : List ℕ) (y : X) → step (atRest s) (opening a) ≡ some y → kept c i (k ∷ q) (atRest s) ≡ kept c (suc i) q y
+      opened c y e = ap (λ (v : Answer (ℕ × X)). then v (λ w. given c)) (judge-step count step goal Rest (P .counted) i k q (atRest s) y (subst (λ (n : ℕ). step (atRest s) n ≡ some y) (P .numbers k a number-of-k .0) e))
 
-      not-opened : (c : List ℕ) → stepS s a ≡ none → ((y : X) → ¬ (step (emb s) (opn a) ≡ some y)) → kept c i (k ∷ q) (emb s) ≡ answer s most i k q a (stepS s a)
-      not-opened c n off = strays count step goalR Rest c i k q (emb s) (λ y e. off y (subst (λ (n : ℕ). step (emb s) n ≡ some y) (sym (P .numbers k a own-k .0)) e))
-          ∙ rw (lt-ltb k count (P .numbers k a own-k .1), n, P .unopened s g a off) refl
+      not-opened : (c : List ℕ) → sourceStep s a ≡ none → ((y : X) → ¬ (step (atRest s) (opening a) ≡ some y)) → kept c i (k ∷ q) (atRest s) ≡ answer s most i k q a (sourceStep s a)
+      not-opened c n off = strays count step goal Rest c i k q (atRest s) (λ y e. off y (subst (λ (n : ℕ). step (atRest s) n ≡ some y) (sym (P .numbers k a number-of-k .0)) e))
+          ∙ rw (lt-ltb k count (P .numbers k a number-of-k .1), n, P .unopened s g a off) refl
 
-      hung : (c : List ℕ) (y z : X) → stepS s a ≡ none → step (emb s) (opn a) ≡ some y → Forced step Rest y (stuck s a) z → Stuck step Rest z → kept c i (k ∷ q) (emb s) ≡ answer s most i k q a (stepS s a)
+      hung : (c : List ℕ) (y z : X) → sourceStep s a ≡ none → step (atRest s) (opening a) ≡ some y → Forced step Rest y (deadEnd s a) z → Stuck step Rest z → kept c i (k ∷ q) (atRest s) ≡ answer s most i k q a (sourceStep s a)
       hung c y z n e f st = let (o, last, w) = P .hanging s g a y n e in go o last w
         where
-          go : opens s a ≡ true → (last : ℕ) → tail s a ≡ stuck s a ++ (last ∷ []) → kept c i (k ∷ q) (emb s) ≡ answer s most i k q a (stepS s a)
-          go o last w = opened c y e ∙ judge-leaves count step goalR Rest (P .counted) (P .goalRests) c (stuck s a) q (suc i) y z f (inr st)
-              ∙ ap (λ (j : ℕ). strayed count j (drop (agreeing (stuck s a) q) q)) (next i (agreeing (stuck s a) q))
-              ∙ sym (ap (answer s most i k q a) n ∙ ap (λ (b : Bool). cond b (intoMacro count (numbersOf s a) i (k ∷ q)) (refused 12 i)) o ∙ ap (λ (ks : List ℕ). intoMacro count (opn a ∷ ks) i (k ∷ q)) w
-              ∙ ap (strayedAfter count i (k ∷ q)) (agreeing-but-last (opn a) k (stuck s a) q last (P .numbers k a own-k .0)))
-            where
-              next : (i d : ℕ) → suc i + d ≡ i + suc d
-              next i d = omega arith
+          go : opens s a ≡ true → (last : ℕ) → stageSteps s a ≡ deadEnd s a ++ (last ∷ []) → kept c i (k ∷ q) (atRest s) ≡ answer s most i k q a (sourceStep s a)
+          go o last w = opened c y e ∙ judge-leaves count step goal Rest (P .counted) (P .goalRests) c (deadEnd s a) q (suc i) y z f (inr st)
+              ∙ ap (λ (j : ℕ). strayed count j (drop (agreeing (deadEnd s a) q) q)) (next-place i (agreeing (deadEnd s a) q))
+              ∙ sym (ap (answer s most i k q a) n ∙ ap (λ (b : Bool). cond b (intoMacro count (numbersOf s a) i (k ∷ q)) (refused 12 i)) o ∙ ap (λ (ks : List ℕ). intoMacro count (opening a ∷ ks) i (k ∷ q)) w
+              ∙ ap (strayedAfter count i (k ∷ q)) (agreeing-but-last (opening a) k (deadEnd s a) q last (P .numbers k a number-of-k .0)))
 
-      completed : (s′ : S) (y : X) → stepS s a ≡ some s′ → Good s′ → step (emb s) (opn a) ≡ some y → Forced step Rest y (tail s a) (emb s′) → All (λ (n : ℕ). own n ≡ none) (tail s a) → length q ≤ most
-          → ((j : ℕ) (rest : List ℕ) → length rest ≤ most → kept (keep own rest) j rest (emb s′) ≡ projected most j rest s′) → kept (keep own (k ∷ q)) i (k ∷ q) (emb s) ≡ answer s most i k q a (stepS s a)
-      completed s′ y es g′ e f qu l ih = opened (keep own (k ∷ q)) y e ∙ go (eqb (suc (agreeing ks q)) (suc (length ks))) refl ∙ sym (ap (answer s most i k q a) es ∙ ap there (agreeing-first (opn a) k ks q (P .numbers k a own-k .0)))
+      completed : (s′ : S) (y : X) → sourceStep s a ≡ some s′ → Good s′ → step (atRest s) (opening a) ≡ some y → Forced step Rest y (stageSteps s a) (atRest s′) → All (λ (n : ℕ). sourceNumber n ≡ none) (stageSteps s a) → length q ≤ most
+          → ((j : ℕ) (rest : List ℕ) → length rest ≤ most → kept (keep sourceNumber rest) j rest (atRest s′) ≡ projected most j rest s′) → kept (keep sourceNumber (k ∷ q)) i (k ∷ q) (atRest s) ≡ answer s most i k q a (sourceStep s a)
+      completed s′ y es g′ e f qu l ih = opened (keep sourceNumber (k ∷ q)) y e ∙ go (eqb (suc (agreeing ks q)) (suc (length ks))) refl ∙ sym (ap (answer s most i k q a) es ∙ ap there (agreeing-first (opening a) k ks q (P .numbers k a number-of-k .0)))
         where
           ks : List ℕ
-          ks = tail s a
+          ks = stageSteps s a
 
           there : ℕ → Answer (List ℕ)
           there d = cond (eqb d (suc (length ks))) (onward most a s′ (i + d) (drop d (k ∷ q))) (strayedAfter count i (k ∷ q) d)
 
-          next : (i d : ℕ) → suc i + d ≡ i + suc d
-          next i d = omega arith
-
-          past : (v : Answer (ℕ × X)) (c : List ℕ) → then v (λ w. given (a ∷ c)) ≡ then (then v (λ w. given c)) (λ p. given (a ∷ p))
-          past (given v) c = refl
-          past (refused n w) c = refl
-
-          whole : agreeing ks q ≡ length ks → kept (keep own (k ∷ q)) (suc i) q y ≡ onward most a s′ (i + suc (agreeing ks q)) (drop (agreeing ks q) q)
+          whole : agreeing ks q ≡ length ks → kept (keep sourceNumber (k ∷ q)) (suc i) q y ≡ onward most a s′ (i + suc (agreeing ks q)) (drop (agreeing ks q) q)
           whole w = rw w (
-              ap₂ (λ (c : List ℕ) (v : Answer (ℕ × X)). then v (λ w. given c)) keeps (ap (λ (r : List ℕ). judge count step goalR (suc i) r y) (sym parts) ∙ judge-along count step goalR Rest (P .counted) ks rest (suc i) y (emb s′) f)
-              ∙ past (judge count step goalR (suc i + length ks) rest (emb s′)) (keep own rest)
+              ap₂ (λ (c : List ℕ) (v : Answer (ℕ × X)). then v (λ w. given c)) keeps (ap (λ (r : List ℕ). judge count step goal (suc i) r y) (sym parts) ∙ judge-along count step goal Rest (P .counted) ks rest (suc i) y (atRest s′) f)
+              ∙ then-made (judge count step goal (suc i + length ks) rest (atRest s′)) (keep sourceNumber rest) (λ p. a ∷ p)
               ∙ ap (λ (v : Answer (List ℕ)). then v (λ p. given (a ∷ p))) (ih (suc i + length ks) rest (omega (arith, length-drop (length ks) q)))
-              ∙ ap (λ (j : ℕ). onward most a s′ j rest) (next i (length ks)))
+              ∙ ap (λ (j : ℕ). onward most a s′ j rest) (next-place i (length ks)))
             where
               rest : List ℕ
               rest = drop (length ks) q
@@ -102,39 +93,39 @@ module _ {S X : Type 0} (stepS : S → ℕ → Option S) (step : X → ℕ → O
               parts : ks ++ rest ≡ q
               parts = agreeing-whole ks q w
 
-              keeps : keep own (k ∷ q) ≡ a ∷ keep own rest
-              keeps = rw own-k (ap (λ (r : List ℕ). a ∷ r) (ap (keep own) (sym parts) ∙ keep-quiet own ks rest qu))
+              keeps : keep sourceNumber (k ∷ q) ≡ a ∷ keep sourceNumber rest
+              keeps = rw number-of-k (ap (λ (r : List ℕ). a ∷ r) (ap (keep sourceNumber) (sym parts) ∙ keep-quiet sourceNumber ks rest qu))
 
-          go : (b : Bool) → eqb (suc (agreeing ks q)) (suc (length ks)) ≡ b → kept (keep own (k ∷ q)) (suc i) q y ≡ cond b (onward most a s′ (i + suc (agreeing ks q)) (drop (agreeing ks q) q)) (strayed count (i + suc (agreeing ks q)) (drop (agreeing ks q) q))
+          go : (b : Bool) → eqb (suc (agreeing ks q)) (suc (length ks)) ≡ b → kept (keep sourceNumber (k ∷ q)) (suc i) q y ≡ cond b (onward most a s′ (i + suc (agreeing ks q)) (drop (agreeing ks q) q)) (strayed count (i + suc (agreeing ks q)) (drop (agreeing ks q) q))
           go true w = let same : suc (agreeing ks q) ≡ suc (length ks) = eqb→eq (suc (agreeing ks q)) (suc (length ks)) (subst T (sym w) tt) in whole (omega arith)
-          go false w = judge-leaves count step goalR Rest (P .counted) (P .goalRests) (keep own (k ∷ q)) ks q (suc i) y (emb s′) f (inl (off (λ e. subst T (sym (eq-eqb (suc (agreeing ks q)) (suc (length ks)) (ap suc e)) ∙ w) tt)))
-              ∙ ap (λ (j : ℕ). strayed count j (drop (agreeing ks q) q)) (next i (agreeing ks q))
+          go false w = judge-leaves count step goal Rest (P .counted) (P .goalRests) (keep sourceNumber (k ∷ q)) ks q (suc i) y (atRest s′) f (inl (off (λ e. subst T (sym (eq-eqb (suc (agreeing ks q)) (suc (length ks)) (ap suc e)) ∙ w) tt)))
+              ∙ ap (λ (j : ℕ). strayed count j (drop (agreeing ks q) q)) (next-place i (agreeing ks q))
             where
               off : ¬ (agreeing ks q ≡ length ks) → agreeing ks q < length ks
               off n = omega (arith, n, agreeing-few ks q)
 
-    at-end : (i : ℕ) (s : S) → kept [] i [] (emb s) ≡ cond (goalS s) (given []) (refused 13 i)
+    at-end : (i : ℕ) (s : S) → kept [] i [] (atRest s) ≡ cond (sourceGoal s) (given []) (refused 13 i)
     unfolding judge
-    at-end i s = rw (P .goalsAgree s) (go (goalS s))
+    at-end i s = rw (P .goalsAgree s) (go (sourceGoal s))
       where
-        go : (b : Bool) → then (cond {A = Answer (ℕ × X)} b (given (i, emb s)) (refused 13 i)) (λ v. given []) ≡ cond {A = Answer (List ℕ)} b (given []) (refused 13 i)
+        go : (b : Bool) → then (cond {A = Answer (ℕ × X)} b (given (i, atRest s)) (refused 13 i)) (λ v. given []) ≡ cond {A = Answer (List ℕ)} b (given []) (refused 13 i)
         go true = refl
         go false = refl
 
-    -- from rest, with bound enough
-    pub judging-is-following : (most i : ℕ) (q : List ℕ) (s : S) → Good s → length q ≤ most → kept (keep own q) i q (emb s) ≡ projected most i q s
+    -- from rest: what judging the plan refuses, or else its source numbers. The bound is enough where it is no less than the plan's length
+    pub judging-is-following : (most i : ℕ) (q : List ℕ) (s : S) → Good s → length q ≤ most → kept (keep sourceNumber q) i q (atRest s) ≡ projected most i q s
     unfolding judge projectOver
     judging-is-following zero i [] s g l = at-end i s
     judging-is-following zero i (k ∷ q) s g l = absurd (omega arith)
     judging-is-following (suc most) i [] s g l = at-end i s
-    judging-is-following (suc most) i (k ∷ q) s g l = go (own k) refl (λ j rest y g′ l′. judging-is-following most j rest y g′ l′)
+    judging-is-following (suc most) i (k ∷ q) s g l = go (sourceNumber k) refl (λ j rest y g′ l′. judging-is-following most j rest y g′ l′)
       where
-        go : (o : Option ℕ) → own k ≡ o → ((j : ℕ) (rest : List ℕ) (y : S) → Good y → length rest ≤ most → kept (keep own rest) j rest (emb y) ≡ projected most j rest y)
-            → kept (keep own (k ∷ q)) i (k ∷ q) (emb s) ≡ ifAny o (λ a. answer s most i k q a (stepS s a)) (strayed count i (k ∷ q))
-        go none e ih = strays count step goalR Rest (keep own (k ∷ q)) i k q (emb s) (λ y w. none-not-some e (P .fromRest s k y w .1))
+        go : (o : Option ℕ) → sourceNumber k ≡ o → ((j : ℕ) (rest : List ℕ) (y : S) → Good y → length rest ≤ most → kept (keep sourceNumber rest) j rest (atRest y) ≡ projected most j rest y)
+            → kept (keep sourceNumber (k ∷ q)) i (k ∷ q) (atRest s) ≡ ifAny o (λ a. answer s most i k q a (sourceStep s a)) (strayed count i (k ∷ q))
+        go none e ih = strays count step goal Rest (keep sourceNumber (k ∷ q)) i k q (atRest s) (λ y w. none-not-some e (P .fromRest s k y w .1))
         go (some a) e ih = on (P .lowers .outcomes s g a)
           where
-            on : Outcome stepS step Rest emb Good opn own tail price stuck s a → kept (keep own (k ∷ q)) i (k ∷ q) (emb s) ≡ answer s most i k q a (stepS s a)
-            on (notOpened n off) = not-opened s g most i k q a e (keep own (k ∷ q)) n off
-            on (hangs y z n w f st) = hung s g most i k q a e (keep own (k ∷ q)) y z n w f st
+            on : Outcome sourceStep step Rest atRest Good opening sourceNumber stageSteps price deadEnd s a → kept (keep sourceNumber (k ∷ q)) i (k ∷ q) (atRest s) ≡ answer s most i k q a (sourceStep s a)
+            on (notOpened n off) = not-opened s g most i k q a e (keep sourceNumber (k ∷ q)) n off
+            on (hangs y z n w f st) = hung s g most i k q a e (keep sourceNumber (k ∷ q)) y z n w f st
             on (completes s′ y es g′ w f _ qu _) = completed s g most i k q a e s′ y es g′ w f qu (omega arith) (λ j rest. ih j rest s′ g′)

@@ -12,8 +12,8 @@ use lib.ListN.{length, length-append, drop}
 use lib.Dec.{T, eqb, eqb→eq, eqb-refl, ltb}
 use borrow.Author.Tests.{lt-ltb, eq-eqb}
 use Rattle.lists.specs.Answer.{Answer, given, refused, then}
-use Rattle.model.specs.Walks.{Only, Forced, Stuck}
-use Rattle.model.specs.Judging.{ifApplies, judge}
+use Rattle.model.specs.Walks.{Forced, Stuck}
+use Rattle.model.specs.Judging.{judge}
 use Rattle.model.specs.Following.{agreeing, strayed, strayedAfter}
 
 -- ---- the common front
@@ -67,10 +67,16 @@ pub agreeing-but-last : (n k : ℕ) (ks q : List ℕ) (last : ℕ) → n ≡ k �
 agreeing-but-last n k ks q last e = ap (λ (d : ℕ). min d (suc (length (ks ++ (last ∷ []))) - 1)) (agreeing-first n k (ks ++ (last ∷ [])) q e)
     ∙ omega (arith, length-append ks (last ∷ []), agreeing-front ks (last ∷ []) q)
 
-next-place : (i d : ℕ) → suc i + d ≡ i + suc d
+-- the place after d steps more
+pub next-place : (i d : ℕ) → suc i + d ≡ i + suc d
 next-place i d = omega arith
 
 -- ---- judging
+-- a constant result, and what is made of it
+pub then-made : {A B C : Type 0} (v : Answer A) (b : B) (f : B → C) → then v (λ w. given (f b)) ≡ then (then v (λ w. given b)) (λ c. given (f c))
+then-made (given v) b f = refl
+then-made (refused number place) b f = refl
+
 -- what the judge refuses, or else c
 abbrev pub judgedAs : {X : Type 0} → ℕ → (X → ℕ → Option X) → (X → Bool) → List ℕ → ℕ → List ℕ → X → Answer (List ℕ)
 judgedAs count step goal c i q x = then (judge count step goal i q x) (λ v. given c)
