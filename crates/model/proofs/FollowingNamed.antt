@@ -94,7 +94,7 @@ module _ (lo hi : ℕ → ℤ) where
           let at : macroSize lo hi x + opening lo hi acts a′ ≡ suc k = omega (arith, w, past) in
           (ap (opening lo hi (x ∷ acts)) (sym (some-injective e)) ∙ at, omega (arith, few, past, length-append (macro lo hi s x) rest, macro-length lo hi s x))
 
-  -- a lone action is the only kind whose opening asks for a bound
+  -- only a lone + asks its action for a bound more
   no-added-bound : (e : Effect) (v : Name → ℤ) → makesMacro e ≡ true → T (conditionsHold (addedBound lo hi e) v)
   no-added-bound noEffect v m = tt
   no-added-bound (addEffect t c) v m = absurd (subst T (sym m) tt)
@@ -102,6 +102,7 @@ module _ (lo hi : ℕ → ℤ) where
   no-added-bound (quotientEffect t y c) v m = tt
   no-added-bound (residueEffect t y c) v m = tt
 
+  -- only a macro has a turn that asks for bounds
   turned-back-in-a-macro : (e : Effect) (v : ℕ → ℤ) → moveTest lo hi e v ≡ false → makesMacro e ≡ true
   turned-back-in-a-macro noEffect v m = absurd (subst T m tt)
   turned-back-in-a-macro (addEffect t c) v m = absurd (subst T m tt)
