@@ -1,3 +1,4 @@
+-- `prices::division_price` meets its contract: no part of the price is large, so the sum fits. Assumes nothing.
 use native.Mathlib.Omega.{arith}
 use mathlib.Core.Path.{_≡_}
 use Prim.Native.Nat.{_-_}

@@ -1,3 +1,4 @@
+-- `prices::price` meets its contract, kind of effect by kind of effect. Assumes nothing.
 use native.Mathlib.Omega.{arith}
 use mathlib.Core.Path.{refl}
 use Prim.Native.Nat.{_-_}

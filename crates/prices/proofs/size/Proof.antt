@@ -1,3 +1,4 @@
+-- `prices::size` meets its contract: a number that is not large has a size that fits. Assumes nothing.
 use mathlib.Core.Path.{_≡_}
 use Prim.Native.Nat.{_-_}
 use mir.Facts.{toZ-ofZ}

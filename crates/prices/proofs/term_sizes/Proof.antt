@@ -1,3 +1,4 @@
+-- `prices::term_sizes` meets its contract. The loop's invariant: the sum so far and the sizes of the terms left make those of all. Assumes nothing.
 use native.Mathlib.Omega.{arith}
 use mathlib.Core.Path.{_≡_}
 use Prim.Native.Nat.{ℕ, _+_, _-_, _≤_}
