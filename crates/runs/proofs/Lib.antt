@@ -1,2 +1,4 @@
 pub mod Making
+pub mod Sizes
 pub mod Walks
+pub mod Writing

@@ -3,8 +3,10 @@
 //
 // It never tests whether a step applies, and never takes one: the strokes go by the values before the step.
 use actions::Effect;
+use actions::SourceAction;
 use actions::TERMS;
 use actions::Term;
+use source::Table;
 use source::VARIABLES;
 ghost use mathlib.Core.Path.{_≡_};
 ghost use mathlib.Core.Bool.{true, _&&_};
@@ -14,10 +16,14 @@ ghost use lib.ListN.{take};
 ghost use lib.IntN.{natAbs};
 ghost use Rattle.integers.specs.Division.{unitLess, floor, quotientOf, residueOf};
 ghost use Rattle.integers.specs.Parts.{Within};
+ghost use Rattle.lists.specs.Writing.{Room, Wrote};
+ghost use Rattle.model.specs.Plans.{planBytes};
 ghost use Rattle.model.specs.Steps.{integerAt};
 ghost use Rattle.model.specs.Tasks.{linearEffect};
 ghost use Rattle.source.specs.Parts.{termsIn, effectIn, small, divides, effectFits};
-ghost use Rattle.runs.specs.Strokes.{strokesOf};
+ghost use Rattle.runs.specs.Strokes.{strokesOf, stageSteps, macroSteps, stepNumbers};
+ghost use Rattle.runs.specs.Openings.{Sized, Opened};
+ghost use Rattle.source.specs.Step.{actionIs};
 ghost use Rattle.runs.specs.Made.{strokesIs, Listed, Two, RunOf, divisionStrokes};
 
 // The most stages of a macro.
@@ -144,4 +150,96 @@ pub fn strokes_of(
             )
         }
     }
+}
+
+// The strokes of a stage as a run, its actions being numbered from `first`.
+fn run_of(first: u16, z: i64) -> Run
+    requires { ⌜ first + 2 < 65536 ⌝ }
+    ensures { λ r. ⌜ RunOf first z r ⌝ }
+{
+    if 0 <= z {
+        return Run {
+            number: first,
+            count: z as usize,
+        };
+    }
+    Run {
+        number: first + 1,
+        count: ((-(z + 1)) as usize) + 1,
+    }
+}
+
+// Writes the steps of a stage: its strokes, then its turn.
+fn put_stage(out: &mut [u8], at: usize, first: u16, z: i64) -> usize
+    requires { ⌜ first + 2 < 65536 ⌝ }
+    requires { ⌜ Room (now out) at (planBytes (stageSteps first z)) ⌝ }
+    ensures { λ r. ⌜ Wrote (now (out .entry)) at (planBytes (stageSteps first z)) (now (out .exit)) r ⌝ }
+{
+    let run = run_of(first, z);
+    let place = lists::fill_run(out, at, run.number, run.count);
+    lists::put16(out, place, first + 2)
+}
+
+// Writes the steps of all stages, the first one's actions being numbered from `first`.
+fn put_stages(out: &mut [u8], at: usize, first: u16, s: Strokes) -> usize
+    requires { ⌜ (first ≤ 65001) × (s .count ≤ 10) ⌝ }
+    requires { ⌜ Room (now out) at (planBytes (macroSteps first (strokesIs s))) ⌝ }
+    ensures { λ r. ⌜ Wrote (now (out .entry)) at (planBytes (macroSteps first (strokesIs s))) (now (out .exit)) r ⌝ }
+{
+    let count = s.count;
+    let times = s.times;
+    let mut place = at;
+    let mut number = first;
+    let mut i: usize = 0;
+    while i < count {
+        place = put_stage(out, place, number, times[i]);
+        number += 3;
+        i += 1;
+    }
+    place
+}
+
+// Writes all that a source step becomes, from the number of its opening and its strokes.
+pub fn put_step(out: &mut [u8], at: usize, opening: u16, s: Strokes) -> usize
+    requires { ⌜ (opening ≤ 65000) × (s .count ≤ 10) ⌝ }
+    requires { ⌜ Room (now out) at (planBytes (stepNumbers opening (strokesIs s))) ⌝ }
+    ensures { λ r. ⌜ Wrote (now (out .entry)) at (planBytes (stepNumbers opening (strokesIs s))) (now (out .exit)) r ⌝ }
+{
+    let place = lists::put16(out, at, opening);
+    put_stages(out, place, opening + 1, s)
+}
+
+// How many restricted actions an action becomes: at most 31.
+pub fn macro_size(action: SourceAction) -> u16
+    ensures { λ r. ⌜ Sized (actionIs action) r ⌝ }
+{
+    let effect = action.effect;
+    match effect {
+        Effect::None => 1,
+        Effect::Add(_, _) => 1,
+        Effect::Linear(_, _) => 7 + 6 * (source::lesser(TERMS, action.term_count) as u16),
+        Effect::Quotient(_, _, _) => 19,
+        Effect::Residue(_, _, _) => 19,
+    }
+}
+
+// The number of the first restricted action of each source action, and behind the last the count of all.
+pub struct Openings {
+    pub numbers: [u16; 33],
+}
+
+// Of the first `count` actions of a table.
+pub fn openings_of(count: usize, table: Table) -> Openings
+    requires { ⌜ count ≤ 32 ⌝ }
+    ensures { λ r. ⌜ Opened (table .actions) count (r .numbers) ⌝ }
+{
+    let mut o = Openings { numbers: [0; 33] };
+    let mut next: u16 = 0;
+    let mut k: usize = 0;
+    while k < count {
+        next += macro_size(table.actions[k]);
+        k += 1;
+        o.numbers[k] = next;
+    }
+    o
 }
