@@ -110,8 +110,11 @@ module _ (file : List ℕ) (bytes : Bytes file) (t : SourceTask) (is : readSourc
         (ap (take conditionRoom) (source-goal-conditions file bytes t is g decoded′) ∙ take-all conditionRoom (t .goalConditions) (omega (arith, ok .goal .conditionsFew)))
 
 -- ---- what is declared, read into arrays of zeros
+pub equal-room : (a b c : ℤ) (d e : ℕ) → SourceRoom (replicate 8 a) (replicate 8 b) (replicate 8 c) (replicate 4 d) (replicate 4 e)
+equal-room a b c d e = record { lowerLong = length-replicate 8 a; upperLong = length-replicate 8 b; startLong = length-replicate 8 c; sizesLong = length-replicate 4 d; valuesLong = length-replicate 4 e }
+
 pub zero-room : SourceRoom (replicate 8 (pos 0)) (replicate 8 (pos 0)) (replicate 8 (pos 0)) (replicate 4 0) (replicate 4 0)
-zero-room = record { lowerLong = length-replicate 8 (pos 0); upperLong = length-replicate 8 (pos 0); startLong = length-replicate 8 (pos 0); sizesLong = length-replicate {A = ℕ} 4 0; valuesLong = length-replicate {A = ℕ} 4 0 }
+zero-room = equal-room (pos 0) (pos 0) (pos 0) 0 0
 
 pub zeros-kept : {file : List ℕ} {r : Declared} {lower upper start : List ℤ} {sizes modes : List ℕ} → SourceStored file (replicate 8 (pos 0)) (replicate 8 (pos 0)) (replicate 8 (pos 0)) (replicate 4 0) (replicate 4 0) r lower upper start sizes modes
     → Kept (r .variables) (r .modes) (replicate 8 (pos 0)) (replicate 4 0) start modes

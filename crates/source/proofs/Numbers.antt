@@ -1,6 +1,6 @@
 -- What the numbers that an effect reads make stays within 64 bits.
 -- Assumes nothing.
-use mathlib.Core.Path.{_≡_, refl, sym, ap, _∙_}
+use mathlib.Core.Path.{_≡_, refl, sym}
 use Prim.Native.Nat.{ℕ, suc, _+_, _*_, _≤_, _<_}
 use native.Mathlib.Omega.{arith}
 use native.Mathlib.Nat.{mul-le-mul, div-le-self}
@@ -14,7 +14,7 @@ use mir.Syntax.{w64}
 use mir.Val.{SFits}
 use Rattle.integers.specs.Parts.{Within}
 use Rattle.integers.specs.Relation.{withinLimit}
-use Rattle.integers.proofs.Parts.{ints, add, abs}
+use Rattle.integers.proofs.Parts.{ints, abs}
 use Rattle.integers.proofs.Products.{mul-abs}
 use Rattle.lists.proofs.Loops.{and-left, and-right}
 use Rattle.model.proofs.StepBounds.{abs-sum}

@@ -6,7 +6,7 @@ use Rattle.model.specs.Plans.{planNumbers}
 use Rattle.model.specs.Judging.{declaredPart}
 use Rattle.declarations.proofs.Accepted.{source-held}
 use Rattle.source.specs.Step.{state}
-use Rattle.source.proofs.Judging.{bytes-of, task-of, accepted-task, counted-task, few-actions, ready, goal-is, zero-room, zeros-kept, judged-so}
+use Rattle.source.proofs.Judging.{bytes-of, task-of, accepted-task, counted-task, few-actions, ready, goal-is, equal-room, zeros-kept, judged-so}
 use borrow.Author.Needs.{needs}
 use Rattle.source.proofs.judge_steps.Statement.{statement}
 use Rattle.source.proofs.judge_steps.Tie as tie
@@ -23,7 +23,7 @@ run-requires : tie.Need-run-requires
 run-requires c κs = let s = c .before .before .before .before .before .before .before .before .before .before .before .before .before .before in
     let bytes = bytes-of (now (s .args .file)) (λ i. omega (arith, c .before .before .before .before .before .before .before .before .before .before .before .before .before .shared-slice-known .given i)) in
     let e = accepted-task (now (s .args .file)) (s .args .count) (s .pre .0) in
-    let h = source-held zero-room (c .before .before .before .before .before .before .read-source .ensures) (task-of (now (s .args .file)) (s .args .count)) e in
+    let h = source-held (equal-room _ _ _ _ _) (c .before .before .before .before .before .before .read-source .ensures) (task-of (now (s .args .file)) (s .args .count)) e in
     (record { variablesFew = h .variablesFew; modesFew = h .modesFew; valuesLong = h .room .startLong; modesLong = h .room .valuesLong; sizesLong = h .room .sizesLong }, few-actions (now (s .args .file)) (s .args .count) bytes (s .pre .0), s .pre .1)
 
 goal-bytes-requires : tie.Need-goal-bytes-requires
@@ -50,7 +50,7 @@ returns c = let s = c .before .before .before .before .before .before .before .b
     record {
       meets = λ t e.
           let n = counted-task file (s .args .count) bytes (s .pre .0) t e in
-          let h = source-held zero-room (D .ensures) t e in
+          let h = source-held (equal-room _ _ _ _ _) (D .ensures) t e in
           let r = ready file bytes t e (s .args .count) _ _ _ _ _ _ _ n (c .before .before .before .before .before .before .before .before .before .before .before .before .before .decode-actions .ensures) h in
           let g = rw (c .before .before .before .before .before .before .goal-bytes .ensures) at (c .before .before .before .before .before .decode-goal .ensures) in
           c .conclude .ensures
