@@ -12,7 +12,7 @@ use lib.IntN.{ℤ}
 use Rattle.integers.specs.All.{All}
 use Rattle.lists.specs.Loops.{every}
 use Rattle.lists.proofs.Loops.{every-at}
-use Rattle.model.specs.Tasks.{Effect, SourceAction, State}
+use Rattle.model.specs.Tasks.{SourceAction, State}
 use Rattle.model.specs.Steps.{integerAt, withinBounds, result, putResult, setAll, modesBelowSizes}
 use Rattle.model.specs.Systems.{provided}
 use Rattle.model.specs.Judging.{declaredPart}
@@ -51,15 +51,6 @@ length-setAll [] l = refl
 length-setAll (e ∷ es) l = length-setAll es _ ∙ length-set l (e .0) (e .1)
 
 module _ (n m : ℕ) (lower upper : List ℤ) (sizes : List ℕ) (values : List ℤ) (modes : List ℕ) (a : DecodedSource) where
-  abbrev pub valuesOf : ℕ → ℤ
-  valuesOf = integerAt (take n values)
-
-  abbrev pub effectOf : Effect
-  effectOf = effectIn (a .effect) (a .«term_count») (a .terms)
-
-  abbrev pub effectsOf : List (ℕ × ℕ)
-  effectsOf = modeEffectsIn (a .«mode_effect_count») (a .«mode_effect_modes») (a .«mode_effect_values»)
-
   -- the tests, as the code makes them: those of the state before, then of the state after
   abbrev pub madeAfter : List Bool
   madeAfter =

@@ -1,6 +1,6 @@
-// States of a source task, and what a step makes of one.
+// States of a source task, what a step makes of one, and the judge of whole plans.
 //
-// A state is passed and returned by value. The work is done by functions on lent arrays, which cite the same definitions.
+// A state is passed and returned by value. The work is done by functions on lent arrays, which cite the same definitions. What steps cost is not known here.
 use actions::CONDITIONS;
 use actions::Effect;
 use actions::Goal;
