@@ -153,6 +153,16 @@ pub fn strokes_of(
     }
 }
 
+// The strokes of an action, over the values before the step.
+pub fn action_strokes(values: &[i64; VARIABLES], n: usize, action: SourceAction) -> Strokes
+    requires { ⌜ (n ≤ 8) × (effectFits (actionIs action .effect) (integerAt (take n (now values))) ≡ true) ⌝ }
+    ensures { λ r. ⌜ Listed (strokesOf (actionIs action .effect) (integerAt (take n (now (values .entry))))) r ⌝ }
+{
+    let effect = action.effect;
+    let terms = action.terms;
+    strokes_of(values, n, effect, action.term_count, terms)
+}
+
 // The strokes of a stage as a run, its actions being numbered from `first`.
 fn run_of(first: u16, z: i64) -> Run
     requires { ⌜ first + 2 < 65536 ⌝ }
