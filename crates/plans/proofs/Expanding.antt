@@ -4,7 +4,7 @@ use mathlib.Core.Path.{_≡_, refl, sym, ap, ap₂, _∙_, subst}
 use Prim.Native.Nat.{ℕ, zero, suc, _+_, _≤_, _<_}
 use native.Mathlib.Numerals.{add-one}
 use native.Mathlib.Omega.{arith}
-use mathlib.Core.Bool.{Bool, true, false}
+use mathlib.Core.Bool.{Bool, true, false, cond}
 use mathlib.Core.Option.{Option, none, some, Option·none-ne-some}
 use mathlib.Core.List.{List, [], _∷_, _++_, append-nil}
 use lib.ListN.{length, getD, getElem?, take, drop, drop-of-length-le}
@@ -24,10 +24,9 @@ use Rattle.model.proofs.Pairing.{bind-gives, some-injective}
 use Rattle.model.proofs.JudgedPlans.{source-step-counts}
 use Rattle.actions.specs.declared.SourceAction.{SourceAction as DecodedSource}
 use Rattle.source.specs.Parts.{effectFits}
-use Rattle.source.specs.Step.{state, actionIs, Shaped, Tried}
+use Rattle.source.specs.Step.{state, actionIs, stepOf, Shaped, Tried}
 use Rattle.source.specs.Judged.{Ready}
 use Rattle.source.proofs.Steps.{step-of-task}
-use Rattle.prices.proofs.Measuring.{fitted}
 use Rattle.runs.specs.declared.Strokes.{Strokes}
 use Rattle.runs.specs.Made.{strokesIs}
 use Rattle.runs.specs.Openings.{actionsIn, Opened}
@@ -82,6 +81,18 @@ module _ {p : List ℕ} {count : ℕ} {table : List DecodedSource} {n : ℕ} {lo
         let t = g .able .task in
         omega (arith, source-step-counts (soundSource (lowerBounds t) (upperBounds t) (sizesOf (t .modes))) (lowerBounds t) (upperBounds t) (t .actions) (declaredPart n m (state values modes)) k (taken .0) (taken .1), g .able .ready .counted)
 
+    -- and what its effect reads fits
+    pub fits : (d : DecodedSource) → effectFits (actionIs (getD table k d) .effect) (integerAt (take n values)) ≡ true
+    unfolding stepOf
+    fits d = go _ (effectFits (actionIs (getD table k d) .effect) (integerAt (take n values))) (step-of-task t (g .able .ready .ok) (declaredPart n m (state values modes)) k (actionIs (getD table k d)) (g .able .ready .actionsAre k d named) ∙ taken .1)
+      where
+        t : SourceTask
+        t = g .able .task
+
+        go : (o : Option State) (f : Bool) → cond f o none ≡ some (taken .0) → f ≡ true
+        go o true q = refl
+        go o false q = absurd (Option·none-ne-some (taken .0) q)
+
     module _ (d : DecodedSource) {b : Bool} {values′ : List ℤ} {modes′ : List ℕ} (T : Tried n m lower upper sizes values modes (actionIs (getD table k d)) b values′ modes′) where
       tried : (t : SourceTask) → Ready t count table n lower upper m sizes → stepSource t (declaredPart n m (state values modes)) k ≡ provided b (declaredPart n m (state values′ modes′))
       tried t r =
@@ -98,9 +109,6 @@ module _ {p : List ℕ} {count : ℕ} {table : List DecodedSource} {n : ℕ} {lo
 
       stepped : (t : SourceTask) → Ready t count table n lower upper m sizes → stepSource t (declaredPart n m (state values modes)) k ≡ some (declaredPart n m (state values′ modes′))
       stepped t r = tried t r ∙ ap (λ (c : Bool). provided c (declaredPart n m (state values′ modes′))) applied
-
-      pub fits : effectFits (actionIs (getD table k d) .effect) (integerAt (take n values)) ≡ true
-      fits = fitted T applied
 
       module _ (enough : count ≤ length table) (s : Strokes) (q : strokesIs s ≡ strokesOf (actionIs (getD table k d) .effect) (integerAt (take n values))) (numbers : List ℕ) (opens : Opened table count numbers) where
         -- what the step becomes, and the expansion of the rest behind it

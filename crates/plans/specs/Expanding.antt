@@ -6,17 +6,18 @@ use mathlib.Core.Bool.{Bool, true, cond}
 use mathlib.Core.Option.{some}
 use mathlib.Core.List.{List}
 use lib.Dec.{ltb}
+use lib.ListN.{take}
 use lib.IntN.{ℤ}
 use Rattle.lists.specs.Answer.{Answer, given, then}
 use Rattle.lists.specs.Writing.{Room, Wrote}
 use Rattle.lists.specs.Written.{answerOf, Lent}
 use Rattle.lists.specs.declared.Written.{Written}
 use Rattle.lists.specs.declared.Written.the-variants.{Bytes, Refused}
-use Rattle.model.specs.Tasks.{SourceTask, State}
+use Rattle.model.specs.Tasks.{SourceAction, SourceTask, State}
 use Rattle.model.specs.Decoding.{readSource}
 use Rattle.model.specs.Plans.{planBytes}
 use Rattle.model.specs.Systems.{runPlan, expandFrom}
-use Rattle.model.specs.Steps.{lowerBounds, upperBounds, sourceStart, stepSource, goalHolds, sourceGoalHolds}
+use Rattle.model.specs.Steps.{integerAt, lowerBounds, upperBounds, sourceStart, stepSource, goalHolds, sourceGoalHolds}
 use Rattle.model.specs.Stages.{opening}
 use Rattle.model.specs.Expansion.{stageStepsFrom, expandTask}
 use Rattle.model.specs.Judging.{declaredPart, judgeSourceTask, priceTask}
@@ -27,8 +28,11 @@ use Rattle.source.specs.declared.Progress.{Progress}
 use Rattle.source.specs.declared.Progress.the-variants.{Through, Stopped}
 use Rattle.source.specs.declared.Shape.{Shape}
 use Rattle.source.specs.declared.State.{State as StateByValue}
-use Rattle.source.specs.Step.{state, wholeIs, Shaped}
+use Rattle.source.specs.Step.{state, wholeIs, Shaped, Tried}
 use Rattle.source.specs.Judged.{Ready, goalModesIn, goalConditionsIn}
+use Rattle.runs.specs.declared.Strokes.{Strokes}
+use Rattle.runs.specs.Made.{Listed}
+use Rattle.runs.specs.Strokes.{strokesOf}
 use Rattle.plans.specs.declared.Setting.{Setting}
 
 -- ---- what a file declares, by value
@@ -80,6 +84,12 @@ WritableFor p count table h x out = Writable p count table (h .variables) (h .lo
 
 abbrev pub ExpandedFor : List ℕ → ℕ → List DecodedSource → Shape → StateByValue → List ℕ → List ℕ → ℕ → Type 0
 ExpandedFor p count table h x old after r = Expanded p count table (h .variables) (h .lower) (h .upper) (h .modes) (h .sizes) (x .values) (x .modes) old after r
+
+-- ---- a step was taken: its strokes, and the arrays after
+pub record StepTaken (h : Shape) (a : SourceAction) (values : List ℤ) (modes : List ℕ) (r : Strokes) (values′ : List ℤ) (modes′ : List ℕ) : Type 0 where
+  pub applied : Bool
+  pub tried : Tried (h .variables) (h .modes) (h .lower) (h .upper) (h .sizes) values modes a applied values′ modes′
+  pub strokes : Listed (strokesOf (a .effect) (integerAt (take (h .variables) values))) r
 
 -- ---- a plan of the task of an accepted file was expanded
 abbrev pub expansionAnswer : SourceTask → List ℕ → Answer (List ℕ)

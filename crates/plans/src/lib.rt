@@ -2,7 +2,9 @@
 //
 // A plan is judged and measured first, then written run by run into output that the caller lends. It never writes what it refuses.
 use actions::Goal;
+use actions::SourceAction;
 use lists::Written;
+use runs::Strokes;
 use source::MODES;
 use source::Progress;
 use source::Shape;
@@ -11,14 +13,18 @@ use source::Table;
 use source::VARIABLES;
 ghost use mathlib.Core.Path.{_≡_};
 ghost use Prim.Native.Nat.{_≤_};
-ghost use lib.ListN.{length};
+ghost use mathlib.Core.Bool.{true};
+ghost use lib.ListN.{length, take};
 ghost use Rattle.lists.specs.Written.{Lent};
 ghost use Rattle.model.specs.Judging.{expandBytes};
 ghost use Rattle.model.specs.Limits.{sourceLimits};
 ghost use Rattle.model.specs.Plans.{planNumbers};
 ghost use Rattle.model.specs.Reading.{verdictOf};
+ghost use Rattle.model.specs.Steps.{integerAt};
+ghost use Rattle.source.specs.Parts.{effectFits};
+ghost use Rattle.source.specs.Step.{actionIs, Shaped};
 ghost use Rattle.source.specs.Judged.{AcceptedWith};
-ghost use Rattle.plans.specs.Expanding.{Declares, ShapedFor, lastLength, Counted, WritableFor, ExpandedFor, StepsExpanded};
+ghost use Rattle.plans.specs.Expanding.{Declares, ShapedFor, lastLength, Counted, WritableFor, ExpandedFor, StepTaken, StepsExpanded};
 
 // What a file declares, by value: the shape of its states, and its start.
 struct Setting {
@@ -111,6 +117,26 @@ fn count_bytes(
     last_length(progress, met, steps, measured.price, measured.passing)
 }
 
+// Takes a step in a lent state, and gives its strokes, which go by the values before it.
+fn take_step(
+    values: &mut [i64; VARIABLES],
+    modes: &mut [u16; MODES],
+    shape: Shape,
+    action: SourceAction,
+) -> Strokes
+    requires { ⌜ Shaped (shape .variables) (shape .modes) (now values) (now modes) (shape .sizes) × (effectFits (actionIs action .effect) (integerAt (take (shape .variables) (now values))) ≡ true) ⌝ }
+    ensures { λ r. ⌜ StepTaken shape (actionIs action) (now (values .entry)) (now (modes .entry)) r (now (values .exit)) (now (modes .exit)) ⌝ }
+{
+    let n = shape.variables;
+    let lower = shape.lower;
+    let upper = shape.upper;
+    let m = shape.modes;
+    let sizes = shape.sizes;
+    let before = *values;
+    source::try_action(values, modes, n, &lower, &upper, m, &sizes, action);
+    runs::action_strokes(&before, n, action)
+}
+
 // Writes the expansion of a plan whose steps apply, into output that has room.
 fn put_plan(
     out: &mut [u8],
@@ -125,11 +151,6 @@ fn put_plan(
     requires { ⌜ WritableFor (planNumbers (now plan)) count (table .actions) shape start (now out) ⌝ }
     ensures { λ r. ⌜ ExpandedFor (planNumbers (now (plan .entry))) count (table .actions) shape start (now (out .entry)) (now (out .exit)) r ⌝ }
 {
-    let n = shape.variables;
-    let lower = shape.lower;
-    let upper = shape.upper;
-    let m = shape.modes;
-    let sizes = shape.sizes;
     let openings = runs::openings_of(count, table);
     let mut values = start.values;
     let mut modes = start.modes;
@@ -137,19 +158,7 @@ fn put_plan(
     let mut i: usize = 0;
     while i < steps {
         let k = source::wide16(planbytes::action_of(plan, i));
-        let action = table.actions[k];
-        let before = values;
-        source::try_action(
-            &mut values,
-            &mut modes,
-            n,
-            &lower,
-            &upper,
-            m,
-            &sizes,
-            action,
-        );
-        let strokes = runs::action_strokes(&before, n, action);
+        let strokes = take_step(&mut values, &mut modes, shape, table.actions[k]);
         place = runs::put_step(out, place, openings.numbers[k], strokes);
         i += 1;
     }

@@ -16,24 +16,23 @@ use Rattle.plans.proofs.put_plan.Tie as tie
 use Rattle.plans.proofs.put_plan.Reads as reads
 use Rattle.plans.proofs.put_plan.Lts as lts
 use Rattle.planbytes.proofs.action_of.Reads as action-of-reads
+use Rattle.plans.proofs.take_step.Reads as take-step-reads
 use Rattle.runs.proofs.openings_of.Reads as openings-of-reads
 use Rattle.runs.proofs.put_step.Reads as put-step-reads
-use Rattle.runs.proofs.action_strokes.Reads as action-strokes-reads
-use Rattle.source.proofs.try_action.Reads as try-action-reads
 use Rattle.source.proofs.wide16.Reads as wide16-reads
 
 abbrev Inv-loop : tie.InvT-loop
-Inv-loop out₀ plan steps count table n lower upper m sizes openings values₀ modes₀ place₀ i₀ out values modes place i =
-    Going (planNumbers plan) count (table .actions) n lower upper m sizes values₀ modes₀ out₀ values modes out place i
+Inv-loop out₀ plan steps count shape table openings values₀ modes₀ place₀ i₀ out values modes place i =
+    Going (planNumbers plan) count (table .actions) (shape .variables) (shape .lower) (shape .upper) (shape .modes) (shape .sizes) values₀ modes₀ out₀ values modes out place i
 
 abbrev μ-loop : tie.MeasureT-loop
-μ-loop out₀ plan steps count table n lower upper m sizes openings values₀ modes₀ place₀ i₀ out values modes place i =
+μ-loop out₀ plan steps count shape table openings values₀ modes₀ place₀ i₀ out values modes place i =
     steps - i
 
 -- a turn of the loop, from the number of its step on
 module _ (w : tie.After-wide16 Inv-loop μ-loop) where
   abbrev s : tie.Start Inv-loop μ-loop
-  s = w .before .before .before .before .before .before .before .before .before .before .before .before
+  s = w .before .before .before .before .before .before .before .before .before
 
   abbrev going : Going (planNumbers (now (s .args .plan))) (s .args .count) (s .args .t5 .actions) (s .args .shape .variables) (s .args .shape .lower) (s .args .shape .upper) (s .args .shape .modes) (s .args .shape .sizes)
       (s .args .start .values) (s .args .start .modes) (now (s .args .out)) (w .before .before .before .loop .values) (w .before .before .before .loop .modes) (w .before .before .before .loop .out) (w .before .before .before .loop .place) (w .before .before .before .loop .i)
@@ -52,64 +51,59 @@ module _ (w : tie.After-wide16 Inv-loop μ-loop) where
   enough = let e : length (s .args .t5 .actions) ≡ 32 = search (needs, length-mapped) in omega (arith, s .pre .0 .1)
 
 openings-of-requires : tie.Need-openings-of-requires Inv-loop μ-loop
-openings-of-requires c κs = c .before .before .before .before .before .pre .0 .1
+openings-of-requires c κs = c .before .before .pre .0 .1
 
 loop-holds : tie.Need-loop-holds Inv-loop μ-loop
-loop-holds c = let s = c .before .before .before .before .before .before .before .before in begins _ _ _ _ _ _ _ _ _ _ _ (s .pre .1) (s .pre .0 .0)
+loop-holds c = let s = c .before .before .before .before .before in begins _ _ _ _ _ _ _ _ _ _ _ (s .pre .1) (s .pre .0 .0)
 
 action-of-requires : tie.Need-action-of-requires Inv-loop μ-loop
-action-of-requires c κs = let s = c .before .before .before .before .before .before .before .before .before .before in omega (arith, halves-long (now (s .args .plan)), c .loop-test .taken, s .pre .0 .2)
+action-of-requires c κs = let s = c .before .before .before .before .before .before .before in omega (arith, halves-long (now (s .args .plan)), c .loop-test .taken, s .pre .0 .2)
 
 wide16-requires : tie.Need-wide16-requires Inv-loop μ-loop
 wide16-requires c κs = search needs
 
-mul-action : tie.Need-mul-action Inv-loop μ-loop
-mul-action c = omega (arith, below c, s c .pre .0 .1)
+mul-take-step : tie.Need-mul-take-step Inv-loop μ-loop
+mul-take-step c = let w = c .before .before in omega (arith, below w, s w .pre .0 .1)
 
-element-copy-out-action : tie.Need-element-copy-out-action Inv-loop μ-loop
-element-copy-out-action c = omega (arith, below c, s c .pre .0 .1)
+element-copy-out-take-step : tie.Need-element-copy-out-take-step Inv-loop μ-loop
+element-copy-out-take-step c = let w = c .before .before in omega (arith, below w, s w .pre .0 .1)
 
-try-action-requires : tie.Need-try-action-requires Inv-loop μ-loop
-try-action-requires c κs = c .before .before .before .before .before .before .before .before .before .loop .inv .shaped
-
-action-strokes-requires : tie.Need-action-strokes-requires Inv-loop μ-loop
-action-strokes-requires c κs =
-    let w = c .before .before .before .before .before .before .before .before in
-    (s w .pre .0 .0 .variablesFew, fits (going w) (within w) (w .wide16 .result) (is w) _ (c .before .try-action .ensures))
+take-step-requires : tie.Need-take-step-requires Inv-loop μ-loop
+take-step-requires c κs = let w = c .before .before .before in (going w .shaped, fits (going w) (within w) (w .wide16 .result) (is w) _)
 
 mul-put-step : tie.Need-mul-put-step Inv-loop μ-loop
-mul-put-step c = let w = c .before .before .before .before .before .before .before .before .before .before in omega (arith, below w, s w .pre .0 .1)
+mul-put-step c = let w = c .before .before .before .before .before in omega (arith, below w, s w .pre .0 .1)
 
 element-copy-out-put-step : tie.Need-element-copy-out-put-step Inv-loop μ-loop
-element-copy-out-put-step c = let w = c .before .before .before .before .before .before .before .before .before .before in omega (arith, below w, s w .pre .0 .1)
+element-copy-out-put-step c = let w = c .before .before .before .before .before in omega (arith, below w, s w .pre .0 .1)
 
 put-step-requires : tie.Need-put-step-requires Inv-loop μ-loop
 put-step-requires c κs =
-    let w = c .before .before .before .before .before .before .before .before .before .before .before in
+    let w = c .before .before .before .before .before .before in
     let o = w .before .before .before .before .before .before .openings-of in
-    let a = c .before .before .action-strokes in (
-      (omega (arith, o .ensures .few (w .wide16 .result) (omega (arith, below w)), below w, s w .pre .0 .1), a .ensures .few),
-      has-room (going w) (within w) (w .wide16 .result) (is w) _ (c .before .before .before .before .try-action .ensures) (enough w) (a .result) (a .ensures .is) (o .result .numbers) (o .ensures),
+    let a = c .before .before .take-step in (
+      (omega (arith, o .ensures .few (w .wide16 .result) (omega (arith, below w)), below w, s w .pre .0 .1), a .ensures .strokes .few),
+      has-room (going w) (within w) (w .wide16 .result) (is w) _ (a .ensures .tried) (enough w) (a .result) (a .ensures .strokes .is) (o .result .numbers) (o .ensures),
     )
 
 add-i : tie.Need-add-i Inv-loop μ-loop
-add-i c = let w = c .before .before .before .before .before .before .before .before .before .before .before .before .before .before in omega (arith, w .before .before .loop-test .taken, s w .fits .steps)
+add-i c = let w = c .before .before .before .before .before .before .before .before .before in omega (arith, w .before .before .loop-test .taken, s w .fits .steps)
 
 loop-less : tie.Need-loop-less Inv-loop μ-loop
-loop-less c = let w = c .before .before .before .before .before .before .before .before .before .before .before .before .before .before in omega (arith, w .before .before .loop-test .taken)
+loop-less c = let w = c .before .before .before .before .before .before .before .before .before in omega (arith, w .before .before .loop-test .taken)
 
 loop-again : tie.Need-loop-again Inv-loop μ-loop
 loop-again c =
-    let w = c .before .before .before .before .before .before .before .before .before .before .before .before .before .before in
+    let w = c .before .before .before .before .before .before .before .before .before in
     let o = w .before .before .before .before .before .before .openings-of in
-    let a = c .before .before .before .before .before .action-strokes in
-    goes (going w) (within w) (w .wide16 .result) (is w) _ (c .before .before .before .before .before .before .before .try-action .ensures) (enough w) (a .result) (a .ensures .is) (o .result .numbers) (o .ensures) (c .before .before .put-step .ensures)
+    let a = c .before .before .before .before .before .take-step in
+    goes (going w) (within w) (w .wide16 .result) (is w) _ (a .ensures .tried) (enough w) (a .result) (a .ensures .strokes .is) (o .result .numbers) (o .ensures) (c .before .before .put-step .ensures)
 
 same-length : tie.Need-same-length Inv-loop μ-loop
 same-length c = as-long (c .before .loop .inv)
 
 returns : tie.Need-returns Inv-loop μ-loop
-returns c = let s = c .before .before .before .before .before .before .before .before .before .before in ends (c .before .loop .inv) (omega (arith, c .loop-test .left, s .pre .0 .2))
+returns c = let s = c .before .before .before .before .before .before .before in ends (c .before .loop .inv) (omega (arith, c .loop-test .left, s .pre .0 .2))
 
 pub put-plan-spec : {M : Type 1} → statement M
 put-plan-spec =
@@ -121,10 +115,9 @@ put-plan-spec =
     loop-holds
     action-of-requires
     wide16-requires
-    mul-action
-    element-copy-out-action
-    try-action-requires
-    action-strokes-requires
+    mul-take-step
+    element-copy-out-take-step
+    take-step-requires
     mul-put-step
     element-copy-out-put-step
     put-step-requires
