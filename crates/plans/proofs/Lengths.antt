@@ -1,13 +1,12 @@
 -- How long an expansion is: as long as its price says, step by step. And what the answers make of it.
 -- Assumes nothing.
 use mathlib.Core.Path.{_≡_, refl, sym, ap, ap₂, _∙_, subst}
-use Prim.Native.Nat.{ℕ, suc, _+_, _*_, _≤_}
-use native.Mathlib.Nat.{zero-add}
+use Prim.Native.Nat.{ℕ, suc, _+_, _*_}
 use native.Mathlib.Numerals.{add-one}
 use native.Mathlib.Omega.{arith}
 use mathlib.Core.Bool.{Bool, true, false, cond}
-use mathlib.Core.Option.{Option, none, some}
-use mathlib.Core.List.{List, [], _∷_, _++_}
+use mathlib.Core.Option.{Option, some}
+use mathlib.Core.List.{List, [], _∷_}
 use lib.Dec.{ltb}
 use lib.ListN.{length, getElem?, length-append}
 use lib.IntN.{ℤ}
@@ -16,14 +15,14 @@ use Rattle.lists.proofs.Numbers.{length-numbers}
 use Rattle.model.specs.Tasks.{SourceAction, SourceTask, State}
 use Rattle.model.specs.Plans.{planBytes, readPlan}
 use Rattle.model.specs.Systems.{orEmpty, orZero, runPlan, totalPrice}
-use Rattle.model.specs.Steps.{integerAt, lowerBounds, upperBounds, sizesOf, soundSource, trySource, sourceStep, sourceStart, stepSource, sourceGoalHolds}
+use Rattle.model.specs.Steps.{integerAt, lowerBounds, upperBounds, trySource, sourceStep, sourceStart, stepSource, sourceGoalHolds}
 use Rattle.model.specs.Stages.{stagesOf, opening}
 use Rattle.model.specs.Expansion.{stageWalk, openedValues, stageStepsFrom, priceOfEffect, priceFrom, expandTask}
 use Rattle.model.specs.Judging.{judge, declaredPart, judgeSourceTask, pricesFrom, priceTask, expandBytes}
 use Rattle.model.specs.Limits.{sourceLimits}
 use Rattle.model.specs.Reading.{Verdict as FileVerdict, Rejected, verdictOf}
 use Rattle.model.specs.Decoding.{onVerdict}
-use Rattle.model.proofs.Answers.{Gives, given-injective, then-gives}
+use Rattle.model.proofs.Answers.{given-injective, then-gives}
 use Rattle.model.proofs.Pairing.{bind-gives}
 use Rattle.model.proofs.JudgedPlans.{judged, capped, within-limit}
 use Rattle.lists.specs.Written.{answerOf, Lent}

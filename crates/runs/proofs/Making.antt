@@ -11,7 +11,7 @@ use lib.ListN.{length, take, set, replicate, length-set, length-append}
 use lib.Seq.{take-suc-set}
 use lib.IntN.{ℤ, pos, negsuc, natAbs, _-ℤ_, _*ℤ_}
 use lib.Signed.{leZ}
-use Rattle.integers.specs.Division.{unitLess, sign, floor, quotientOf, residueOf}
+use Rattle.integers.specs.Division.{unitLess, floor, quotientOf, residueOf}
 use Rattle.integers.specs.Parts.{Within, EachWithin}
 use Rattle.integers.proofs.Parts.{ints, sub, mul-up, mul-down}
 use Rattle.runs.specs.declared.Strokes.{Strokes}

@@ -1,5 +1,5 @@
 -- `planbytes::matches_ones` meets its contract. Assumes nothing.
-use mathlib.Core.Path.{_≡_, sym, _∙_}
+use mathlib.Core.Path.{sym, _∙_}
 use Prim.Native.Nat.{_-_}
 use native.Mathlib.Omega.{arith}
 use lib.ListN.{drop}
@@ -7,7 +7,6 @@ use denote.Ref.{now}
 use Rattle.model.specs.Plans.{planNumbers}
 use Rattle.planbytes.specs.Agreeing.{Passed}
 use Rattle.planbytes.proofs.Agreeing.{number-at, passed-next, passed-stop, passed-end}
-use borrow.Author.Needs.{needs}
 use Rattle.planbytes.proofs.matches_ones.Statement.{statement}
 use Rattle.planbytes.proofs.matches_ones.Tie as tie
 

@@ -8,11 +8,6 @@ use Rattle.plans.proofs.Lengths.{counted-so}
 use borrow.Author.Needs.{needs}
 use Rattle.plans.proofs.count_bytes.Statement.{statement}
 use Rattle.plans.proofs.count_bytes.Tie as tie
-use Rattle.plans.proofs.count_bytes.Reads as reads
-use Rattle.plans.proofs.count_bytes.Lts as lts
-use Rattle.plans.proofs.last_length.Reads as last-length-reads
-use Rattle.prices.proofs.measure.Reads as measure-reads
-use Rattle.source.proofs.goal_holds.Reads as goal-holds-reads
 
 measure-requires : tie.Need-measure-requires
 measure-requires c κs = search needs

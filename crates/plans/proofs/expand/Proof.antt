@@ -12,11 +12,6 @@ use Rattle.plans.proofs.Lengths.{file-rejected, plan-refused, plan-expa
 use borrow.Author.Needs.{needs}
 use Rattle.plans.proofs.expand.Statement.{statement}
 use Rattle.plans.proofs.expand.Tie as tie
-use Rattle.plans.proofs.expand.Reads as reads
-use Rattle.plans.proofs.expand.Lts as lts
-use Rattle.planbytes.proofs.count_steps.Reads as count-steps-reads
-use Rattle.plans.proofs.expand_steps.Reads as expand-steps-reads
-use Rattle.tasks.proofs.check_source.Reads as check-source-reads
 
 check-source-requires : tie.Need-check-source-requires
 check-source-requires c κs = search needs

@@ -20,14 +20,6 @@ use Rattle.plans.proofs.Lengths.{Expands, expands, no-expansion}
 use borrow.Author.Needs.{needs}
 use Rattle.plans.proofs.expand_steps.Statement.{statement}
 use Rattle.plans.proofs.expand_steps.Tie as tie
-use Rattle.plans.proofs.expand_steps.Reads as reads
-use Rattle.plans.proofs.expand_steps.Lts as lts
-use Rattle.actions.proofs.decode_goal.Reads as decode-goal-reads
-use Rattle.actions.proofs.goal_bytes.Reads as goal-bytes-reads
-use Rattle.plans.proofs.count_bytes.Reads as count-bytes-reads
-use Rattle.plans.proofs.put_plan.Reads as put-plan-reads
-use Rattle.plans.proofs.read_setting.Reads as read-setting-reads
-use Rattle.source.proofs.decode_actions.Reads as decode-actions-reads
 
 -- what is read from the file, and what is counted from it, for the task that the file gives
 module _ (c : tie.After-count-bytes) where
@@ -143,7 +135,7 @@ returns-3 c =
     record {
       meets = λ t e.
           let x = expanding b t e in
-          written (x .answers) (x .long) (c .before .before .before .before .if1 .left) (rw (held m t e .startIs) at (c .before .before .put-plan .ensures .wrote t (is-ready m t e)));
+          written (x .answers) (x .long) (omega (arith, c .before .before .before .before .if1 .left)) (rw (held m t e .startIs) at (c .before .before .put-plan .ensures .wrote t (is-ready m t e)));
     }
 
 pub expand-steps-spec : {M : Type 1} → statement M

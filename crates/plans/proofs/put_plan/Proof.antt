@@ -1,8 +1,7 @@
 -- `plans::put_plan` meets its contract. The loop's invariant is `Going`: what is left to write is the expansion of what is left of the plan,
 -- from the state reached. Assumes nothing.
-use Prim.Native.Nat.{ℕ, _-_, _<_, _≤_}
+use Prim.Native.Nat.{_-_, _<_, _≤_}
 use mathlib.Core.Path.{_≡_, _∙_}
-use mathlib.Core.List.{List}
 use native.Mathlib.Omega.{arith}
 use denote.Ref.{now}
 use lib.ListN.{length, getD}
@@ -13,13 +12,6 @@ use Rattle.plans.proofs.Expanding.{Going, begins, ends, as-long, named,
 use borrow.Author.Needs.{needs}
 use Rattle.plans.proofs.put_plan.Statement.{statement}
 use Rattle.plans.proofs.put_plan.Tie as tie
-use Rattle.plans.proofs.put_plan.Reads as reads
-use Rattle.plans.proofs.put_plan.Lts as lts
-use Rattle.planbytes.proofs.action_of.Reads as action-of-reads
-use Rattle.plans.proofs.take_step.Reads as take-step-reads
-use Rattle.runs.proofs.openings_of.Reads as openings-of-reads
-use Rattle.runs.proofs.put_step.Reads as put-step-reads
-use Rattle.source.proofs.wide16.Reads as wide16-reads
 
 abbrev Inv-loop : tie.InvT-loop
 Inv-loop out₀ plan steps count shape table openings values₀ modes₀ place₀ i₀ out values modes place i =

@@ -4,9 +4,6 @@ use Rattle.source.proofs.Judging.{zero-room}
 use borrow.Author.Needs.{needs}
 use Rattle.plans.proofs.read_setting.Statement.{statement}
 use Rattle.plans.proofs.read_setting.Tie as tie
-use Rattle.plans.proofs.read_setting.Reads as reads
-use Rattle.plans.proofs.read_setting.Lts as lts
-use Rattle.declarations.proofs.read_source.Reads as read-source-reads
 
 read-source-requires : tie.Need-read-source-requires
 read-source-requires c κs = search needs

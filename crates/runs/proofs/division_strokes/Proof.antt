@@ -1,9 +1,6 @@
 -- `runs::division_strokes` meets its contract. Assumes nothing.
-use mathlib.Core.Path.{_≡_, ap}
-use Prim.Native.Nat.{_≤_}
 use native.Mathlib.Omega.{arith}
 use mathlib.Core.List.{[], _∷_}
-use lib.IntN.{natAbs}
 use mir.Facts.{toZ-ofZ}
 use mir.Syntax.{w64}
 use mir.Val.{SFits}
@@ -14,11 +11,6 @@ use Rattle.runs.proofs.Making.{Fitting, fitting, listed-two, floor-with
 use borrow.Author.Needs.{needs}
 use Rattle.runs.proofs.division_strokes.Statement.{statement}
 use Rattle.runs.proofs.division_strokes.Tie as tie
-use Rattle.runs.proofs.division_strokes.Reads as reads
-use Rattle.runs.proofs.division_strokes.Lts as lts
-use Rattle.runs.proofs.divide_strokes.Reads as divide-strokes-reads
-use Rattle.runs.proofs.no_strokes.Reads as no-strokes-reads
-use Rattle.runs.proofs.with_two.Reads as with-two-reads
 
 no-strokes-requires : tie.Need-no-strokes-requires
 no-strokes-requires c κs = search needs

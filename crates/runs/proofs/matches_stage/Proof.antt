@@ -13,10 +13,6 @@ use Rattle.runs.proofs.Matching.{run-there, run-differs, run-whole}
 use borrow.Author.Needs.{needs}
 use Rattle.runs.proofs.matches_stage.Statement.{statement}
 use Rattle.runs.proofs.matches_stage.Tie as tie
-use Rattle.runs.proofs.matches_stage.Reads as reads
-use Rattle.runs.proofs.matches_stage.Lts as lts
-use Rattle.planbytes.proofs.matches_run.Reads as matches-run-reads
-use Rattle.runs.proofs.run_of.Reads as run-of-reads
 
 -- how much of the run stands there
 module _ (c : tie.After-matches-run) where

@@ -14,10 +14,6 @@ use Rattle.runs.proofs.Matching.{Matching, matching-start, matching-sto
 use borrow.Author.Needs.{needs}
 use Rattle.runs.proofs.matches_stages.Statement.{statement}
 use Rattle.runs.proofs.matches_stages.Tie as tie
-use Rattle.runs.proofs.matches_stages.Reads as reads
-use Rattle.runs.proofs.matches_stages.Lts as lts
-use Rattle.runs.proofs.matches_stage.Reads as matches-stage-reads
-use Rattle.runs.proofs.run_of.Reads as run-of-reads
 
 abbrev Inv-loop : tie.InvT-loop
 Inv-loop plan at first count times matched₀ number₀ i₀ matched number i = Matching first (record { count = count; times = times }) (planNumbers plan) at matched number i
@@ -64,7 +60,7 @@ returns c =
     let f : SFits w64 (getD (s .args .s .times) (l .loop .i) (pos 0)) = search needs in
     let is = simp (toZ-ofZ, f) at (m .before .run-of .ensures) in
     let e = simp (toZ-ofZ, f) at (m .matches-stage .ensures) in
-    matching-stop (l .loop .inv) (m .before .before .before .loop-test .taken) (m .before .run-of .result) is (m .matches-stage .result) e (c .if1 .taken)
+    matching-stop (l .loop .inv) (m .before .before .before .loop-test .taken) (m .before .run-of .result) is (m .matches-stage .result) e (omega (arith, c .if1 .taken))
 
 add-number : tie.Need-add-number Inv-loop μ-loop
 add-number c = let l = c .before .before .before .before .before .before in let s = l .before .before .before in omega (arith, l .loop .inv .numbered, l .loop .inv .bound, s .pre .0, s .pre .1)
@@ -83,7 +79,7 @@ loop-again c =
     let f : SFits w64 (getD (s .args .s .times) (l .loop .i) (pos 0)) = search needs in
     let is = simp (toZ-ofZ, f) at (m .before .run-of .ensures) in
     let e = simp (toZ-ofZ, f) at (m .matches-stage .ensures) in
-    matching-next (l .loop .inv) (m .before .before .before .loop-test .taken) (m .before .run-of .result) is (m .matches-stage .result) e (c .if1 .left)
+    matching-next (l .loop .inv) (m .before .before .before .loop-test .taken) (m .before .run-of .result) is (m .matches-stage .result) e (omega (arith, c .if1 .left))
 
 returns-2 : tie.Need-returns-2 Inv-loop μ-loop
 returns-2 c = matching-end (c .before .loop .inv) (c .loop-test .left)

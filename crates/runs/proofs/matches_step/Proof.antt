@@ -14,10 +14,6 @@ use Rattle.runs.proofs.Matching.{not-opened, opened-there, opened}
 use borrow.Author.Needs.{needs}
 use Rattle.runs.proofs.matches_step.Statement.{statement}
 use Rattle.runs.proofs.matches_step.Tie as tie
-use Rattle.runs.proofs.matches_step.Reads as reads
-use Rattle.runs.proofs.matches_step.Lts as lts
-use Rattle.planbytes.proofs.matches_run.Reads as matches-run-reads
-use Rattle.runs.proofs.matches_stages.Reads as matches-stages-reads
 
 -- the opening's law, over what was found
 module _ (c : tie.After-matches-run) where

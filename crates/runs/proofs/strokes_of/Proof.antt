@@ -1,5 +1,5 @@
 -- `runs::strokes_of` meets its contract, effect by effect. Assumes nothing.
-use mathlib.Core.Path.{_≡_, ap}
+use mathlib.Core.Path.{ap}
 use Prim.Native.Nat.{ℕ}
 use native.Mathlib.Omega.{arith}
 use denote.Ref.{now}
@@ -15,14 +15,6 @@ use Rattle.runs.proofs.Making.{fitting}
 use borrow.Author.Needs.{needs}
 use Rattle.runs.proofs.strokes_of.Statement.{statement}
 use Rattle.runs.proofs.strokes_of.Tie as tie
-use Rattle.runs.proofs.strokes_of.Reads as reads
-use Rattle.runs.proofs.strokes_of.Lts as lts
-use Rattle.integers.proofs.quotient.Reads as quotient-reads
-use Rattle.integers.proofs.residue.Reads as residue-reads
-use Rattle.runs.proofs.division_strokes.Reads as division-strokes-reads
-use Rattle.runs.proofs.linear_strokes.Reads as linear-strokes-reads
-use Rattle.runs.proofs.no_strokes.Reads as no-strokes-reads
-use Rattle.source.proofs.value_at.Reads as value-at-reads
 
 abbrev values : tie.Start → ℕ → ℤ
 values s = integerAt (take (s .args .n) (now (s .args .values)))
