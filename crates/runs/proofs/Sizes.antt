@@ -1,11 +1,11 @@
 -- How many restricted actions an action becomes, by its effect; and the numbers of the openings, each the one before and the size of its macro.
 -- Assumes nothing.
 use mathlib.Core.Path.{_≡_, refl, sym, ap, _∙_}
-use Prim.Native.Nat.{ℕ, zero, suc, min, _+_, _*_, _≤_, _<_}
+use Prim.Native.Nat.{ℕ, zero, suc, _+_, _*_, _≤_, _<_}
 use native.Mathlib.Numerals.{add-one}
 use native.Mathlib.Omega.{arith}
 use mathlib.Core.Bool.{Bool, true, false}
-use mathlib.Core.Option.{Option, none, some, Option·none-ne-some}
+use mathlib.Core.Option.{some, Option·none-ne-some}
 use mathlib.Core.List.{List, [], _∷_}
 use lib.Dec.{ltb}
 use lib.ListN.{length, getD, getElem?, take, set, length-set, replicate}
@@ -13,7 +13,6 @@ use lib.Seq.{getD-set-same, getD-set-other}
 use lib.IntN.{ℤ}
 use borrow.Author.Tests.{ltb-true, ltb-false}
 use Rattle.model.specs.Tasks.{linearEffect, SourceAction}
-use Rattle.model.specs.Decoding.{each}
 use Rattle.model.specs.Stages.{Stage, countActions, clear, move, helperA, drainTerms, stagesOf, macroSize, opening}
 use Rattle.model.proofs.Pairing.{some-injective}
 use Rattle.actions.specs.declared.SourceAction.{SourceAction as DecodedSource}

@@ -11,7 +11,7 @@ use Rattle.integers.specs.Division.{unitLess, floor, quotientOf, residueOf}
 use Rattle.integers.proofs.Parts.{ints, sum-parts, mul-up, mul-down}
 use Rattle.model.specs.Tasks.{Effect, noEffect, addEffect, linearEffect, quotientEffect, residueEffect, SourceAction}
 use Rattle.model.specs.Steps.{linear}
-use Rattle.model.specs.Stages.{Name, source, helperA, helperB, StageKind, byOne, byUnit, Stage, turnPlace, countActions, drain, refill, divide, empty, clear, move, drainTerms, openingAdditions, stagesOf, macroSize}
+use Rattle.model.specs.Stages.{Name, helperA, helperB, StageKind, byOne, byUnit, Stage, turnPlace, countActions, drain, refill, divide, empty, clear, move, drainTerms, openingAdditions, stagesOf, macroSize}
 use Rattle.model.specs.Expansion.{plus, unitsIn, afterStage, namedValues, strokes, stageWalk, openedValues, priceOfEffect}
 use Rattle.model.proofs.StageValues.{updated-itself, values-equal, drained, refilled, divided, emptiedA, emptiedB, cleared, effect}
 use Rattle.model.proofs.MacroPlace.{walk-length}

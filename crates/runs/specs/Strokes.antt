@@ -1,6 +1,6 @@
 -- How often each stage of an effect's macro is gone through, from the values before the step; and the numbers of the steps that this makes.
 -- Assumes nothing.
-use Prim.Native.Nat.{ℕ, zero, suc, _+_}
+use Prim.Native.Nat.{ℕ, zero, _+_}
 use mathlib.Core.List.{List, [], _∷_, _++_}
 use lib.IntN.{ℤ, natAbs}
 use Rattle.integers.specs.Division.{unitLess, floor, quotientOf, residueOf}

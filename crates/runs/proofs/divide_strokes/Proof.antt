@@ -5,7 +5,6 @@ use lib.IntN.{pos, natAbs, _-ℤ_}
 use mir.Facts.{toZ-ofZ}
 use mir.Syntax.{w64}
 use mir.Val.{SFits}
-use borrow.Author.Tests.{not-false}
 use borrow.Author.Needs.{needs}
 use Rattle.integers.specs.Division.{quotientOf}
 use Rattle.integers.proofs.Parts.{ints, sub, abs}
@@ -13,9 +12,6 @@ use Rattle.source.proofs.Numbers.{quotient-small}
 use Rattle.runs.proofs.Making.{floor-up, floor-down}
 use Rattle.runs.proofs.divide_strokes.Statement.{statement}
 use Rattle.runs.proofs.divide_strokes.Tie as tie
-use Rattle.runs.proofs.divide_strokes.Reads as reads
-use Rattle.runs.proofs.divide_strokes.Lts as lts
-use Rattle.integers.proofs.quotient.Reads as quotient-reads
 
 quotient-requires : tie.Need-quotient-requires
 quotient-requires c κs = rw (toZ-ofZ (c .fits .y), toZ-ofZ (c .fits .c)) (record { within = omega (arith, c .pre .0 .within) }, c .pre .1, c .pre .2)

@@ -1,38 +1,27 @@
 -- `runs::linear_strokes` meets its contract. The loop's invariant: the strokes made, and behind them those of the terms that are left, are
 -- those of all terms. Assumes nothing.
-use mathlib.Core.Path.{_≡_, refl, sym, ap, _∙_}
-use Prim.Native.Nat.{ℕ, _+_, _-_, _*_, _≤_, _<_}
+use mathlib.Core.Path.{ap}
+use Prim.Native.Nat.{ℕ, _-_}
 use native.Mathlib.Omega.{arith}
 use denote.Ref.{now}
 use mir.Facts.{toZ-ofZ}
 use mir.Syntax.{w64}
-use mir.Val.{SFits, toZ}
-use mathlib.Core.Bool.{true}
-use mathlib.Core.List.{List, [], _∷_, _++_, append-assoc, append-nil}
+use mir.Val.{SFits}
+use mathlib.Core.List.{List}
 use lib.IntN.{ℤ, pos, natAbs}
-use lib.ListN.{length, getD, take}
-use Rattle.integers.specs.Parts.{Within, EachWithin}
-use Rattle.lists.specs.Loops.{every}
+use lib.ListN.{getD, take}
 use Rattle.lists.proofs.Loops.{length-mapped, every-at}
-use Rattle.model.specs.Steps.{integerAt, linear}
+use Rattle.model.specs.Steps.{integerAt}
 use Rattle.actions.specs.declared.Term.{Term}
 use Rattle.actions.specs.Views.{termRoom, termIs}
 use Rattle.source.specs.Parts.{termsIn, termFits}
 use Rattle.source.proofs.Rows.{row-terms}
 use Rattle.source.proofs.Numbers as numbers
-use Rattle.runs.specs.Strokes.{termStrokes, strokesOf}
-use Rattle.runs.specs.Made.{strokesIs, Listed}
+use Rattle.runs.specs.Strokes.{strokesOf}
 use Rattle.runs.proofs.Making.{listed-two, Draining, draining-start, draining-next, draining-end}
 use borrow.Author.Needs.{needs}
 use Rattle.runs.proofs.linear_strokes.Statement.{statement}
 use Rattle.runs.proofs.linear_strokes.Tie as tie
-use Rattle.runs.proofs.linear_strokes.Reads as reads
-use Rattle.runs.proofs.linear_strokes.Lts as lts
-use Rattle.runs.proofs.no_strokes.Reads as no-strokes-reads
-use Rattle.runs.proofs.with_two.Reads as with-two-reads
-use Rattle.source.proofs.lesser.Reads as lesser-reads
-use Rattle.source.proofs.linear_of.Reads as linear-of-reads
-use Rattle.source.proofs.value_at.Reads as value-at-reads
 
 abbrev none : Term
 none = record { variable = 0; weight = pos 0 }

@@ -11,9 +11,6 @@ use Rattle.runs.proofs.Sizes.{sized, linear-size}
 use borrow.Author.Needs.{needs}
 use Rattle.runs.proofs.macro_size.Statement.{statement}
 use Rattle.runs.proofs.macro_size.Tie as tie
-use Rattle.runs.proofs.macro_size.Reads as reads
-use Rattle.runs.proofs.macro_size.Lts as lts
-use Rattle.source.proofs.lesser.Reads as lesser-reads
 
 abbrev none : Term
 none = record { variable = 0; weight = pos 0 }

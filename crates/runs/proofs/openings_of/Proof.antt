@@ -8,9 +8,6 @@ use Rattle.runs.proofs.Sizes.{Counting, counting-start, counting-next, 
 use borrow.Author.Needs.{needs}
 use Rattle.runs.proofs.openings_of.Statement.{statement}
 use Rattle.runs.proofs.openings_of.Tie as tie
-use Rattle.runs.proofs.openings_of.Reads as reads
-use Rattle.runs.proofs.openings_of.Lts as lts
-use Rattle.runs.proofs.macro_size.Reads as macro-size-reads
 
 abbrev Inv-loop : tie.InvT-loop
 Inv-loop count table o₀ next₀ k₀ o next k = Counting (table .actions) count (o .numbers) next k

@@ -11,11 +11,6 @@ use Rattle.runs.specs.Strokes.{stageSteps}
 use Rattle.runs.proofs.Writing.{stageParts, stage-parts}
 use Rattle.runs.proofs.put_stage.Statement.{statement}
 use Rattle.runs.proofs.put_stage.Tie as tie
-use Rattle.runs.proofs.put_stage.Reads as reads
-use Rattle.runs.proofs.put_stage.Lts as lts
-use Rattle.lists.proofs.fill_run.Reads as fill-run-reads
-use Rattle.lists.proofs.put16.Reads as put16-reads
-use Rattle.runs.proofs.run_of.Reads as run-of-reads
 
 abbrev Stage : tie.Start → List ℕ → ℕ → List (List ℕ) → Type 0
 Stage s out place parts = Left (now (s .args .out)) (s .args .at) (planBytes (stageSteps (s .args .first) (s .args .z))) out place parts

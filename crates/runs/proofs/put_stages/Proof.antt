@@ -1,8 +1,7 @@
 -- `runs::put_stages` meets its contract, stage by stage. Assumes nothing.
 use mathlib.Core.Path.{_≡_}
-use Prim.Native.Nat.{ℕ, _-_, _≤_}
+use Prim.Native.Nat.{_-_}
 use native.Mathlib.Omega.{arith}
-use denote.Ref.{now}
 use lib.ListN.{length, getD}
 use lib.IntN.{pos}
 use mir.Facts.{toZ-ofZ}
@@ -12,9 +11,6 @@ use Rattle.runs.proofs.Writing.{Stepping, stepping-start, stepping-room
 use borrow.Author.Needs.{needs}
 use Rattle.runs.proofs.put_stages.Statement.{statement}
 use Rattle.runs.proofs.put_stages.Tie as tie
-use Rattle.runs.proofs.put_stages.Reads as reads
-use Rattle.runs.proofs.put_stages.Lts as lts
-use Rattle.runs.proofs.put_stage.Reads as put-stage-reads
 
 abbrev Inv-loop : tie.InvT-loop
 Inv-loop out₀ at first count times place₀ number₀ i₀ out place number i = Stepping first (record { count = count; times = times }) out₀ at out place number i

@@ -1,7 +1,7 @@
 -- `runs::put_step` meets its contract: the opening, then the stages. Assumes nothing.
-use Prim.Native.Nat.{ℕ, _+_}
+use Prim.Native.Nat.{_+_}
 use native.Mathlib.Omega.{arith}
-use mathlib.Core.List.{List, [], _∷_}
+use mathlib.Core.List.{[], _∷_}
 use denote.Ref.{now}
 use Rattle.lists.proofs.Writing.{Left, step, done, room}
 use Rattle.model.specs.Plans.{planBytes}
@@ -11,10 +11,6 @@ use Rattle.runs.proofs.Writing.{opens}
 use borrow.Author.Needs.{needs}
 use Rattle.runs.proofs.put_step.Statement.{statement}
 use Rattle.runs.proofs.put_step.Tie as tie
-use Rattle.runs.proofs.put_step.Reads as reads
-use Rattle.runs.proofs.put_step.Lts as lts
-use Rattle.lists.proofs.put16.Reads as put16-reads
-use Rattle.runs.proofs.put_stages.Reads as put-stages-reads
 
 l₁ : (c : tie.After-put16) → let s = c .before .before .before in
     Left (now (s .args .out)) (s .args .at) (planBytes (stepNumbers (s .args .opening) (strokesIs (s .args .s)))) (c .put16 .last .0) (c .put16 .result) (planBytes (macroSteps (s .args .opening + 1) (strokesIs (s .args .s))) ∷ [])

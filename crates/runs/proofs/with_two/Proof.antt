@@ -6,8 +6,6 @@ use Rattle.runs.proofs.Making.{two-more}
 use borrow.Author.Needs.{needs}
 use Rattle.runs.proofs.with_two.Statement.{statement}
 use Rattle.runs.proofs.with_two.Tie as tie
-use Rattle.runs.proofs.with_two.Reads as reads
-use Rattle.runs.proofs.with_two.Lts as lts
 
 add-next : tie.Need-add-next
 add-next c = search needs
