@@ -1,6 +1,5 @@
 -- The proof of the cycle of calls {natural_length}: six more than the number without its last six places has. The measure is the number.
 -- Assumes nothing.
-use mathlib.Core.Path.{_≡_, sym, _∙_}
 use native.Mathlib.Omega.{arith}
 use borrow.Author.Needs.{needs}
 use Rattle.text.proofs.Digits.{at-most}
