@@ -195,9 +195,10 @@ fn take_turn(
             price: 0,
         };
     }
+    let price = prices::price_of(&before, n, action);
     Turn {
         applied: true,
-        price: prices::price_of(&before, n, action),
+        price,
     }
 }
 
