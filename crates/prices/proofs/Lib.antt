@@ -1,2 +1,2 @@
-pub mod Divided
+pub mod Answering
 pub mod Measuring
