@@ -1,41 +1,32 @@
 -- What the parts of the listing make of an accepted file.
 -- Assumes nothing.
-use mathlib.Core.Path.{_≡_, refl, sym, ap, ap₂, _∙_, subst}
-use Prim.Native.Nat.{ℕ, _+_, _≤_, _%_}
+use mathlib.Core.Path.{_≡_, refl, sym, ap, ap₂, subst}
+use Prim.Native.Nat.{ℕ, _+_, _≤_}
 use native.Mathlib.Omega.{arith}
-use mathlib.Core.Bool.{Bool, true, false, cond}
+use mathlib.Core.Bool.{false}
 use mathlib.Core.List.{List}
-use lib.Dec.{eqb, ltb}
 use lib.ListN.{length, length-append}
-use lib.IntN.{ℤ}
-use borrow.Author.Tests.{ltb-false}
 use Rattle.integers.specs.Numbers.{Bytes}
 use Rattle.lists.specs.Answer.{Answer, given, refused, then}
 use Rattle.lists.specs.Written.{Lent}
-use Rattle.lists.proofs.Numbers.{length-halves}
 use Rattle.lists.specs.declared.Written.{Written}
 use Rattle.model.specs.Tasks.{SourceTask, State}
 use Rattle.model.specs.Limits.{sourceLimits}
-use Rattle.model.specs.Reading.{Verdict as FileVerdict, Rejected, verdictOf}
+use Rattle.model.specs.Reading.{Verdict, Accepted, Rejected, verdictOf}
 use Rattle.model.specs.Decoding.{onVerdict, readSource}
 use Rattle.model.specs.Plans.{readPlan, planNumbers}
-use Rattle.model.specs.Steps.{stepSource, sourceStart, sourceGoalHolds}
-use Rattle.model.specs.Judging.{judge, declaredPart, pricesFrom, judgeSourceTask, priceTask}
-use Rattle.model.specs.Expansion.{priceFrom}
+use Rattle.model.specs.Steps.{sourceStart}
+use Rattle.model.specs.Judging.{judgeSourceTask, priceTask, pricePlan}
 use Rattle.model.specs.Listing.{stepLines, goalLine, refusedLine, textOf, listing}
+use Rattle.model.proofs.JudgedPlans.{plan-read}
 use Rattle.planbytes.specs.Counted.{countOf}
-use Rattle.source.specs.declared.Progress.{Progress}
-use Rattle.source.specs.declared.Progress.the-variants.{Through, Stopped}
 use Rattle.source.specs.declared.Table.{Table}
 use Rattle.source.specs.declared.Shape.{Shape}
 use Rattle.source.specs.declared.State.{State as StateByValue}
-use Rattle.source.specs.Step.{state, Shaped}
-use Rattle.source.specs.Judged.{Decoded, onProgress, AcceptedWith}
-use Rattle.source.proofs.Judging.{task-of, accepted-task, counted-task, ready}
-use Rattle.prices.specs.declared.Measured.{Measured}
-use Rattle.prices.specs.Measures.{PlanMeasured}
-use Rattle.listing.specs.declared.Survey.{Survey}
-use Rattle.listing.specs.Listed.{ReadyIn, ListableIn, textFrom, declaredIn, Set, listedFor, Surveyed, StepsListed}
+use Rattle.source.specs.Step.{Shaped}
+use Rattle.source.specs.Judged.{Decoded, AcceptedWith}
+use Rattle.source.proofs.Judging.{task-of, accepted-task, counted-task, ready, steps-of}
+use Rattle.listing.specs.Listed.{ReadyIn, ListableIn, textFrom, SettingIs, actionsOf}
 
 -- ---- the text
 pub lent-as : {old : List ℕ} {a b : Answer (List ℕ)} {after : List ℕ} {r : Written} → a ≡ b → Lent old a after r → Lent old b after r
@@ -45,7 +36,7 @@ pub text-long : (t : SourceTask) (p : List ℕ) (total : ℕ) (x : State) → le
 text-long t p total x = omega (arith, length-append (stepLines t 0 p x) (goalLine total))
 
 -- ---- an accepted file
-module _ (file : List ℕ) (bytes : Bytes file) (count : ℕ) (a : AcceptedWith (verdictOf sourceLimits file) count) (table : Table) (decoded : Decoded file count (table .actions)) (h : Shape) (x : StateByValue) (S : Set file h x) where
+module _ (file : List ℕ) (bytes : Bytes file) (count : ℕ) (a : AcceptedWith (verdictOf sourceLimits file) count) (table : Table) (decoded : Decoded file count (table .actions)) (h : Shape) (x : StateByValue) (S : SettingIs file h x) where
   pub set-ready : (t : SourceTask) → readSource file ≡ given t → ReadyIn t count table h
   set-ready t e = ready file bytes t e count (table .actions) _ (h .lower) (h .upper) (x .values) (h .sizes) (x .modes) (counted-task file count bytes a t e) decoded (S .holds t e)
 
@@ -57,74 +48,54 @@ module _ (file : List ℕ) (bytes : Bytes file) (count : ℕ) (a : AcceptedWith 
   pub set-listable : (p : List ℕ) (steps : ℕ) → steps ≡ length p → steps ≤ 1_000_000 → ListableIn p steps count table h x
   set-listable p steps e l = record { task = task-of file count; ready = set-ready (task-of file count) (accepted-task file count a); shaped = set-shaped; counted = e; few = l }
 
--- ---- the survey
-answers : (pr : Progress) (met : Bool) (n : ℕ) (x : State) (price : Answer ℕ) (total : ℕ) (f : ℕ → Answer (List ℕ)) → (pr ≡ Through → price ≡ given total)
-    → then (onProgress pr (cond met (given (n, x)) (refused 13 n))) (λ (v : ℕ × State). then price f) ≡ onProgress pr (cond met (f total) (refused 13 n))
-answers Through true n x price total f e = ap (λ (a : Answer ℕ). then a f) (e refl)
-answers Through false n x price total f e = refl
-answers (Stopped number place) met n x price total f e = refl
+-- ---- a refusal of the plan's price is the listing's
+then-refused : {A B X : Type 0} {number place : ℕ} (o : Answer A) (k : A → Answer B) (l : A → Answer X) → ((x : A) → k x ≡ refused number place → l x ≡ refused number place) → then o k ≡ refused number place → then o l ≡ refused number place
+then-refused (given x) k l h e = h x e
+then-refused {number = number} {place} (refused a b) k l h e = let x : a ≡ number = cc in let y : b ≡ place = cc in ap₂ refused x y
 
-pub surveyed-so : (t : SourceTask) (p : List ℕ) (count : ℕ) (table : Table) (h : Shape) (x : StateByValue) (values′ : List ℤ) (modes′ : List ℕ) (M : Measured) (met : Bool)
-    → declaredIn h x ≡ sourceStart t → ReadyIn t count table h
-    → PlanMeasured p count (table .actions) (h .variables) (h .lower) (h .upper) (h .modes) (h .sizes) (x .values) (x .modes) M values′ modes′
-    → met ≡ sourceGoalHolds t (declaredPart (h .variables) (h .modes) (state values′ modes′))
-    → listedFor t p ≡ onProgress (M .progress) (cond met (given (textFrom t p (M .price) (sourceStart t))) (refused 13 (length p)))
-unfolding judge
-surveyed-so t p count table h x values′ modes′ M met s R N e =
-    let y = declaredPart (h .variables) (h .modes) (state values′ modes′) in
-    let f : ℕ → Answer (List ℕ) = λ total. given (textFrom t p total (sourceStart t)) in
-    let judged : judgeSourceTask t p ≡ onProgress (M .progress) (cond met (given (length p, y)) (refused 13 (length p))) =
-    ap (judge (length (t .actions)) (stepSource t) (sourceGoalHolds t) 0 p) (sym s)
-    ∙ N .ran .judges t R (sourceGoalHolds t)
-    ∙ ap (λ (b : Bool). onProgress (M .progress) (cond b (given (length p, y)) (refused 13 (length p)))) (sym e) in
-    let priced : M .progress ≡ Through → priceTask t false p ≡ given (M .price) = λ q. ap (pricesFrom (stepSource t) (priceFrom (t .actions)) false 0 0 p) (sym s) ∙ N .priced t R q false in
-    ap (λ (a : Answer (ℕ × State)). then a (λ (v : ℕ × State). then (priceTask t false p) f)) judged
-    ∙ answers (M .progress) met (length p) y (priceTask t false p) (M .price) f priced
+pub refused-listing : (file plan : List ℕ) (number place : ℕ) → refused number place ≡ pricePlan file plan → refusedLine number place ≡ listing file plan
+unfolding listing
+refused-listing file plan number place e =
+    sym
+    (ap textOf
+    (then-refused (readSource file) _ _
+    (λ t. then-refused (readPlan plan) _ _ (λ p. then-refused (judgeSourceTask t p) _ _ (λ v q. ap (λ (c : Answer ℕ). then c (λ total. given (textFrom t p total (sourceStart t)))) q)))
+    (sym e)))
 
--- ---- what is written, by what the survey finds
-module _ {file p : List ℕ} {S : Survey} (c : Surveyed file p S) where
-  found : (t : SourceTask) (pr : Progress) (met : Bool) → readSource file ≡ given t → S .progress ≡ pr → S .met ≡ met
-      → textOf (onProgress pr (cond met (given (textFrom t p (S .price) (sourceStart t))) (refused 13 (length p)))) ≡ textOf (listedFor t p)
-  found t pr met q e m =
-      sym
-      (ap textOf
-      (c .comes t q
-      ∙ ap₂ (λ (a : Progress) (b : Bool). onProgress a (cond b (given (textFrom t p (S .price) (sourceStart t))) (refused 13 (length p)))) e m))
+-- ---- a plan with a price is valid
+no-result : {A G : Type 0} {number place : ℕ} {x : A} → refused number place ≡ given x → G
+no-result e = let z : _≡_ {A = ℕ} 0 1 = cc in absurd (omega arith)
 
-  module _ {old after : List ℕ} {r : Written} where
-    pub when-stopped : (number place : ℕ) → S .progress ≡ Stopped number place → Lent old (given (refusedLine number place)) after r → StepsListed file p old after r
-    when-stopped number place e l = record { meets = λ t q. lent-as (ap given (found t (Stopped number place) (S .met) q e refl)) l }
+then-given : {A B X : Type 0} {y : B} {z : Answer X} (o : Answer A) (k : A → Answer B) (l : A → Answer X) → ((x : A) → k x ≡ given y → l x ≡ z) → then o k ≡ given y → then o l ≡ z
+then-given (given x) k l h e = h x e
+then-given (refused a b) k l h e = no-result e
 
-    pub when-unmet : (n : ℕ) → n ≡ length p → S .progress ≡ Through → S .met ≡ false → Lent old (given (refusedLine 13 n)) after r → StepsListed file p old after r
-    when-unmet n s e m l = record { meets = λ t q. lent-as (ap given (ap (refusedLine 13) s ∙ found t Through false q e m)) l }
+module _ (file plan : List ℕ) (total : ℕ) (e : pricePlan file plan ≡ given total) where
+  pub valid-accepted : AcceptedWith (verdictOf sourceLimits file) (actionsOf (verdictOf sourceLimits file))
+  valid-accepted = go (verdictOf sourceLimits file) e
+    where
+      go : (v : Verdict) → then (onVerdict v (task-of file 0)) (λ t. then (readPlan plan) (λ p. then (judgeSourceTask t p) (λ v. priceTask t false p))) ≡ given total → AcceptedWith v (actionsOf v)
+      go (Accepted a b c) q = refl
+      go (Rejected a b) q = no-result q
 
-    pub when-met : S .progress ≡ Through → S .met ≡ true → ((t : SourceTask) → readSource file ≡ given t → Lent old (given (textFrom t p (S .price) (sourceStart t))) after r) → StepsListed file p old after r
-    when-met e m l = record { meets = λ t q. lent-as (ap given (found t Through true q e m)) (l t q) }
+  pub valid-plan : Bytes plan → (readPlan plan ≡ given (planNumbers plan)) × (length (planNumbers plan) ≤ 1_000_000)
+  valid-plan bytes = go (readSource file) (readPlan plan) refl e
+    where
+      go : (o : Answer SourceTask) (q : Answer (List ℕ)) → readPlan plan ≡ q → then o (λ t. then q (λ p. then (judgeSourceTask t p) (λ v. priceTask t false p))) ≡ given total
+          → (readPlan plan ≡ given (planNumbers plan)) × (length (planNumbers plan) ≤ 1_000_000)
+      go (refused a b) q h k = no-result k
+      go (given t) (refused a b) h k = no-result k
+      go (given t) (given p) h k =
+          let n : given (length p) ≡ countOf plan = sym (ap (λ (o : Answer (List ℕ)). then o (λ ks. given (length ks))) h) in
+          let s = steps-of plan (length p) n in
+          (s .0, omega (arith, s .1, plan-read plan p bytes h .1))
 
--- ---- the three ways of listing
-module _ (file plan : List ℕ) where
-  pub rejected-listing : (number place : ℕ) → Rejected number place ≡ verdictOf sourceLimits file → refusedLine number place ≡ listing file plan
+  pub valid-listing : Bytes plan → (t : SourceTask) → readSource file ≡ given t → textFrom t (planNumbers plan) total (sourceStart t) ≡ listing file plan
   unfolding listing
-  rejected-listing number place e =
-      subst (λ (v : FileVerdict). refusedLine number place ≡ textOf (then (onVerdict v (task-of file 0)) (λ t. then (readPlan plan) (listedFor t)))) e refl
-
-  module _ (count : ℕ) (a : AcceptedWith (verdictOf sourceLimits file) count) where
-    pub no-plan-listing : (number place : ℕ) → readPlan plan ≡ refused number place → refusedLine number place ≡ listing file plan
-    unfolding listing
-    no-plan-listing number place e = rw (accepted-task file count a, e)
-
-    pub steps-listing : {old after : List ℕ} {r : Written} → readPlan plan ≡ given (planNumbers plan) → StepsListed file (planNumbers plan) old after r → Lent old (given (listing file plan)) after r
-    unfolding listing
-    steps-listing e l = rw (accepted-task file count a, e) (l .meets (task-of file count) (accepted-task file count a))
-
--- a plan has at most 1,000,000 steps
-pub few-steps : (plan : List ℕ) (n : ℕ) → given n ≡ countOf plan → n ≤ 1_000_000
-unfolding readPlan
-few-steps plan n = go (eqb (length plan % 2) 1) (ltb 2_000_000 (length plan)) refl
-  where
-    go : (a b : Bool) → ltb 2_000_000 (length plan) ≡ b → given n ≡ then (cond a (refused 10 (length plan)) (cond b (refused 10 (length plan)) (given (planNumbers plan)))) (λ p. given (length p)) → n ≤ 1_000_000
-    go true b q e = let z : _≡_ {A = ℕ} 0 1 = cc in absurd (omega arith)
-    go false true q e = let z : _≡_ {A = ℕ} 0 1 = cc in absurd (omega arith)
-    go false false q e =
-        let s : n ≡ length (planNumbers plan) = cc in
-        omega (arith, s, length-halves plan, ltb-false 2_000_000 (length plan) q)
+  valid-listing bytes t q =
+      let p = planNumbers plan in
+      let r = valid-plan bytes .0 in
+      let f : ℕ → Answer (List ℕ) = λ sum. given (textFrom t p sum (sourceStart t)) in
+      let k : then (judgeSourceTask t p) (λ v. priceTask t false p) ≡ given total = rw (q, r) at e in
+      let l : then (judgeSourceTask t p) (λ v. then (priceTask t false p) f) ≡ f total = then-given (judgeSourceTask t p) _ _ (λ v c. ap (λ (o : Answer ℕ). then o f) c) k in
+      rw (q, r, l)

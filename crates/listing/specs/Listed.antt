@@ -2,29 +2,29 @@
 -- Assumes nothing.
 use mathlib.Core.Path.{_≡_}
 use Prim.Native.Nat.{ℕ, _≤_}
-use mathlib.Core.Bool.{true, false, cond}
+use mathlib.Core.Bool.{true}
 use mathlib.Core.List.{List, _++_}
 use lib.ListN.{length, take}
 use lib.IntN.{ℤ}
-use Rattle.lists.specs.Answer.{Answer, given, refused, then}
+use Rattle.lists.specs.Answer.{given}
 use Rattle.lists.specs.Writing.{Room, Wrote}
 use Rattle.lists.specs.Written.{Lent}
 use Rattle.lists.specs.declared.Written.{Written}
 use Rattle.model.specs.Tasks.{SourceAction, SourceTask, State}
+use Rattle.model.specs.Reading.{Verdict, Accepted, Rejected}
 use Rattle.model.specs.Decoding.{readSource}
-use Rattle.model.specs.Steps.{integerAt, sourceStart}
+use Rattle.model.specs.Steps.{integerAt}
 use Rattle.model.specs.Expansion.{priceOfEffect}
-use Rattle.model.specs.Judging.{declaredPart, judgeSourceTask, priceTask}
-use Rattle.model.specs.Listing.{header, stepLines, goalLine, textOf}
+use Rattle.model.specs.Judging.{declaredPart}
+use Rattle.model.specs.Listing.{header, stepLines, goalLine}
 use Rattle.actions.specs.declared.SourceAction.{SourceAction as DecodedSource}
 use Rattle.declarations.specs.Holding.{HoldsSource}
 use Rattle.source.specs.declared.Table.{Table}
 use Rattle.source.specs.declared.Shape.{Shape}
 use Rattle.source.specs.declared.State.{State as StateByValue}
 use Rattle.source.specs.Step.{state, wholeIs, Shaped, Tried}
-use Rattle.source.specs.Judged.{Ready, onProgress}
+use Rattle.source.specs.Judged.{Ready}
 use Rattle.listing.specs.declared.Turn.{Turn}
-use Rattle.listing.specs.declared.Survey.{Survey}
 
 -- an action was tried: r, and the arrays after; where it applied, r has its price over the values before
 pub record Turned (n m : ℕ) (lower upper : List ℤ) (sizes : List ℕ) (values : List ℤ) (modes : List ℕ) (a : SourceAction) (r : Turn) (values′ : List ℤ) (modes′ : List ℕ) : Type 0 where
@@ -70,28 +70,24 @@ textFrom t p total x = header ++ (stepLines t 0 p x ++ goalLine total)
 abbrev pub declaredIn : Shape → StateByValue → State
 declaredIn h x = declaredPart (h .variables) (h .modes) (wholeIs x)
 
+-- required: there is room for the text
 pub record ListingRoom (p : List ℕ) (count : ℕ) (table : Table) (h : Shape) (x : StateByValue) (total : ℕ) (out : List ℕ) : Type 0 where
   pub room : (t : SourceTask) → ReadyIn t count table h → Room out 0 (textFrom t p total (declaredIn h x))
 
+-- ensured: it was written
 pub record ListingPut (p : List ℕ) (count : ℕ) (table : Table) (h : Shape) (x : StateByValue) (total : ℕ) (out after : List ℕ) (next : ℕ) : Type 0 where
   pub put : (t : SourceTask) → ReadyIn t count table h → Wrote out 0 (textFrom t p total (declaredIn h x)) after next
 
+-- ensured: it was written, or 8
 pub record ListingWritten (p : List ℕ) (count : ℕ) (table : Table) (h : Shape) (x : StateByValue) (total : ℕ) (old after : List ℕ) (r : Written) : Type 0 where
   pub written : (t : SourceTask) → ReadyIn t count table h → Lent old (given (textFrom t p total (declaredIn h x))) after r
 
 -- ---- of an accepted file
 -- the shape and the start are those of its task
-pub record Set (file : List ℕ) (h : Shape) (x : StateByValue) : Type 0 where
+pub record SettingIs (file : List ℕ) (h : Shape) (x : StateByValue) : Type 0 where
   pub holds : (t : SourceTask) → readSource file ≡ given t → HoldsSource t (record { variables = h .variables; modes = h .modes }) (h .lower) (h .upper) (x .values) (h .sizes) (x .modes)
 
--- what listing a plan p of a task comes to
-abbrev pub listedFor : SourceTask → List ℕ → Answer (List ℕ)
-listedFor t p = then (judgeSourceTask t p) (λ v. then (priceTask t false p) (λ total. given (textFrom t p total (sourceStart t))))
-
--- a survey says what it comes to
-pub record Surveyed (file p : List ℕ) (r : Survey) : Type 0 where
-  pub comes : (t : SourceTask) → readSource file ≡ given t
-      → listedFor t p ≡ onProgress (r .progress) (cond (r .met) (given (textFrom t p (r .price) (sourceStart t))) (refused 13 (length p)))
-
-pub record StepsListed (file p old after : List ℕ) (r : Written) : Type 0 where
-  pub meets : (t : SourceTask) → readSource file ≡ given t → Lent old (given (textOf (listedFor t p))) after r
+-- how many actions it has
+abbrev pub actionsOf : Verdict → ℕ
+actionsOf (Accepted variables modes actions) = actions
+actionsOf (Rejected number place) = 0

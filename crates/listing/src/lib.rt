@@ -1,9 +1,9 @@
-// The listing of a plan: a header, a line for each step, and the goal with the total price; on a refusal one line that names it.
+// The listing of a plan: a header, a line for each step, and the goal with the total price; where the file or the plan is refused, one line
+// that names the refusal.
 //
 // The text is written into output that a caller lends, its length counted first. Nothing is written where it does not fit.
 use actions::SourceAction;
 use source::MODES;
-use source::Progress;
 use source::Shape;
 use source::State;
 use source::Table;
@@ -18,12 +18,12 @@ ghost use Rattle.lists.specs.Writing.{Room, Wrote};
 ghost use Rattle.lists.specs.Written.{Lent};
 ghost use Rattle.model.specs.Limits.{sourceLimits};
 ghost use Rattle.model.specs.Listing.{fieldsOf, goalLine, refusedLine, listing};
+ghost use Rattle.model.specs.Judging.{pricePlan};
 ghost use Rattle.model.specs.Plans.{planNumbers};
 ghost use Rattle.model.specs.Reading.{verdictOf};
 ghost use Rattle.source.specs.Step.{actionIs, Shaped};
-ghost use Rattle.source.specs.Judged.{Decoded, AcceptedWith};
 ghost use Rattle.listing.specs.Lines.{field, lineOf};
-ghost use Rattle.listing.specs.Listed.{Turned, Listable, LinesLong, LinesRoom, LinesPut, ListableIn, ListingRoom, ListingPut, ListingWritten, Set, Surveyed, StepsListed};
+ghost use Rattle.listing.specs.Listed.{Turned, Listable, LinesLong, LinesRoom, LinesPut, ListableIn, ListingRoom, ListingPut, ListingWritten, SettingIs, actionsOf};
 
 // A text, byte for byte.
 fn put_text(out: &mut [u8], at: usize, text: &[u8]) -> usize
@@ -311,7 +311,7 @@ fn put_listing(
     put_goal_line(out, goal_at, total)
 }
 
-// The same; 8 where it is longer than the output lent.
+// The same, its length counted first; 8 where it is longer than the output lent.
 fn write_listing(
     out: &mut [u8],
     plan: &[u8],
@@ -357,8 +357,9 @@ struct Setting {
     start: State,
 }
 
+// Those of an accepted file.
 fn read_setting(file: &[u8]) -> Setting
-    ensures { λ r. ⌜ Set (now (file .entry)) (r .shape) (r .start) ⌝ }
+    ensures { λ r. ⌜ SettingIs (now (file .entry)) (r .shape) (r .start) ⌝ }
 {
     let mut lower = [0i64; VARIABLES];
     let mut upper = [0i64; VARIABLES];
@@ -385,96 +386,35 @@ fn read_setting(file: &[u8]) -> Setting
     }
 }
 
-// How far a plan goes, whether the goal is met at its end, and the sum of its prices.
-struct Survey {
-    progress: Progress,
-    met: bool,
-    price: u64,
-}
-
-fn survey_plan(
-    file: &[u8],
-    count: usize,
-    plan: &[u8],
-    steps: usize,
-    table: Table,
-    shape: Shape,
-    start: State,
-) -> Survey
-    requires { ⌜ AcceptedWith (verdictOf sourceLimits (now file)) count × (steps ≡ length (planNumbers (now plan))) × (steps ≤ 1000000) ⌝ }
-    requires { ⌜ Decoded (now file) count (table .actions) × Set (now file) shape start ⌝ }
-    ensures { λ r. ⌜ Surveyed (now (file .entry)) (planNumbers (now (plan .entry))) r ⌝ }
+// How many actions an accepted file has.
+fn count_actions(file: &[u8]) -> usize
+    ensures { λ r. ⌜ r ≡ actionsOf (verdictOf sourceLimits (now (file .entry))) ⌝ }
 {
-    let lower = shape.lower;
-    let upper = shape.upper;
-    let sizes = shape.sizes;
-    let mut values = start.values;
-    let mut modes = start.modes;
-    let measured = prices::measure(
-        plan,
-        steps,
-        count,
-        table,
-        shape.variables,
-        &lower,
-        &upper,
-        shape.modes,
-        &sizes,
-        &mut values,
-        &mut modes,
-    );
-    let goal = actions::decode_goal(actions::goal_bytes(file, count));
-    let progress = measured.progress;
-    Survey {
-        progress,
-        met: source::goal_holds(&values, shape.variables, &modes, shape.modes, goal),
-        price: measured.price,
+    match tasks::check_source(file) {
+        tasks::Verdict::Accepted(_, _, actions) => actions as usize,
+        tasks::Verdict::Rejected(_, _) => 0,
     }
 }
 
-// Lists a plan of so many steps of an accepted file with so many actions.
-fn list_steps(
-    file: &[u8],
-    count: usize,
-    plan: &[u8],
-    steps: usize,
-    out: &mut [u8],
-) -> lists::Written
-    requires { ⌜ AcceptedWith (verdictOf sourceLimits (now file)) count × (steps ≡ length (planNumbers (now plan))) × (steps ≤ 1000000) ⌝ }
-    ensures { λ r. ⌜ StepsListed (now (file .entry)) (planNumbers (now (plan .entry))) (now (out .entry)) (now (out .exit)) r ⌝ }
+// Lists a valid plan, whose price is known.
+fn list_valid(file: &[u8], plan: &[u8], total: u64, out: &mut [u8]) -> lists::Written
+    requires { ⌜ pricePlan (now file) (now plan) ≡ given total ⌝ }
+    ensures { λ r. ⌜ Lent (now (out .entry)) (given (listing (now (file .entry)) (now (plan .entry)))) (now (out .exit)) r ⌝ }
 {
+    let count = count_actions(file);
     let setting = read_setting(file);
     let shape = setting.shape;
     let start = setting.start;
     let table = source::decode_actions(file, count);
-    let survey = survey_plan(file, count, plan, steps, table, shape, start);
-    let progress = survey.progress;
-    match progress {
-        Progress::Stopped(number, place) => write_refusal(out, number, place),
-        Progress::Through => {
-            if !survey.met {
-                return write_refusal(out, 13, steps as u64);
-            }
-            write_listing(out, plan, steps, count, table, shape, start, survey.price)
-        }
-    }
+    write_listing(out, plan, plan.len() / 2, count, table, shape, start, total)
 }
 
 // The whole listing of a task and a plan, a refusal's line included. The only refusal is 8: the output lent is shorter than the text.
 pub fn list(file: &[u8], plan: &[u8], out: &mut [u8]) -> lists::Written
     ensures { λ r. ⌜ Lent (now (out .entry)) (given (listing (now (file .entry)) (now (plan .entry)))) (now (out .exit)) r ⌝ }
 {
-    match tasks::check_source(file) {
-        tasks::Verdict::Rejected(number, place) => write_refusal(out, number, place),
-        tasks::Verdict::Accepted(_, _, actions) => match planbytes::count_steps(plan) {
-            planbytes::Counted::Refused(number, place) => write_refusal(out, number, place),
-            planbytes::Counted::Steps(steps) => list_steps(
-                file,
-                actions as usize,
-                plan,
-                steps,
-                out,
-            ),
-        },
+    match prices::price_plan(file, plan) {
+        prices::Priced::Refused(number, place) => write_refusal(out, number, place),
+        prices::Priced::Price(total) => list_valid(file, plan, total, out),
     }
 }

@@ -9,6 +9,7 @@ ghost use Rattle.lists.specs.Writing.{Room, Wrote};
 ghost use Rattle.model.specs.Listing.{decimal, decimalSigned};
 ghost use Rattle.text.specs.Places.{places};
 
+// One place of a number below 10; the functions that follow write two to six places, zeros in front included.
 fn put_one(out: &mut [u8], at: usize, n: u64) -> usize
     requires { ⌜ (n < 10) × (at + 1 ≤ length (now out)) ⌝ }
     ensures { λ r. ⌜ Wrote (now (out .entry)) at (places 1 n) (now (out .exit)) r ⌝ }
@@ -49,7 +50,6 @@ fn put_five(out: &mut [u8], at: usize, n: u64) -> usize
     put_four(out, at + 1, n % 10000)
 }
 
-// All six places of a number below a million, zeros in front included.
 fn put_six(out: &mut [u8], at: usize, n: u64) -> usize
     requires { ⌜ (n < 1000000) × (at + 6 ≤ length (now out)) ⌝ }
     ensures { λ r. ⌜ Wrote (now (out .entry)) at (places 6 n) (now (out .exit)) r ⌝ }
@@ -58,7 +58,7 @@ fn put_six(out: &mut [u8], at: usize, n: u64) -> usize
     put_five(out, at + 1, n % 100000)
 }
 
-// The digits of a number below a million, as nearly all of a listing are.
+// The digits of a number below a million, as nearly all numbers of a listing are.
 fn put_small(out: &mut [u8], at: usize, n: u64) -> usize
     requires { ⌜ (n < 1000000) × Room (now out) at (decimal n) ⌝ }
     ensures { λ r. ⌜ Wrote (now (out .entry)) at (decimal n) (now (out .exit)) r ⌝ }
@@ -117,6 +117,7 @@ pub fn put_integer(out: &mut [u8], at: usize, z: i64) -> usize
     put_natural(out, at, n)
 }
 
+// How many digits a number below a million has.
 fn small_length(n: u64) -> usize
     requires { ⌜ n < 1000000 ⌝ }
     ensures { λ r. ⌜ r ≡ length (decimal n) ⌝ }
