@@ -33,58 +33,32 @@ natural-length-below t =
     (falls 0 natural-length-kinds.ps _<_ μ-natural-length t)
     natural-length.Pre
 
-natural-length-small-length-requires : (t : ℕ) → natural-length-lts.Need-small-length-requires (
-  small-length-reads.Asked,
-  small-length-reads.Learnt,
-  natural-length-below t,
-  natural-length.Post,
-) (natural-length-at t) natural-length.Post
+-- what the callees ask and give, the function itself for a lesser number
+abbrev claims : ℕ → natural-length-lts.Claims
+claims t = (small-length-reads.Asked, small-length-reads.Learnt, natural-length-below t, natural-length.Post)
+
+natural-length-small-length-requires : (t : ℕ) → natural-length-lts.Need-small-length-requires (claims t) (natural-length-at t) natural-length.Post
 natural-length-small-length-requires t c κs = search needs
 
-natural-length-returns : (t : ℕ) → natural-length-lts.Need-returns (
-  small-length-reads.Asked,
-  small-length-reads.Learnt,
-  natural-length-below t,
-  natural-length.Post,
-) (natural-length-at t) natural-length.Post
+natural-length-returns : (t : ℕ) → natural-length-lts.Need-returns (claims t) (natural-length-at t) natural-length.Post
 natural-length-returns t c =
     let s = c .before .before in
     (c .small-length .ensures, omega (arith, c .small-length .ensures, at-most 5 (s .args .n) (c .before .if1 .taken)))
 
-natural-length-natural-length-requires : (t : ℕ) → natural-length-lts.Need-natural-length-requires (
-  small-length-reads.Asked,
-  small-length-reads.Learnt,
-  natural-length-below t,
-  natural-length.Post,
-) (natural-length-at t) natural-length.Post
+natural-length-natural-length-requires : (t : ℕ) → natural-length-lts.Need-natural-length-requires (claims t) (natural-length-at t) natural-length.Post
 natural-length-natural-length-requires t c κs = search needs
 
-natural-length-add-result : (t : ℕ) → natural-length-lts.Need-add-result (
-  small-length-reads.Asked,
-  small-length-reads.Learnt,
-  natural-length-below t,
-  natural-length.Post,
-) (natural-length-at t) natural-length.Post
+natural-length-add-result : (t : ℕ) → natural-length-lts.Need-add-result (claims t) (natural-length-at t) natural-length.Post
 natural-length-add-result t c = search needs
 
-natural-length-returns-2 : (t : ℕ) → natural-length-lts.Need-returns-2 (
-  small-length-reads.Asked,
-  small-length-reads.Learnt,
-  natural-length-below t,
-  natural-length.Post,
-) (natural-length-at t) natural-length.Post
+natural-length-returns-2 : (t : ℕ) → natural-length-lts.Need-returns-2 (claims t) (natural-length-at t) natural-length.Post
 natural-length-returns-2 t c =
     let s = c .before .before in
     let e = so-much-longer 6 (s .args .n) (c .before .if1 .left) in
     (omega (arith, e, c .natural-length .ensures .0), omega (arith, e, c .natural-length .ensures .0, at-most 19 (s .args .n) (omega (arith, s .good))))
 
 pub +natural-length-spec : {M : Type 1} → statement M
-+natural-length-spec = close μ-natural-length λ t. natural-length-lts.spec (
-  small-length-reads.Asked,
-  small-length-reads.Learnt,
-  natural-length-below t,
-  natural-length.Post,
-)
++natural-length-spec = close μ-natural-length λ t. natural-length-lts.spec (claims t)
     (natural-length-at t)
     natural-length.Post
     (natural-length-small-length-requires t)
