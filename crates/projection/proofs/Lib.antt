@@ -1,0 +1,5 @@
+pub mod Advancing
+pub mod Filling
+pub mod Fits
+pub mod Going
+pub mod Numbers
