@@ -6,13 +6,9 @@ use mathlib.Core.Bool.{Bool, true, cond, _&&_}
 use mathlib.Core.List.{List}
 use lib.ListN.{length, drop, take}
 use lib.IntN.{ℤ}
-use Rattle.lists.specs.Answer.{Answer, given, refused, then}
-use Rattle.lists.specs.declared.Written.{Written}
-use Rattle.lists.specs.Written.{Lent}
+use Rattle.lists.specs.Answer.{Answer, given, refused}
 use Rattle.model.specs.Tasks.{SourceAction, SourceTask, State}
-use Rattle.model.specs.Steps.{integerAt, naturalAt, modesHold, conditionsHold, soundSource, lowerBounds, upperBounds, sourceStart, sourceGoalHolds}
-use Rattle.model.specs.Decoding.{readSource}
-use Rattle.model.specs.Plans.{planBytes}
+use Rattle.model.specs.Steps.{integerAt, naturalAt, modesHold, conditionsHold, soundSource, lowerBounds, upperBounds, sourceGoalHolds}
 use Rattle.model.specs.Stages.{sourceNumber}
 use Rattle.model.specs.Lowering.{lowerTask}
 use Rattle.model.specs.Judging.{declaredPart}
@@ -81,7 +77,3 @@ pub record PlanFollowed (q : List ℕ) (table : List DecodedSource) (n : ℕ) (l
   pub few : length numbers ≤ length q
   pub meets : (t : SourceTask) → Lowered t table n lower upper m sizes total sources
       → projectFrom t (length q) 0 q (declaredPart n m (state values modes)) ≡ followedTo r (sourceGoalHolds t (declaredPart n m (state values′ modes′))) (length q) numbers
-
--- a plan was projected by the task of an accepted file
-pub record Projected (file q old after : List ℕ) (r : Written) : Type 0 where
-  pub meets : (t : SourceTask) → readSource file ≡ given t → Lent old (then (projectFrom t (length q) 0 q (sourceStart t)) (λ p. given (planBytes p))) after r

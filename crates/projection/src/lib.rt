@@ -3,6 +3,7 @@
 // The plan is compared with the runs that each source step becomes, and refused at the first number that differs. The lowering is not made,
 // and no step of it is taken.
 use actions::Effect;
+use actions::Goal;
 use actions::SourceAction;
 use lists::Written;
 use runs::Openings;
@@ -16,13 +17,11 @@ ghost use Prim.Native.Nat.{ℕ, min, _+_, _-_, _≤_, _<_};
 ghost use lib.Dec.{eqb};
 ghost use lib.ListN.{length, drop, take};
 ghost use Rattle.lists.specs.Answer.{refused};
-ghost use Rattle.lists.specs.Writing.{Room, Wrote};
 ghost use Rattle.lists.specs.Written.{Lent};
 ghost use Rattle.model.specs.Limits.{sourceLimits};
 ghost use Rattle.model.specs.Reading.{verdictOf};
 ghost use Rattle.model.specs.Steps.{integerAt};
-ghost use Rattle.model.specs.Systems.{keep};
-ghost use Rattle.model.specs.Plans.{planNumbers, planBytes};
+ghost use Rattle.model.specs.Plans.{planNumbers};
 ghost use Rattle.model.specs.Judging.{declaredPart, projectBytes};
 ghost use Rattle.model.specs.Following.{strayed, makesMacro};
 ghost use Rattle.actions.specs.Views.{effectIs};
@@ -30,8 +29,9 @@ ghost use Rattle.source.specs.Parts.{effectFits};
 ghost use Rattle.source.specs.Step.{state, actionIs, Shaped};
 ghost use Rattle.source.specs.Judged.{AcceptedWith};
 ghost use Rattle.runs.specs.Strokes.{strokesOf, stepNumbers};
-ghost use Rattle.projection.specs.Sources.{entryAt, sourceIn, Openable, Sourced};
-ghost use Rattle.projection.specs.Following.{opensIn, Answers, Further, Advanced, Placed, PlanFollowed, Projected};
+ghost use Rattle.projection.specs.Sources.{entryAt, Openable, Sourced};
+ghost use Rattle.projection.specs.Following.{opensIn, Answers, Further, Advanced, Placed, PlanFollowed};
+ghost use Rattle.projection.specs.Projecting.{Projectable, SourcesPut, Posed, Projected, FileProjected};
 
 // The restricted numbers that a table of source actions has room for, and what stands there for a number that opens none.
 const NUMBERS: usize = 1024;
@@ -275,4 +275,163 @@ fn follow(
         found += 1;
     }
     Followed::Ended(found)
+}
+
+// Writes the source numbers that a plan projects to, from a lent start on. The plan is known to go through, so it is not compared again.
+fn put_sources(
+    plan: &[u8],
+    steps: usize,
+    sources: &[u8; NUMBERS],
+    table: Table,
+    n: usize,
+    lower: &[i64; VARIABLES],
+    upper: &[i64; VARIABLES],
+    m: usize,
+    sizes: &[u16; MODES],
+    values: &mut [i64; VARIABLES],
+    modes: &mut [u16; MODES],
+    out: &mut [u8],
+) -> usize
+    requires { ⌜ Projectable (planNumbers (now plan)) (table .actions) n (now lower) (now upper) m (now sizes) (now sources) (now values) (now modes) (now out) × (steps ≡ length (planNumbers (now plan))) ⌝ }
+    ensures { λ r. ⌜ SourcesPut (planNumbers (now (plan .entry))) (table .actions) n (now (lower .entry)) (now (upper .entry)) m (now (sizes .entry)) (now (sources .entry)) (now (values .entry)) (now (modes .entry)) (now (out .entry)) (now (out .exit)) r ⌝ }
+{
+    let mut place: usize = 0;
+    let mut at: usize = 0;
+    while at < steps {
+        let number = source_of(sources, planbytes::action_of(plan, at));
+        let k = wide(number);
+        let action = table.actions[k];
+        let size = prices::price_of(values, n, action) as usize;
+        source::try_action(values, modes, n, lower, upper, m, sizes, action);
+        place = lists::put16(out, place, number as u16);
+        at += size;
+    }
+    place
+}
+
+// Projects a plan from a lent start into lent output, against a decoded task.
+fn project_from(
+    plan: &[u8],
+    steps: usize,
+    total: usize,
+    sources: &[u8; NUMBERS],
+    table: Table,
+    goal: Goal,
+    n: usize,
+    lower: &[i64; VARIABLES],
+    upper: &[i64; VARIABLES],
+    m: usize,
+    sizes: &[u16; MODES],
+    values: &mut [i64; VARIABLES],
+    modes: &mut [u16; MODES],
+    out: &mut [u8],
+) -> Written
+    requires { ⌜ Posed (planNumbers (now plan)) (table .actions) n (now lower) (now upper) m (now sizes) (now sources) (now values) (now modes) total goal × (steps ≡ length (planNumbers (now plan))) ⌝ }
+    ensures { λ r. ⌜ Projected (planNumbers (now (plan .entry))) (table .actions) n (now (lower .entry)) (now (upper .entry)) m (now (sizes .entry)) (now (sources .entry)) (now (values .entry)) (now (modes .entry)) total goal (now (out .entry)) (now (out .exit)) r ⌝ }
+{
+    let mut end_values = *values;
+    let mut end_modes = *modes;
+    let followed = follow(
+        plan,
+        steps,
+        total,
+        sources,
+        table,
+        n,
+        lower,
+        upper,
+        m,
+        sizes,
+        &mut end_values,
+        &mut end_modes,
+    );
+    match followed {
+        Followed::Stopped(number, place) => Written::Refused(number, place),
+        Followed::Ended(found) => {
+            if !source::goal_holds(&end_values, n, &end_modes, m, goal) {
+                return Written::Refused(13, steps as u64);
+            }
+            let needed = 2 * found;
+            if out.len() < needed {
+                return Written::Refused(8, needed as u64);
+            }
+            put_sources(
+                plan,
+                steps,
+                sources,
+                table,
+                n,
+                lower,
+                upper,
+                m,
+                sizes,
+                values,
+                modes,
+                out,
+            );
+            Written::Bytes(needed)
+        }
+    }
+}
+
+// Projects a plan of so many steps by an accepted file with so many actions.
+fn project_steps(file: &[u8], count: usize, plan: &[u8], steps: usize, out: &mut [u8]) -> Written
+    requires { ⌜ AcceptedWith (verdictOf sourceLimits (now file)) count × (steps ≡ length (planNumbers (now plan))) ⌝ }
+    ensures { λ r. ⌜ FileProjected (now (file .entry)) (planNumbers (now (plan .entry))) (now (out .entry)) (now (out .exit)) r ⌝ }
+{
+    let mut lower = [0i64; VARIABLES];
+    let mut upper = [0i64; VARIABLES];
+    let mut values = [0i64; VARIABLES];
+    let mut sizes = [0u16; MODES];
+    let mut modes = [0u16; MODES];
+    let declared = declarations::read_source(
+        file,
+        &mut lower,
+        &mut upper,
+        &mut values,
+        &mut sizes,
+        &mut modes,
+    );
+    let n = declared.variables;
+    let m = declared.modes;
+    let table = source::decode_actions(file, count);
+    let openings = runs::openings_of(count, table);
+    let total = source::wide16(openings.numbers[count]);
+    let sources = sources_of(count, openings);
+    let goal = actions::decode_goal(actions::goal_bytes(file, count));
+    project_from(
+        plan,
+        steps,
+        total,
+        &sources.numbers,
+        table,
+        goal,
+        n,
+        &lower,
+        &upper,
+        m,
+        &sizes,
+        &mut values,
+        &mut modes,
+        out,
+    )
+}
+
+// The source plan that a restricted plan projects to, written into lent output.
+pub fn project(file: &[u8], plan: &[u8], out: &mut [u8]) -> Written
+    ensures { λ r. ⌜ Lent (now (out .entry)) (projectBytes (now (file .entry)) (now (plan .entry))) (now (out .exit)) r ⌝ }
+{
+    match tasks::check_source(file) {
+        tasks::Verdict::Rejected(number, place) => Written::Refused(number, place),
+        tasks::Verdict::Accepted(_, _, actions) => match planbytes::count_steps(plan) {
+            planbytes::Counted::Refused(number, place) => Written::Refused(number, place),
+            planbytes::Counted::Steps(steps) => project_steps(
+                file,
+                actions as usize,
+                plan,
+                steps,
+                out,
+            ),
+        },
+    }
 }
