@@ -1,0 +1,9 @@
+pub mod Accepted
+pub mod Advancing
+pub mod Filling
+pub mod Fits
+pub mod Going
+pub mod Numbers
+pub mod Projecting
+pub mod Putting
+pub mod Turn

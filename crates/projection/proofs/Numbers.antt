@@ -1,0 +1,80 @@
+-- What a source step becomes, by its strokes: its numbers, how many they are, and how many restricted actions there are in all.
+-- Assumes nothing.
+use mathlib.Core.Path.{_≡_, refl, sym, ap, ap₂, _∙_}
+use Prim.Native.Nat.{ℕ, zero, suc, _+_, _≤_}
+use native.Mathlib.Omega.{arith}
+use native.Mathlib.Numerals.{add-one}
+use mathlib.Core.Bool.{Bool, true, false, cond, false≢true, _&&_}
+use mathlib.Core.Option.{Option, none, some}
+use mathlib.Core.List.{List, [], _∷_, _++_}
+use lib.Dec.{eqb}
+use lib.ListN.{length, getElem?, length-append}
+use lib.IntN.{ℤ}
+use Rattle.model.specs.Tasks.{Effect, noEffect, addEffect, linearEffect, quotientEffect, residueEffect, SourceAction, SourceTask, State}
+use Rattle.model.specs.Steps.{integerAt, naturalAt, modesHold, conditionsHold, lowerBounds, upperBounds}
+use Rattle.model.specs.Systems.{orEmpty}
+use Rattle.model.specs.Stages.{macro, macroSize, opening, lowerActions, stagesOf}
+use Rattle.model.specs.Lowering.{lowerTask}
+use Rattle.model.specs.Expansion.{openedValues, stageWalk, priceOfEffect}
+use Rattle.model.specs.Following.{agreeing, ifAny, makesMacro, macroNumbers, opens}
+use Rattle.model.proofs.MacroPlace.{macro-length}
+use Rattle.model.proofs.LoweredOk.{write-length}
+use Rattle.planbytes.specs.Agreeing.{agreeing as agreeingFront}
+use Rattle.actions.specs.declared.Effect.{Effect as DecodedEffect}
+use Rattle.actions.specs.declared.Effect.the-variants.{None, Add, Linear, Quotient, Residue}
+use Rattle.actions.specs.Views.{effectIs, fittingEffect}
+use Rattle.runs.specs.Strokes.{strokesOf, macroSteps, stepNumbers}
+use Rattle.runs.proofs.Walks.{walk-is, steps-length, price-is}
+use Rattle.projection.specs.Following.{opensIn}
+
+-- ---- how far two lists agree
+pub front-is : (xs ys : List ℕ) → agreeingFront xs ys ≡ agreeing xs ys
+unfolding agreeingFront
+front-is [] ys = refl
+front-is (a ∷ xs) [] = refl
+front-is (a ∷ xs) (b ∷ ys) = ap (λ (n : ℕ). cond (eqb a b) (suc n) 0) (front-is xs ys)
+
+pub front-short : (xs ys : List ℕ) → agreeing xs ys ≤ length ys
+front-short [] ys = omega arith
+front-short (a ∷ xs) [] = omega arith
+front-short (a ∷ xs) (b ∷ ys) = go (eqb a b) (front-short xs ys)
+  where
+    go : (c : Bool) → agreeing xs ys ≤ length ys → cond c (suc (agreeing xs ys)) zero ≤ suc (length ys)
+    go true h = omega arith
+    go false h = omega arith
+
+-- ---- the numbers of a step
+pub numbers-length : (o : ℕ) (e : Effect) (v : ℕ → ℤ) → length (stepNumbers o (strokesOf e v)) ≡ priceOfEffect e v
+numbers-length o e v = omega (arith, steps-length (o + 1) (strokesOf e v), price-is e v)
+
+module _ (t : SourceTask) (x : State) (k : ℕ) (a : SourceAction) (e : getElem? (t .actions) k ≡ some a) where
+  pub macro-numbers : macroNumbers t x k ≡ stepNumbers (opening (lowerBounds t) (upperBounds t) (t .actions) k) (strokesOf (a .effect) (integerAt (x .values)))
+  macro-numbers =
+      let o = opening (lowerBounds t) (upperBounds t) (t .actions) k in
+      ap (λ (l : List ℕ). o ∷ l)
+      (ap (λ (b : Option SourceAction). orEmpty b (λ c. stageWalk (suc o) (stagesOf (lowerBounds t) (upperBounds t) (c .effect)) (openedValues c (integerAt (x .values))))) e
+      ∙ walk-is (lowerBounds t) (upperBounds t) a (suc o) (integerAt (x .values))
+      ∙ ap (λ (b : ℕ). macroSteps b (strokesOf (a .effect) (integerAt (x .values)))) (sym (add-one o)))
+
+  pub opens-is : opens t x k ≡ opensIn a x
+  opens-is = ap (λ (b : Option SourceAction). ifAny b (λ act. makesMacro (act .effect) && (modesHold (act .modeConditions) (naturalAt (x .modes)) && conditionsHold (act .conditions) (integerAt (x .values)))) false) e
+
+-- ---- how many restricted actions there are
+module _ (lower upper : ℕ → ℤ) where
+  past-the-last : (s : ℕ) (acts : List SourceAction) → opening lower upper acts (length acts) ≡ length (lowerActions lower upper s acts)
+  past-the-last s [] = refl
+  past-the-last s (a ∷ acts) =
+      ap₂ _+_ (sym (macro-length lower upper s a)) (past-the-last (s + length (stagesOf lower upper (a .effect))) acts)
+      ∙ sym (length-append (macro lower upper s a) (lowerActions lower upper (s + length (stagesOf lower upper (a .effect))) acts))
+
+pub all-actions : (t : SourceTask) → opening (lowerBounds t) (upperBounds t) (t .actions) (length (t .actions)) ≡ length (lowerTask t .actions)
+all-actions t = past-the-last (lowerBounds t) (upperBounds t) 1 (t .actions)
+    ∙ sym (write-length (length (t .variables)) (length (t .modes)) (lowerActions (lowerBounds t) (upperBounds t) 1 (t .actions)))
+
+-- ---- which effects make a macro
+pub macro-by-kind : (e : DecodedEffect) (ts : List (ℕ × ℤ)) → makesMacro (fittingEffect (effectIs e ts)) ≡ makesMacro (effectIs e [])
+macro-by-kind None ts = refl
+macro-by-kind (Add t c) ts = refl
+macro-by-kind (Linear t w) ts = refl
+macro-by-kind (Quotient t o c) ts = refl
+macro-by-kind (Residue t o c) ts = refl

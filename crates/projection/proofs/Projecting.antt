@@ -1,0 +1,70 @@
+-- What a plan comes to once it is followed, in lent output: a refusal, or the numbers found.
+-- Assumes nothing.
+use mathlib.Core.Path.{_≡_, refl, sym, ap, _∙_}
+use Prim.Native.Nat.{ℕ, _*_, _≤_, _<_}
+use native.Mathlib.Omega.{arith}
+use mathlib.Core.Bool.{Bool, true, false, cond}
+use mathlib.Core.List.{List}
+use lib.ListN.{length}
+use lib.IntN.{ℤ}
+use Rattle.lists.specs.Answer.{Answer, given, refused}
+use Rattle.lists.specs.declared.Written.the-variants.{Bytes, Refused}
+use Rattle.lists.proofs.Numbers.{length-numbers}
+use Rattle.lists.proofs.Lent.{refusal, too-short, written}
+use Rattle.model.specs.Tasks.{SourceTask, State}
+use Rattle.model.specs.Steps.{goalHolds, sourceGoalHolds}
+use Rattle.model.specs.Plans.{planBytes}
+use Rattle.model.specs.Judging.{declaredPart}
+use Rattle.actions.specs.declared.SourceAction.{SourceAction as DecodedSource}
+use Rattle.actions.specs.declared.Goal.{Goal}
+use Rattle.source.specs.Step.{state}
+use Rattle.source.specs.Judged.{goalModesIn, goalConditionsIn}
+use Rattle.projection.specs.declared.Followed.{Followed}
+use Rattle.projection.specs.declared.Followed.the-variants.{Ended, Stopped}
+use Rattle.projection.specs.Following.{followedTo, foundIn, Lowered, PlanFollowed}
+use Rattle.projection.specs.Projecting.{asBytes, projected, Projectable, SourcesPut, Aims, Posed, Projected}
+
+module _ {q : List ℕ} {table : List DecodedSource} {n : ℕ} {lower upper : List ℤ} {m : ℕ} {sizes : List ℕ} {total : ℕ} {sources : List ℕ} {values : List ℤ} {modes : List ℕ} {r : Followed} {values′ : List ℤ} {modes′ : List ℕ}
+    (F : PlanFollowed q table n lower upper m sizes total sources values modes r values′ modes′) (goal : Goal) (old : List ℕ) where
+  pub when-stopped : {number place : ℕ} → r ≡ Stopped number place → Projected q table n lower upper m sizes sources values modes total goal old old (Refused number place)
+  when-stopped e = record {
+    meets = λ t L a. refusal (ap asBytes (F .meets t L ∙ ap (λ (f : Followed). followedTo f (sourceGoalHolds t (declaredPart n m (state values′ modes′))) (length q) (F .numbers)) e));
+  }
+
+  module _ {found : ℕ} (e : r ≡ Ended found) where
+    counted : found ≡ length (F .numbers)
+    counted = ap (λ (f : Followed). foundIn f (length (F .numbers))) (sym e) ∙ F .counted
+
+    pub few : found ≤ length q
+    few = omega (arith, counted, F .few)
+
+    bytes-needed : 2 * found ≡ length (planBytes (F .numbers))
+    bytes-needed = omega (arith, counted, length-numbers 2 (F .numbers))
+
+    module _ {met : Bool} (m-is : met ≡ goalHolds (goalModesIn goal) (goalConditionsIn goal) (declaredPart n m (state values′ modes′))) where
+      comes : {b : Bool} → met ≡ b → (t : SourceTask) → Lowered t table n lower upper m sizes total sources → Aims q table n lower upper m sizes sources values modes total goal t
+          → projected q table n lower upper m sizes sources values modes t ≡ cond b (given (F .numbers)) (refused 13 (length q))
+      comes f t L a =
+          F .meets t L
+          ∙ ap (λ (o : Followed). followedTo o (sourceGoalHolds t (declaredPart n m (state values′ modes′))) (length q) (F .numbers)) e
+          ∙ ap (λ (b : Bool). cond b (given (F .numbers)) (refused 13 (length q))) (sym (a (declaredPart n m (state values′ modes′))) ∙ sym m-is ∙ f)
+
+      pub when-unmet : met ≡ false → {steps : ℕ} → steps ≡ length q → Projected q table n lower upper m sizes sources values modes total goal old old (Refused 13 steps)
+      when-unmet f s = record { meets = λ t L a. refusal (ap asBytes (comes f t L a ∙ ap (refused 13) (sym s))) }
+
+      module _ (f : met ≡ true) where
+        pub when-short : length old < 2 * found → Projected q table n lower upper m sizes sources values modes total goal old old (Refused 8 (2 * found))
+        when-short s = record { meets = λ t L a. too-short (ap asBytes (comes f t L a)) bytes-needed s }
+
+        module _ (h : 2 * found ≤ length old) where
+          pub projectable : Posed q table n lower upper m sizes sources values modes total goal → Projectable q table n lower upper m sizes sources values modes old
+          projectable p = record {
+            total = total;
+            placed = p .placed;
+            numbers = F .numbers;
+            projects = comes f (p .placed .task) (p .placed .lowered) (p .aims);
+            room = record { fits = omega (arith, bytes-needed) };
+          }
+
+          pub when-written : {after : List ℕ} {next : ℕ} → SourcesPut q table n lower upper m sizes sources values modes old after next → Projected q table n lower upper m sizes sources values modes total goal old after (Bytes (2 * found))
+          when-written w = record { meets = λ t L a. written (ap asBytes (comes f t L a)) bytes-needed h (w .meets total t L (F .numbers) (comes f t L a)) }

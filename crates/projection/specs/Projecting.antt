@@ -1,0 +1,60 @@
+-- The source numbers that a plan projects to, written into lent output.
+-- Assumes nothing.
+use mathlib.Core.Path.{_≡_}
+use Prim.Native.Nat.{ℕ}
+use mathlib.Core.List.{List}
+use lib.ListN.{length}
+use lib.IntN.{ℤ}
+use Rattle.lists.specs.Answer.{Answer, given, then}
+use Rattle.lists.specs.Writing.{Room, Wrote}
+use Rattle.lists.specs.declared.Written.{Written}
+use Rattle.lists.specs.Written.{Lent}
+use Rattle.model.specs.Tasks.{SourceTask, State}
+use Rattle.model.specs.Steps.{goalHolds, sourceGoalHolds, sourceStart}
+use Rattle.model.specs.Decoding.{readSource}
+use Rattle.model.specs.Plans.{planBytes}
+use Rattle.model.specs.Judging.{declaredPart}
+use Rattle.model.specs.Following.{projectFrom}
+use Rattle.actions.specs.declared.SourceAction.{SourceAction as DecodedSource}
+use Rattle.actions.specs.declared.Goal.{Goal}
+use Rattle.source.specs.Step.{state}
+use Rattle.source.specs.Judged.{goalModesIn, goalConditionsIn}
+use Rattle.projection.specs.Following.{Lowered, Placed}
+
+-- an answer's numbers as bytes
+abbrev pub asBytes : Answer (List ℕ) → Answer (List ℕ)
+asBytes a = then a (λ p. given (planBytes p))
+
+module _ (q : List ℕ) (table : List DecodedSource) (n : ℕ) (lower upper : List ℤ) (m : ℕ) (sizes : List ℕ) (sources : List ℕ) (values : List ℤ) (modes : List ℕ) where
+  -- what the plan projects to in a task, from this state on
+  abbrev pub projected : SourceTask → Answer (List ℕ)
+  projected t = projectFrom t (length q) 0 q (declaredPart n m (state values modes))
+
+  -- it projects to numbers for which the output has room
+  pub record Projectable (out : List ℕ) : Type 0 where
+    pub total : ℕ
+    pub placed : Placed table n lower upper m sizes total sources values modes
+    pub numbers : List ℕ
+    pub projects : projected (placed .task) ≡ given numbers
+    pub room : Room out 0 (planBytes numbers)
+
+  -- they were written
+  pub record SourcesPut (old after : List ℕ) (next : ℕ) : Type 0 where
+    pub meets : (total : ℕ) (t : SourceTask) → Lowered t table n lower upper m sizes total sources → (p : List ℕ) → projected t ≡ given p → Wrote old 0 (planBytes p) after next
+
+  module _ (total : ℕ) (goal : Goal) where
+    -- a decoded goal is the task's
+    abbrev pub Aims : SourceTask → Type 0
+    Aims t = (x : State) → goalHolds (goalModesIn goal) (goalConditionsIn goal) x ≡ sourceGoalHolds t x
+
+    pub record Posed : Type 0 where
+      pub placed : Placed table n lower upper m sizes total sources values modes
+      pub aims : Aims (placed .task)
+
+    -- the plan was projected into lent output
+    pub record Projected (old after : List ℕ) (r : Written) : Type 0 where
+      pub meets : (t : SourceTask) → Lowered t table n lower upper m sizes total sources → Aims t → Lent old (asBytes (projected t)) after r
+
+-- a plan was projected by the task of an accepted file
+pub record FileProjected (file q old after : List ℕ) (r : Written) : Type 0 where
+  pub meets : (t : SourceTask) → readSource file ≡ given t → Lent old (asBytes (projectFrom t (length q) 0 q (sourceStart t))) after r
