@@ -1,0 +1,168 @@
+// The library for C: every entry point as an exported function of numbers and slices. include/ruphenqo.h is its manual.
+//
+// A function returns 0 or the refusal's number. It never asks anything of its input, and on a refusal it leaves what it was lent, but for the place, as it was.
+ghost use Rattle.model.specs.Limits.{sourceLimits, restrictedLimits};
+ghost use Rattle.model.specs.Reading.{verdictOf};
+ghost use Rattle.model.specs.ActionBytes.{actionPlace};
+ghost use Rattle.model.specs.Judging.{judgeRestricted, stepRestrictedAlone, stepSourceAlone};
+ghost use Rattle.tasks.specs.Views.{verdictIs};
+ghost use Rattle.actions.specs.Places.{placedIs};
+ghost use Rattle.restricted.specs.Judging.{zeros};
+ghost use Rattle.ruphenqo.specs.Told.{Told, countsOf, itself, stateOf, endOver};
+
+fn tell_counts(verdict: tasks::Verdict, counts: &mut [u64; 3], place: &mut u64) -> u32
+    ensures { λ r. ⌜ Told (countsOf (verdictIs verdict)) itself (now (counts .entry)) r (now (place .exit)) (now (counts .exit)) ⌝ }
+{
+    match verdict {
+        tasks::Verdict::Rejected(number, at) => {
+            *place = at;
+            number as u32
+        }
+        tasks::Verdict::Accepted(variables, modes, actions) => {
+            *place = 0;
+            *counts = [variables as u64, modes as u64, actions as u64];
+            0
+        }
+    }
+}
+
+// Reads a source file: the counts of its variables, modes and actions.
+#[no_mangle]
+pub extern "C" fn ruphenqo_read_source(task: &[u8], counts: &mut [u64; 3], place: &mut u64) -> u32
+    ensures { λ r. ⌜ Told (countsOf (verdictOf sourceLimits (now (task .entry)))) itself (now (counts .entry)) r (now (place .exit)) (now (counts .exit)) ⌝ }
+{
+    tell_counts(tasks::check_source(task), counts, place)
+}
+
+// Reads a restricted file.
+#[no_mangle]
+pub extern "C" fn ruphenqo_read_restricted(
+    task: &[u8],
+    counts: &mut [u64; 3],
+    place: &mut u64,
+) -> u32
+    ensures { λ r. ⌜ Told (countsOf (verdictOf restrictedLimits (now (task .entry)))) itself (now (counts .entry)) r (now (place .exit)) (now (counts .exit)) ⌝ }
+{
+    tell_counts(tasks::check_restricted(task), counts, place)
+}
+
+fn tell_place(placed: actions::Placed, start: &mut u64, end: &mut u64, place: &mut u64) -> u32
+    ensures { λ r. ⌜ Told (placedIs placed) itself (now (start .entry), now (end .entry)) r (now (place .exit)) (now (start .exit), now (end .exit)) ⌝ }
+{
+    match placed {
+        actions::Placed::Refused(number, at) => {
+            *place = at;
+            number as u32
+        }
+        actions::Placed::At(from, to) => {
+            *place = 0;
+            *start = from as u64;
+            *end = to as u64;
+            0
+        }
+    }
+}
+
+// Where the bytes of action k of a source file start and end.
+#[no_mangle]
+pub extern "C" fn ruphenqo_source_action(
+    task: &[u8],
+    k: u64,
+    start: &mut u64,
+    end: &mut u64,
+    place: &mut u64,
+) -> u32
+    ensures { λ r. ⌜ Told (actionPlace sourceLimits (now (task .entry)) k) itself (now (start .entry), now (end .entry)) r (now (place .exit)) (now (start .exit), now (end .exit)) ⌝ }
+{
+    tell_place(
+        actions::place_source_action(task, k as usize),
+        start,
+        end,
+        place,
+    )
+}
+
+// Likewise of a restricted file.
+#[no_mangle]
+pub extern "C" fn ruphenqo_restricted_action(
+    task: &[u8],
+    k: u64,
+    start: &mut u64,
+    end: &mut u64,
+    place: &mut u64,
+) -> u32
+    ensures { λ r. ⌜ Told (actionPlace restrictedLimits (now (task .entry)) k) itself (now (start .entry), now (end .entry)) r (now (place .exit)) (now (start .exit), now (end .exit)) ⌝ }
+{
+    tell_place(
+        actions::place_restricted_action(task, k as usize),
+        start,
+        end,
+        place,
+    )
+}
+
+// Judges a restricted plan: the count of its steps and the end state.
+#[no_mangle]
+pub extern "C" fn ruphenqo_judge_restricted(
+    task: &[u8],
+    plan: &[u8],
+    steps: &mut u64,
+    values: &mut [i64; 64],
+    modes: &mut [u16; 8],
+    place: &mut u64,
+) -> u32
+    ensures { λ r. ⌜ Told (judgeRestricted (now (task .entry)) (now (plan .entry))) (endOver zeros) (now (steps .entry), stateOf (now (values .entry)) (now (modes .entry))) r (now (place .exit)) (now (steps .exit), stateOf (now (values .exit)) (now (modes .exit))) ⌝ }
+{
+    let judgement = restricted::judge(task, plan);
+    let verdict = judgement.verdict;
+    let state = judgement.state;
+    match verdict {
+        restricted::Verdict::Refused(number, at) => {
+            *place = at;
+            number as u32
+        }
+        restricted::Verdict::Valid(count) => {
+            *place = 0;
+            *steps = count;
+            let end_values = state.values;
+            let end_modes = state.modes;
+            *values = end_values;
+            *modes = end_modes;
+            0
+        }
+    }
+}
+
+// Takes a step by itself in the state that the arrays hold.
+#[no_mangle]
+pub extern "C" fn ruphenqo_step_restricted(
+    task: &[u8],
+    values: &mut [i64; 64],
+    modes: &mut [u16; 8],
+    k: u64,
+    place: &mut u64,
+) -> u32
+    ensures { λ r. ⌜ Told (stepRestrictedAlone (now (task .entry)) (stateOf (now (values .entry)) (now (modes .entry))) k) itself (stateOf (now (values .entry)) (now (modes .entry))) r (now (place .exit)) (stateOf (now (values .exit)) (now (modes .exit))) ⌝ }
+{
+    let before = restricted::State {
+        values: *values,
+        modes: *modes,
+    };
+    let answer = restricted::step_alone(task, before, k as usize);
+    let verdict = answer.verdict;
+    let state = answer.state;
+    match verdict {
+        restricted::StepVerdict::Refused(number, at) => {
+            *place = at;
+            number as u32
+        }
+        restricted::StepVerdict::Applied => {
+            *place = 0;
+            let after_values = state.values;
+            let after_modes = state.modes;
+            *values = after_values;
+            *modes = after_modes;
+            0
+        }
+    }
+}
