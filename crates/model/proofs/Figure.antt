@@ -47,13 +47,13 @@ all-values B [] h = tt
 all-values B (z ∷ zs) h = (h 0, all-values B zs (λ j. h (suc j)))
 
 module _ (r : RestrictedTask) (F : RestrictedTaskOk r) where
-  abbrev Within : ℕ → State → Type 0
+  abbrev pub Within : ℕ → State → Type 0
   Within = WithinAfter (length (r .starts)) (sizesOf (r .modes))
 
-  start-within : Within 0 (restrictedStart r)
+  pub start-within : Within 0 (restrictedStart r)
   start-within = (refl, length-each (λ (m : ℕ × ℕ). m .1) (r .modes) ∙ sym (length-keys (r .modes)), values-in (r .starts) (F .startsIn), modes-below restrictedLimits (r .modes) (F .modesIn))
 
-  steps-within : (i : ℕ) (x y : State) (k : ℕ) → Within i x → restrictedStep (r .actions) x k ≡ some y → Within (suc i) y
+  pub steps-within : (i : ℕ) (x y : State) (k : ℕ) → Within i x → restrictedStep (r .actions) x k ≡ some y → Within (suc i) y
   steps-within = step-within (length (r .starts)) (sizesOf (r .modes)) (r .actions)
       (all-map (RestrictedActionOk restrictedLimits (length (r .starts)) (sizesOf (r .modes))) (AddsIn (length (r .starts)) 1_000_000_000) adds (r .actions) (F .actionsOk))
       (all-map (RestrictedActionOk restrictedLimits (length (r .starts)) (sizesOf (r .modes))) (λ (a : RestrictedAction). ValuesIn (sizesOf (r .modes)) (a .modeEffects)) (λ a h. h .modeEffectsIn) (r .actions) (F .actionsOk))

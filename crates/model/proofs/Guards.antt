@@ -13,7 +13,7 @@ use Rattle.model.proofs.Follow.{guard-run}
 use Rattle.model.proofs.NamedPairing.{GoalR, GoalS}
 
 module _ {S : Type 0} (ok : S → Bool) (step : S → ℕ → Option S) (Inv : S → Type 0) (up : (x y : S) (k : ℕ) → Inv x → step x k ≡ some y → Inv y) (fine : (x : S) → Inv x → ok x ≡ true) where
-  guard-step : (x : S) (k : ℕ) → Inv x → guarded ok step x k ≡ step x k
+  pub guard-step : (x : S) (k : ℕ) → Inv x → guarded ok step x k ≡ step x k
   guard-step x k v = go (step x k) refl
     where
       go : (o : Option S) → step x k ≡ o → bind o (λ y. cond (ok x) (cond (ok y) (some y) none) none) ≡ o

@@ -10,6 +10,12 @@ pub mod Figure
 pub mod FileBytes
 pub mod Follow
 pub mod Followed
+pub mod Following
+pub mod FollowingAgrees
+pub mod FollowingBound
+pub mod FollowingNamed
+pub mod FollowingPlans
+pub mod FollowingWalks
 pub mod Forced
 pub mod GuardedPairing
 pub mod Guards

@@ -345,7 +345,7 @@ module _ (lo hi : ℕ → ℤ) (loUp : (j : ℕ) → natAbs (lo j) ≤ 10_000) (
       lower-length acts (s + length (stagesOf lo hi (a .effect))) hs,
     )
 
-write-length : (n m : ℕ) (R : List NamedAction) → length (numberedAll n m R) ≡ length R
+pub write-length : (n m : ℕ) (R : List NamedAction) → length (numberedAll n m R) ≡ length R
 write-length n m [] = refl
 write-length n m (r ∷ R) = ap suc (write-length n m R)
 

@@ -254,7 +254,7 @@ num-lift n (c ∷ cs) = λ i. record { measured = lhs (c .measured) i; relation 
     lhs (weightedSum ts) = ap weightedSum (sums ts)
 
 module _ (n m : ℕ) (lo hi : ℕ → ℤ) where
-  goal-conds : (cs : List (NumericCondition ℕ)) → All (λ (c : NumericCondition ℕ). MeasureIn (λ (i : ℕ). i < n) (c .measured)) cs → (l : List ℤ) (f : Name → ℤ) → ValuesLaid n l f → conditionsHold cs (integerAt l) ≡ conditionsHold (onSourceVariables cs) f
+  pub goal-conds : (cs : List (NumericCondition ℕ)) → All (λ (c : NumericCondition ℕ). MeasureIn (λ (i : ℕ). i < n) (c .measured)) cs → (l : List ℤ) (f : Name → ℤ) → ValuesLaid n l f → conditionsHold cs (integerAt l) ≡ conditionsHold (onSourceVariables cs) f
   goal-conds cs i l f L = ap (λ (u : List (NumericCondition ℕ)). conditionsHold u (integerAt l)) (sym (num-lift n cs)) ∙ values-laid-conditions n (onSourceVariables cs) l f (lift-in n cs i) L
 
   actions-agree : (a : SourceAction) → ActionIn n m a → (X : State) → length (X .values) ≡ n → length (X .modes) ≡ m → Agree (SourceAgrees n m) (trySource lo hi X a) (tryNamedSource lo hi (byName X) a)
@@ -289,7 +289,7 @@ module _ (n m : ℕ) (lo hi : ℕ → ℤ) where
       ms : M .M₀ ++ (0 ∷ []) ≡ X .modes ++ (0 ∷ [])
       ms = ap (λ (u : List ℕ). u ++ (0 ∷ [])) (list-ext (M .M₀) (X .modes) 0 (M .lengths ∙ sym k) (λ j. ap (λ (f : ℕ → ℕ). f j) (sym (M .reads))))
 
-  rest-agrees : (X : State) → length (X .values) ≡ n → length (X .modes) ≡ m → RestrictedAgrees n m (helpersAtRest X) (atRest (byName X))
+  pub rest-agrees : (X : State) → length (X .values) ≡ n → length (X .modes) ≡ m → RestrictedAgrees n m (helpersAtRest X) (atRest (byName X))
   rest-agrees X h k = (record { V₀ = X .values; a = pos 0; b = pos 0; lengths = h; is = refl; reads = refl }, record { M₀ = X .modes; lengths = k; is = refl; reads = refl })
 
   module _ (acts : List SourceAction) (acts-in : All (ActionIn n m) acts) where

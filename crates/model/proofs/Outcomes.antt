@@ -123,7 +123,7 @@ module _ (lo hi : ℕ → ℤ) where
       src-step : stepNamedSource lo hi acts s k ≡ provided (((conditionsMet a s) && ins)) (afterAction a s)
       src-step = ap (λ (o : Option SourceAction). bind o (tryNamedSource lo hi s)) e
 
-      dst-step : stepNamed R (atRest s) (opening lo hi acts k) ≡ provided (((conditionsMet a s) && bnd)) opened
+      pub dst-step : stepNamed R (atRest s) (opening lo hi acts k) ≡ provided (((conditionsMet a s) && bnd)) opened
       dst-step = ap (λ (o : Option NamedAction). bind o (tryNamed (atRest s))) row ∙ ap (λ (b : Bool). provided b opened) (opens (w .from) a s)
         where
           row : getElem? R (opening lo hi acts k) ≡ some (openingAction lo hi (w .from) a)

@@ -51,7 +51,7 @@ look-small C (e ∷ es) (h, hs) B z i l = go (eqb (e .0) i) (look-small C es hs 
     go true k = omega (arith, abs-sum z (e .1))
     go false k = k
 
-true-of : (b : Bool) → T b → b ≡ true
+pub true-of : (b : Bool) → T b → b ≡ true
 true-of true t = refl
 true-of false t = absurd t
 

@@ -2,6 +2,7 @@ pub mod ActionBytes
 pub mod Claim
 pub mod Decoding
 pub mod Expansion
+pub mod Following
 pub mod InTask
 pub mod Judging
 pub mod Limits

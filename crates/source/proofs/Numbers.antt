@@ -98,21 +98,3 @@ quotient-small y c = rw (mul-abs (floor y (unitLess c)) (sign c), sign-one c) (o
 
 pub residue-small : (y c : ℤ) → 0 < natAbs c → natAbs (residueOf y c) < natAbs c
 residue-small y c h = let e = euclid y c h in omega (ints, e .high, e .low, abs (residueOf y c))
-
-module _ (t y c : ℤ) (e : ((small t && small y) && divides c) ≡ true) where
-  pub priced-target : natAbs t ≤ 10_000
-  priced-target = first t y (and-left (small t && small y) (divides c) e)
-
-  pub priced-operand : natAbs y ≤ 10_000
-  priced-operand = second t y (and-left (small t && small y) (divides c) e)
-
-  pub priced-by : Within 2000000000000000 c × (0 < natAbs c)
-  priced-by = divisor c (and-right (small t && small y) (divides c) e)
-
-  pub priced-quotient : natAbs (quotientOf y c) ≤ 10_000
-  priced-quotient = omega (arith, quotient-small y c, priced-operand)
-
-  pub priced-residue : natAbs (residueOf y c) ≤ 10_000
-  priced-residue =
-      let h = small-is c (and-left (small c) (not (withinLimit 0 c)) (and-right (small t && small y) (divides c) e)) in
-      omega (arith, residue-small y c (priced-by .1), h)

@@ -77,7 +77,7 @@ module _ (p : List ℕ) (count : ℕ) (table : List DecodedSource) (n : ℕ) (lo
       no-action l = record { judges = λ t r goal. turn t r goal ∙ ap (λ (b : Bool). cond b (ifApplies (stepSource t (declaredPart n m (state values modes)) k) i (judge (length (t .actions)) (stepSource t) goal (suc i) (drop (suc i) p))) (refused 11 i)) (le-ltb k (length (t .actions)) (omega (arith, r .counted))) }
 
       module _ (d : DecodedSource) (l : k < count) {b : Bool} {values′ : List ℤ} {modes′ : List ℕ} (T : Tried n m lower upper sizes values modes (actionIs (getD table k d)) b values′ modes′) where
-        stepped : (t : SourceTask) → Ready t count table n lower upper m sizes → stepSource t (declaredPart n m (state values modes)) k ≡ provided b (declaredPart n m (state values′ modes′))
+        pub stepped : (t : SourceTask) → Ready t count table n lower upper m sizes → stepSource t (declaredPart n m (state values modes)) k ≡ provided b (declaredPart n m (state values′ modes′))
         stepped t r =
             sym (step-of-task t (r .ok) (declaredPart n m (state values modes)) k (actionIs (getD table k d)) (r .actionsAre k d l))
             ∙ rw (← r .lowersAre, ← r .uppersAre, ← r .sizesAre) (T .declares)

@@ -19,9 +19,6 @@ ghost use Rattle.integers.specs.Parts.{Within};
 ghost use Rattle.integers.specs.Relation.{between};
 ghost use Rattle.lists.specs.Loops.{every};
 ghost use Rattle.model.specs.Steps.{integerAt, naturalAt, conditionsHold, modesHold, setAll, linear, result, withinBounds, goalHolds};
-ghost use Rattle.model.specs.Tasks.{linearEffect};
-ghost use Rattle.model.specs.Expansion.{magnitudes, priceOfEffect};
-ghost use Rattle.source.specs.Prices.{divisionPrice};
 ghost use Rattle.source.specs.Parts.{conditionsIn, modeConditionsIn, modeEffectsIn, termsIn, effectIn, small, divides, termFits, effectFits, outcomeIs, valuesBetween, modesBelow};
 ghost use Rattle.source.specs.Step.{setAt, settled, Shaped, Tried, actionIs, wholeIs, steppedIs, stepped};
 ghost use Rattle.source.specs.Judged.{Decoded, Ran, goalModesIn, goalConditionsIn, AcceptedWith, refusal, lastVerdict, StepsJudged, judged};
@@ -791,89 +788,5 @@ pub fn step_alone(file: &[u8], state: State, k: usize) -> StepAnswer
             }
             step_accepted(file, count, state, k)
         }
-    }
-}
-
-// |z| of a number that is not large.
-fn size(z: i64) -> u64
-    requires { ⌜ natAbs z ≤ 1000000000 ⌝ }
-    ensures { λ r. ⌜ r ≡ natAbs z ⌝ }
-{
-    if 0 <= z {
-        return z as u64;
-    }
-    (0 - z) as u64
-}
-
-// The sum of |value| of the variables of the terms.
-fn term_sizes(values: &[i64; VARIABLES], n: usize, count: usize, terms: [Term; TERMS]) -> u64
-    requires { ⌜ (n ≤ 8) × (every (termFits (integerAt (take n (now values)))) (termsIn count terms) ≡ true) ⌝ }
-    ensures { λ r. ⌜ (r ≡ magnitudes (termsIn count terms) (integerAt (take n (now (values .entry))))) × (r ≤ 40000) ⌝ }
-{
-    let k = lesser(TERMS, count);
-    let mut sum: u64 = 0;
-    let mut i: usize = 0;
-    while i < k {
-        let term = terms[i];
-        sum += size(value_at(values, n, term.variable));
-        i += 1;
-    }
-    sum
-}
-
-// The price of an L with its terms: the target before, and what it gives.
-fn linear_price(
-    values: &[i64; VARIABLES],
-    n: usize,
-    target: u8,
-    c: i64,
-    count: usize,
-    terms: [Term; TERMS],
-) -> u64
-    requires { ⌜ (n ≤ 8) × (effectFits (linearEffect target c (termsIn count terms)) (integerAt (take n (now values))) ≡ true) ⌝ }
-    ensures { λ r. ⌜ (r ≡ priceOfEffect (linearEffect target c (termsIn count terms)) (integerAt (take n (now (values .entry))))) × (r ≤ 4000000000) ⌝ }
-{
-    let k = lesser(TERMS, count) as u64;
-    let sizes = term_sizes(values, n, count, terms);
-    let before = size(value_at(values, n, target));
-    let after = size(linear_of(values, n, c, count, terms));
-    3 + 2 * k + 2 * sizes + before + after
-}
-
-// The price of a Q or R: the target before, the operand, and what it is divided by.
-fn division_price(target: i64, operand: i64, c: i64) -> u64
-    requires { ⌜ ((small target && small operand) && divides c) ≡ true ⌝ }
-    ensures { λ r. ⌜ (r ≡ divisionPrice target operand c) × (r ≤ 4000000000) ⌝ }
-{
-    let quotient = size(integers::quotient(operand, c));
-    let residue = size(integers::residue(operand, c));
-    7 + 2 * size(operand) + 2 * quotient + size(target) + residue
-}
-
-// The price of a step with an effect, over the values before it.
-fn price(
-    values: &[i64; VARIABLES],
-    n: usize,
-    effect: Effect,
-    count: usize,
-    terms: [Term; TERMS],
-) -> u64
-    requires { ⌜ (n ≤ 8) × (effectFits (effectIn effect count terms) (integerAt (take n (now values))) ≡ true) ⌝ }
-    ensures { λ r. ⌜ (r ≡ priceOfEffect (effectIn effect count terms) (integerAt (take n (now (values .entry))))) × (r ≤ 4000000000) ⌝ }
-{
-    match effect {
-        Effect::None => 1,
-        Effect::Add(_, _) => 1,
-        Effect::Linear(target, c) => linear_price(values, n, target, c, count, terms),
-        Effect::Quotient(target, operand, c) => division_price(
-            value_at(values, n, target),
-            value_at(values, n, operand),
-            c,
-        ),
-        Effect::Residue(target, operand, c) => division_price(
-            value_at(values, n, target),
-            value_at(values, n, operand),
-            c,
-        ),
     }
 }

@@ -1,37 +1,13 @@
+-- `prices::price` meets its contract, kind of effect by kind of effect. Assumes nothing.
 use native.Mathlib.Omega.{arith}
-use mathlib.Core.Path.{_≡_, refl, sym, ap, _∙_}
-use Prim.Native.Nat.{ℕ, _+_, _-_, _≤_, _<_}
-use denote.Ref.{now}
+use mathlib.Core.Path.{refl}
+use Prim.Native.Nat.{_-_}
 use mir.Facts.{toZ-ofZ}
 use mir.Syntax.{w64}
-use mir.Val.{SFits, toZ}
-use borrow.Author.Tests.{not-true, not-false, eq-eqb, ne-eqb}
-use mathlib.Core.Bool.{Bool, true, false, cond, _&&_}
-use mathlib.Core.List.{List, _++_}
-use lib.IntN.{ℤ, pos}
-use lib.ListN.{length, getD, take, drop, take-append-drop}
-use Rattle.lists.specs.Each.{tabulate}
-use Rattle.lists.specs.Loops.{every}
-use Rattle.model.specs.Steps.{integerAt, naturalAt, conditionsHold, modesHold, setAll, linear}
-use Rattle.model.specs.Tasks.{NumericCondition}
-use Rattle.actions.specs.Views.{conditionRoom, modeConditionRoom, modeEffectRoom, termRoom, conditionAt, pairAt, termIs}
-use Rattle.integers.specs.Relation.{related, relationOf}
-use Rattle.source.specs.Parts.{conditionsIn, modeConditionsIn, modeEffectsIn, termsIn, termFits, small}
-use lib.Dec.{eqb}
-use Rattle.source.proofs.Rows.{Left, left-start, left-next, left-none, left-pass, left-stop, row-tabulate, row-room, row-terms}
-use Rattle.source.proofs.Sound.{setting}
-use lib.IntN.{ℤ, pos, natAbs}
-use Rattle.source.proofs.Numbers as numbers
-use Rattle.lists.proofs.Loops.{length-mapped}
-use Rattle.actions.specs.declared.Term.{Term}
+use mir.Val.{SFits}
 use borrow.Author.Needs.{needs}
-use Rattle.source.proofs.price.Statement.{statement}
-use Rattle.source.proofs.price.Tie as tie
-use Rattle.source.proofs.price.Reads as reads
-use Rattle.source.proofs.price.Lts as lts
-use Rattle.source.proofs.division_price.Reads as division-price-reads
-use Rattle.source.proofs.linear_price.Reads as linear-price-reads
-use Rattle.source.proofs.value_at.Reads as value-at-reads
+use Rattle.prices.proofs.price.Statement.{statement}
+use Rattle.prices.proofs.price.Tie as tie
 
 enum-told : tie.Need-enum-told
 enum-told c = search needs

@@ -1,42 +1,26 @@
+-- `prices::term_sizes` meets its contract. The loop's invariant: the sum so far and the sizes of the terms left make those of all. Assumes nothing.
 use native.Mathlib.Omega.{arith}
-use mathlib.Core.Path.{_≡_, refl, sym, ap, _∙_}
-use Prim.Native.Nat.{ℕ, _+_, _-_, _≤_, _<_}
+use mathlib.Core.Path.{_≡_}
+use Prim.Native.Nat.{ℕ, _+_, _-_, _≤_}
 use denote.Ref.{now}
 use mir.Facts.{toZ-ofZ}
 use mir.Syntax.{w64}
-use mir.Val.{SFits, toZ}
-use borrow.Author.Tests.{not-true, not-false, eq-eqb, ne-eqb}
-use mathlib.Core.Bool.{Bool, true, false, cond, _&&_}
-use mathlib.Core.List.{List, _++_}
+use mir.Val.{SFits}
+use mathlib.Core.Bool.{true}
 use lib.IntN.{ℤ, pos}
-use lib.ListN.{length, getD, take, drop, take-append-drop}
-use Rattle.lists.specs.Each.{tabulate}
-use Rattle.lists.specs.Loops.{every}
-use Rattle.model.specs.Steps.{integerAt, naturalAt, conditionsHold, modesHold, setAll, linear}
-use Rattle.model.specs.Tasks.{NumericCondition}
-use Rattle.actions.specs.Views.{conditionRoom, modeConditionRoom, modeEffectRoom, termRoom, conditionAt, pairAt, termIs}
-use Rattle.integers.specs.Relation.{related, relationOf}
-use Rattle.source.specs.Parts.{conditionsIn, modeConditionsIn, modeEffectsIn, termsIn, termFits, small}
-use lib.Dec.{eqb}
-use Rattle.source.proofs.Rows.{Left, left-start, left-next, left-none, left-pass, left-stop, row-tabulate, row-room, row-terms}
-use Rattle.source.proofs.Sound.{setting}
-use lib.IntN.{ℤ, pos, natAbs, _+ℤ_, _-ℤ_, _*ℤ_}
-use lib.Signed.{leZ}
-use Rattle.integers.proofs.Parts.{ints, add, sub, abs}
-use Rattle.integers.specs.Division.{quotientOf, residueOf}
+use lib.ListN.{getD, take}
+use Rattle.model.specs.Steps.{integerAt}
+use Rattle.actions.specs.Views.{termRoom, termIs}
+use Rattle.source.specs.Parts.{termsIn, termFits}
+use Rattle.source.proofs.Rows.{Left, left-start, left-next, left-none, row-terms}
+use lib.IntN.{natAbs}
 use Rattle.model.specs.Expansion.{magnitudes}
 use Rattle.source.proofs.Numbers as numbers
-use Rattle.lists.proofs.Loops.{length-mapped, and-left, and-right, every-at}
-use Rattle.actions.specs.declared.Term.{Term}
-use Prim.Native.Nat.{ℕ, _+_, _-_, _*_, _≤_, _<_}
+use Rattle.lists.proofs.Loops.{length-mapped, every-at}
+use Prim.Native.Nat.{_*_}
 use borrow.Author.Needs.{needs}
-use Rattle.source.proofs.term_sizes.Statement.{statement}
-use Rattle.source.proofs.term_sizes.Tie as tie
-use Rattle.source.proofs.term_sizes.Reads as reads
-use Rattle.source.proofs.term_sizes.Lts as lts
-use Rattle.source.proofs.lesser.Reads as lesser-reads
-use Rattle.source.proofs.size.Reads as size-reads
-use Rattle.source.proofs.value_at.Reads as value-at-reads
+use Rattle.prices.proofs.term_sizes.Statement.{statement}
+use Rattle.prices.proofs.term_sizes.Tie as tie
 
 abbrev Inv-loop : tie.InvT-loop
 Inv-loop values n count terms k sum₀ i₀ sum i = Left (termsIn count terms) k (λ j. termIs (getD terms j (record { variable = 0; weight = pos 0 }))) i (λ ts. sum + magnitudes ts (integerAt (take n values))) (0 + magnitudes (termsIn count terms) (integerAt (take n values))) × (sum ≤ i * 10000) × (k ≤ 4)

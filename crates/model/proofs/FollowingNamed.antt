@@ -1,0 +1,196 @@
+-- The lowering over named variables meets the terms of following: which openings apply though the source action doesn't, and that the walk behind
+-- such a one is the whole walk but its last step, Move's turn.
+-- Assumes nothing.
+use mathlib.Core.Path.{_≡_, refl, sym, ap, ap₂, _∙_, subst}
+use mathlib.Core.Logic.{_⊎_, inl, inr}
+use Prim.Native.Nat.{ℕ, zero, suc, _+_, _-_, _≤_, _<_}
+use native.Mathlib.Omega.{arith}
+use mathlib.Core.Bool.{_&&_, Bool, true, false, not, cond}
+use mathlib.Core.Option.{Option, none, some, Option·none-ne-some}
+use mathlib.Core.List.{List, [], _∷_, _++_, append-assoc, append-nil}
+use lib.ListN.{length, length-append, getElem?}
+use lib.Dec.{T, eqb, eqb→eq, ltb, nltb→le}
+use lib.IntN.{ℤ, pos}
+use Rattle.model.specs.Systems.{bind, orEmpty}
+use Rattle.model.specs.Tasks.{NumericCondition, Effect, noEffect, addEffect, linearEffect, quotientEffect, residueEffect, SourceAction}
+use Rattle.model.specs.Steps.{conditionsHold, modesHold, result, withinBounds}
+use Rattle.model.specs.Stages.{Name, NamedAction, Stage, turnPlace, drainTerms, stagesOf, addedBound, onSourceVariables, macro, lowerActions, macroSize, opening, sourceNumber, later, clear, move, helperA}
+use Rattle.model.specs.Expansion.{strokes, unitsIn, afterStrokes, afterStage, stageWalk, namedValues}
+use Rattle.model.specs.NamedSystems.{NamedState, NamedSource, applies, apply, tryNamed, stepNamed, conditionsMet, tryNamedSource, stepNamedSource, afterAction, atRest, passes, walkToDeadEnd, entered, stageSteps, deadEndSteps, priceAt}
+use Rattle.model.specs.Following.{ifAny, makesMacro}
+use Rattle.model.proofs.Pairing.{bind-gives, none-not-some, some-injective}
+use Rattle.model.proofs.StageWalk.{Rest, and-intro, and-parts, provided-gives, provided-holds, applies-out, found-below-length}
+use Rattle.model.proofs.StageValues.{effect, moveTest, tests-agree, and-true}
+use Rattle.model.proofs.StepBounds.{true-of}
+use Rattle.model.proofs.MacroPlace.{OpensOrOfAStage, opens-or-of-a-stage, macro-length, locate, no-opening-past-the-last}
+use Rattle.model.proofs.Outcomes.{Good, lowers, dst-step, source-conditions-lift}
+use Rattle.model.proofs.FollowingPlans.{Projects}
+
+-- ---- only the last stage's turn has further conditions
+abbrev LastTested : List Stage → Type 0
+LastTested [] = Unit {0}
+LastTested (d ∷ ds) = ((d .turnConditions ≡ []) ⊎ (ds ≡ [])) × LastTested ds
+
+terms-tested : (ts : List (ℕ × ℤ)) (ds : List Stage) → LastTested ds → LastTested (drainTerms ts ds)
+terms-tested [] ds h = h
+terms-tested (t ∷ ts) ds h = (inl refl, (inl refl, terms-tested ts ds h))
+
+last-tested : (lo hi : ℕ → ℤ) (e : Effect) → LastTested (stagesOf lo hi e)
+last-tested lo hi noEffect = tt
+last-tested lo hi (addEffect t c) = tt
+last-tested lo hi (linearEffect t w ts) = terms-tested ts (clear t ∷ move t helperA (lo t) (hi t) ∷ []) (inl refl, (inr refl, tt))
+last-tested lo hi (quotientEffect t y c) = (inl refl, (inl refl, (inl refl, (inl refl, (inl refl, (inr refl, tt))))))
+last-tested lo hi (residueEffect t y c) = (inl refl, (inl refl, (inl refl, (inl refl, (inl refl, (inr refl, tt))))))
+
+-- so the walk that hangs is the whole walk but the last turn
+all-but-the-last-turn : (b : ℕ) (ds : List Stage) (v : Name → ℤ) → LastTested ds → passes ds v ≡ false → (last : ℕ) × (stageWalk b ds v ≡ walkToDeadEnd b ds v ++ (last ∷ []))
+all-but-the-last-turn b [] v h n = absurd (subst T n tt)
+all-but-the-last-turn b (d ∷ ds) v (inl e, hs) n =
+    let (last, w) = all-but-the-last-turn (suc (b + turnPlace (d .kind))) ds (afterStage d v) hs (sym (ap (λ (c : Bool). c && passes ds (afterStage d v)) holds) ∙ n) in
+    (last, on last w)
+  where
+    holds : conditionsHold (d .turnConditions) (afterStrokes d v) ≡ true
+    holds = ap (λ (cs : List (NumericCondition Name)). conditionsHold cs (afterStrokes d v)) e
+
+    ks : List ℕ
+    ks = strokes b (unitsIn (d .kind) (v (d .counter)))
+
+    dead : List ℕ
+    dead = walkToDeadEnd (suc (b + turnPlace (d .kind))) ds (afterStage d v)
+
+    on : (last : ℕ) → stageWalk (suc (b + turnPlace (d .kind))) ds (afterStage d v) ≡ dead ++ (last ∷ [])
+        → stageWalk b (d ∷ ds) v ≡ walkToDeadEnd b (d ∷ ds) v ++ (last ∷ [])
+    on last w = ap (λ (l : List ℕ). ks ++ ((b + turnPlace (d .kind)) ∷ l)) w ∙ sym (append-assoc ks ((b + turnPlace (d .kind)) ∷ dead) (last ∷ []))
+        ∙ ap (λ (c : Bool). (ks ++ cond c ((b + turnPlace (d .kind)) ∷ dead) []) ++ (last ∷ [])) (sym holds)
+all-but-the-last-turn b (d ∷ ds) v (inr e, hs) n = (b + turnPlace (d .kind), go (conditionsHold (d .turnConditions) (afterStrokes d v)) (sym (ap (λ (l : List Stage). conditionsHold (d .turnConditions) (afterStrokes d v) && passes l (afterStage d v)) e) ∙ n))
+  where
+    ks : List ℕ
+    ks = strokes b (unitsIn (d .kind) (v (d .counter)))
+
+    go : (c : Bool) → (c && true) ≡ false
+        → ks ++ ((b + turnPlace (d .kind)) ∷ stageWalk (suc (b + turnPlace (d .kind))) ds (afterStage d v))
+        ≡ (ks ++ cond c ((b + turnPlace (d .kind)) ∷ walkToDeadEnd (suc (b + turnPlace (d .kind))) ds (afterStage d v)) []) ++ ((b + turnPlace (d .kind)) ∷ [])
+    go true q = absurd (subst T q tt)
+    go false q = ap (λ (l : List Stage). ks ++ ((b + turnPlace (d .kind)) ∷ stageWalk (suc (b + turnPlace (d .kind))) l (afterStage d v))) e ∙ ap (λ (l : List ℕ). l ++ ((b + turnPlace (d .kind)) ∷ [])) (sym (append-nil ks))
+
+module _ (lo hi : ℕ → ℤ) where
+  -- a source number is that of an action's opening in R
+  source-opens : (acts : List SourceAction) (s k a : ℕ) → sourceNumber lo hi acts k ≡ some a → (opening lo hi acts a ≡ k) × (k < length (lowerActions lo hi s acts))
+  source-opens [] s k a e = absurd (Option·none-ne-some a e)
+  source-opens (x ∷ acts) s zero a e = (ap (opening lo hi (x ∷ acts)) (sym (some-injective e)), omega arith)
+  source-opens (x ∷ acts) s (suc k) a e = go (ltb (suc k) (macroSize lo hi x)) refl (sourceNumber lo hi acts (suc k - macroSize lo hi x)) refl e (source-opens acts (s + length (stagesOf lo hi (x .effect))) (suc k - macroSize lo hi x))
+    where
+      rest : List NamedAction
+      rest = lowerActions lo hi (s + length (stagesOf lo hi (x .effect))) acts
+
+      go : (b : Bool) → ltb (suc k) (macroSize lo hi x) ≡ b → (o : Option ℕ) → sourceNumber lo hi acts (suc k - macroSize lo hi x) ≡ o → cond b none (later o) ≡ some a
+          → ((a : ℕ) → sourceNumber lo hi acts (suc k - macroSize lo hi x) ≡ some a → (opening lo hi acts a ≡ suc k - macroSize lo hi x) × (suc k - macroSize lo hi x < length rest))
+          → (opening lo hi (x ∷ acts) a ≡ suc k) × (suc k < length (macro lo hi s x ++ rest))
+      go true l o n e ih = absurd (Option·none-ne-some a e)
+      go false l none n e ih = absurd (Option·none-ne-some a e)
+      go false l (some a′) n e ih =
+          let (w, few) = ih a′ n in
+          let past : macroSize lo hi x ≤ suc k = nltb→le (suc k) (macroSize lo hi x) (subst (λ (b : Bool). T (not b)) (sym l) tt) in
+          let at : macroSize lo hi x + opening lo hi acts a′ ≡ suc k = omega (arith, w, past) in
+          (ap (opening lo hi (x ∷ acts)) (sym (some-injective e)) ∙ at, omega (arith, few, past, length-append (macro lo hi s x) rest, macro-length lo hi s x))
+
+  -- only a lone + asks its action for a bound more
+  no-added-bound : (e : Effect) (v : Name → ℤ) → makesMacro e ≡ true → T (conditionsHold (addedBound lo hi e) v)
+  no-added-bound noEffect v m = tt
+  no-added-bound (addEffect t c) v m = absurd (subst T (sym m) tt)
+  no-added-bound (linearEffect t w ts) v m = tt
+  no-added-bound (quotientEffect t y c) v m = tt
+  no-added-bound (residueEffect t y c) v m = tt
+
+  -- only a macro has a turn that asks for bounds
+  turned-back-in-a-macro : (e : Effect) (v : ℕ → ℤ) → moveTest lo hi e v ≡ false → makesMacro e ≡ true
+  turned-back-in-a-macro noEffect v m = absurd (subst T m tt)
+  turned-back-in-a-macro (addEffect t c) v m = absurd (subst T m tt)
+  turned-back-in-a-macro (linearEffect t w ts) v m = refl
+  turned-back-in-a-macro (quotientEffect t y c) v m = refl
+  turned-back-in-a-macro (residueEffect t y c) v m = refl
+
+  module _ (acts : List SourceAction) where
+    abbrev R : List NamedAction
+    R = lowerActions lo hi 1 acts
+
+    -- source action k becomes a macro, and its P and C hold
+    abbrev pub opensNamed : NamedSource → ℕ → Bool
+    opensNamed s k = ifAny (getElem? acts k) (λ a. makesMacro (a .effect) && conditionsMet a s) false
+
+    abbrev Hangs : NamedSource → ℕ → Type 0
+    Hangs s k = (opensNamed s k ≡ true) × (last : ℕ) × (stageSteps lo hi acts s k ≡ deadEndSteps lo hi acts s k ++ (last ∷ []))
+
+    module _ (s : NamedSource) (g : Good lo hi s) (k : ℕ) where
+      abbrev bound : SourceAction → Bool
+      bound a = conditionsHold (addedBound lo hi (a .effect)) (namedValues (s .value) (pos 0) (pos 0))
+
+      -- an opening that applies where the source action doesn't is turned back by its last turn
+      turned-back : (a : SourceAction) → getElem? acts k ≡ some a → T (conditionsMet a s) → T (bound a) → stepNamedSource lo hi acts s k ≡ none → moveTest lo hi (a .effect) (s .value) ≡ false
+      turned-back a e m b n = go (moveTest lo hi (a .effect) (s .value)) refl
+        where
+          inside : Bool
+          inside = withinBounds lo hi (result (a .effect) (s .value))
+
+          go : (c : Bool) → moveTest lo hi (a .effect) (s .value) ≡ c → c ≡ false
+          go true q = absurd (none-not-some n (ap (λ (o : Option SourceAction). bind o (tryNamedSource lo hi s)) e ∙ provided-holds (conditionsMet a s && inside) (afterAction a s) (and-intro (conditionsMet a s) inside m
+              (subst T (tests-agree lo hi (a .effect) (s .value) g) (and-intro (bound a) (moveTest lo hi (a .effect) (s .value)) b (subst T (sym q) tt))))))
+          go false q = refl
+
+      opening-hangs : (y : NamedState) → stepNamedSource lo hi acts s k ≡ none → stepNamed R (atRest s) (opening lo hi acts k) ≡ some y → Hangs s k
+      opening-hangs y n o = go (getElem? acts k) refl
+        where
+          go : (r : Option SourceAction) → getElem? acts k ≡ r → Hangs s k
+          go none e = absurd (none-not-some (ap (λ (o : Option NamedAction). bind o (tryNamed (atRest s))) (no-opening-past-the-last lo hi acts 1 k e)) o)
+          go (some a) e =
+              let (m, b) = and-parts (conditionsMet a s) (bound a) (provided-gives (conditionsMet a s && bound a) _ y (sym (dst-step lo hi acts s g k a e (locate lo hi acts 1 k a (omega arith) e)) ∙ o) .0) in
+              let back : moveTest lo hi (a .effect) (s .value) ≡ false = turned-back a e m b n in
+              let (last, w) = all-but-the-last-turn (suc (opening lo hi acts k)) (stagesOf lo hi (a .effect)) (entered a s) (last-tested lo hi (a .effect)) (effect lo hi (a .effect) (s .value) .runs .passing ∙ back) in (
+                ap (λ (o : Option SourceAction). ifAny o (λ a. makesMacro (a .effect) && conditionsMet a s) false) e ∙ ap₂ _&&_ (turned-back-in-a-macro (a .effect) (s .value) back) (true-of (conditionsMet a s) m),
+                last,
+                ap (λ (o : Option SourceAction). orEmpty o (λ a. stageWalk (suc (opening lo hi acts k)) (stagesOf lo hi (a .effect)) (entered a s))) e ∙ w
+                    ∙ ap (λ (o : Option SourceAction). orEmpty o (λ a. walkToDeadEnd (suc (opening lo hi acts k)) (stagesOf lo hi (a .effect)) (entered a s)) ++ (last ∷ [])) (sym e),
+              )
+
+      opening-shut : ((y : NamedState) → ¬ (stepNamed R (atRest s) (opening lo hi acts k) ≡ some y)) → opensNamed s k ≡ false
+      opening-shut off = go (getElem? acts k) refl
+        where
+          go : (r : Option SourceAction) → getElem? acts k ≡ r → opensNamed s k ≡ false
+          go none e = ap (λ (o : Option SourceAction). ifAny o (λ a. makesMacro (a .effect) && conditionsMet a s) false) e
+          go (some a) e = ap (λ (o : Option SourceAction). ifAny o (λ a. makesMacro (a .effect) && conditionsMet a s) false) e ∙ on (makesMacro (a .effect)) refl (conditionsMet a s) refl
+            where
+              on : (c : Bool) → makesMacro (a .effect) ≡ c → (d : Bool) → conditionsMet a s ≡ d → (c && d) ≡ false
+              on true p true q = absurd (off _ (dst-step lo hi acts s g k a e (locate lo hi acts 1 k a (omega arith) e)
+                  ∙ provided-holds (conditionsMet a s && bound a) _ (and-intro (conditionsMet a s) (bound a) (subst T (sym q) tt) (no-added-bound (a .effect) (namedValues (s .value) (pos 0) (pos 0)) p))))
+              on true p false q = refl
+              on false p d q = refl
+
+    from-rest : (s : NamedSource) (k : ℕ) (y : NamedState) → stepNamed R (atRest s) k ≡ some y → (a : ℕ) × (sourceNumber lo hi acts k ≡ some a)
+    from-rest s k y e =
+        let (r, e₁, e₂) = bind-gives (getElem? R k) (tryNamed (atRest s)) y e in
+        go r (opens-or-of-a-stage lo hi acts 1 k r (omega arith) e₁) (applies-out r (atRest s) (provided-gives (applies r (atRest s)) (apply r (atRest s)) y e₂ .0) .0)
+      where
+        go : (r : NamedAction) → OpensOrOfAStage lo hi acts k r → 0 ≡ r .control → (a : ℕ) × (sourceNumber lo hi acts k ≡ some a)
+        go r (inl (a, n, o, c)) q = (a, n)
+        go r (inr (n, c)) q = absurd (omega arith)
+
+    module _ (gp : List (ℕ × ℕ)) (gc : List (NumericCondition ℕ)) where
+      abbrev pub goalNamed : NamedSource → Bool
+      goalNamed s = modesHold gp (s .mode) && conditionsHold gc (s .value)
+
+      abbrev pub goalLowered : NamedState → Bool
+      goalLowered x = (modesHold gp (x .mode) && eqb (x .control) 0) && conditionsHold (onSourceVariables gc) (x .value)
+
+      -- the terms of following are met
+      pub named-projects : Projects (stepNamedSource lo hi acts) (stepNamed R) Rest atRest (Good lo hi) (opening lo hi acts) (sourceNumber lo hi acts) (stageSteps lo hi acts) (priceAt acts) (deadEndSteps lo hi acts)
+          (length R) goalNamed goalLowered opensNamed
+      named-projects = record {
+        lowers = lowers lo hi acts;
+        counted = λ x k y e. let (r, e₁, e₂) = bind-gives (getElem? R k) (tryNamed x) y e in found-below-length R k r e₁;
+        goalRests = λ x h. eqb→eq (x .control) 0 (and-parts (modesHold gp (x .mode)) (eqb (x .control) 0) (and-parts (modesHold gp (x .mode) && eqb (x .control) 0) (conditionsHold (onSourceVariables gc) (x .value)) h .0) .1);
+        goalsAgree = λ s. ap₂ _&&_ (and-true (modesHold gp (s .mode))) (source-conditions-lift gc (s .value) (pos 0) (pos 0));
+        fromRest = from-rest;
+        numbers = source-opens acts 1;
+        hanging = opening-hangs;
+        unopened = opening-shut;
+      }

@@ -1,0 +1,194 @@
+// What steps and plans cost: the price of a step, by itself or with the steps of a plan.
+//
+// A price is counted from the values before a step. Steps and plans are refused as by judging them.
+use actions::Effect;
+use actions::SourceAction;
+use actions::TERMS;
+use actions::Term;
+use source::MODES;
+use source::Progress;
+use source::Table;
+use source::VARIABLES;
+ghost use mathlib.Core.Path.{_≡_};
+ghost use mathlib.Core.Bool.{true, _&&_};
+ghost use Prim.Native.Nat.{_≤_};
+ghost use lib.ListN.{length, take};
+ghost use lib.IntN.{natAbs};
+ghost use Rattle.lists.specs.Loops.{every};
+ghost use Rattle.model.specs.Steps.{integerAt};
+ghost use Rattle.model.specs.Tasks.{linearEffect};
+ghost use Rattle.model.specs.Expansion.{magnitudes, priceOfEffect};
+ghost use Rattle.model.specs.Plans.{planNumbers};
+ghost use Rattle.source.specs.Step.{actionIs, Shaped};
+ghost use Rattle.source.specs.Parts.{termsIn, effectIn, small, divides, termFits, effectFits};
+ghost use Rattle.prices.specs.Prices.{divisionPrice};
+ghost use Rattle.prices.specs.Measures.{firstPassing, Halted, PlanMeasured};
+
+// |z| of a number that is not large.
+fn size(z: i64) -> u64
+    requires { ⌜ natAbs z ≤ 1000000000 ⌝ }
+    ensures { λ r. ⌜ r ≡ natAbs z ⌝ }
+{
+    if 0 <= z {
+        return z as u64;
+    }
+    (0 - z) as u64
+}
+
+// The sum of |value| of the variables of the terms.
+fn term_sizes(values: &[i64; VARIABLES], n: usize, count: usize, terms: [Term; TERMS]) -> u64
+    requires { ⌜ (n ≤ 8) × (every (termFits (integerAt (take n (now values)))) (termsIn count terms) ≡ true) ⌝ }
+    ensures { λ r. ⌜ (r ≡ magnitudes (termsIn count terms) (integerAt (take n (now (values .entry))))) × (r ≤ 40000) ⌝ }
+{
+    let k = source::lesser(TERMS, count);
+    let mut sum: u64 = 0;
+    let mut i: usize = 0;
+    while i < k {
+        let term = terms[i];
+        sum += size(source::value_at(values, n, term.variable));
+        i += 1;
+    }
+    sum
+}
+
+// The price of an L with its terms: the target before, and what it gives.
+fn linear_price(
+    values: &[i64; VARIABLES],
+    n: usize,
+    target: u8,
+    c: i64,
+    count: usize,
+    terms: [Term; TERMS],
+) -> u64
+    requires { ⌜ (n ≤ 8) × (effectFits (linearEffect target c (termsIn count terms)) (integerAt (take n (now values))) ≡ true) ⌝ }
+    ensures { λ r. ⌜ (r ≡ priceOfEffect (linearEffect target c (termsIn count terms)) (integerAt (take n (now (values .entry))))) × (r ≤ 4000000000) ⌝ }
+{
+    let k = source::lesser(TERMS, count) as u64;
+    let sizes = term_sizes(values, n, count, terms);
+    let before = size(source::value_at(values, n, target));
+    let after = size(source::linear_of(values, n, c, count, terms));
+    3 + 2 * k + 2 * sizes + before + after
+}
+
+// The price of a Q or R: the target before, the operand, and what it is divided by.
+fn division_price(target: i64, operand: i64, c: i64) -> u64
+    requires { ⌜ ((small target && small operand) && divides c) ≡ true ⌝ }
+    ensures { λ r. ⌜ (r ≡ divisionPrice target operand c) × (r ≤ 4000000000) ⌝ }
+{
+    let quotient = size(integers::quotient(operand, c));
+    let residue = size(integers::residue(operand, c));
+    7 + 2 * size(operand) + 2 * quotient + size(target) + residue
+}
+
+// The price of a step with an effect, over the values before it.
+fn price(
+    values: &[i64; VARIABLES],
+    n: usize,
+    effect: Effect,
+    count: usize,
+    terms: [Term; TERMS],
+) -> u64
+    requires { ⌜ (n ≤ 8) × (effectFits (effectIn effect count terms) (integerAt (take n (now values))) ≡ true) ⌝ }
+    ensures { λ r. ⌜ (r ≡ priceOfEffect (effectIn effect count terms) (integerAt (take n (now (values .entry))))) × (r ≤ 4000000000) ⌝ }
+{
+    match effect {
+        Effect::None => 1,
+        Effect::Add(_, _) => 1,
+        Effect::Linear(target, c) => linear_price(values, n, target, c, count, terms),
+        Effect::Quotient(target, operand, c) => division_price(
+            source::value_at(values, n, target),
+            source::value_at(values, n, operand),
+            c,
+        ),
+        Effect::Residue(target, operand, c) => division_price(
+            source::value_at(values, n, target),
+            source::value_at(values, n, operand),
+            c,
+        ),
+    }
+}
+
+// The price of an action, over the values before it.
+pub fn price_of(values: &[i64; VARIABLES], n: usize, a: SourceAction) -> u64
+    requires { ⌜ (n ≤ 8) × (effectFits (actionIs a .effect) (integerAt (take n (now values))) ≡ true) ⌝ }
+    ensures { λ r. ⌜ (r ≡ priceOfEffect (actionIs a .effect) (integerAt (take n (now (values .entry))))) × (r ≤ 4000000000) ⌝ }
+{
+    let effect = a.effect;
+    let terms = a.terms;
+    price(values, n, effect, a.term_count, terms)
+}
+
+// The most steps that an expansion has.
+const MOST: u64 = 1_000_000;
+
+// How far a plan goes, the sum of its prices, and the first step with which the sum passes 1,000,000 (where it does).
+pub struct Measured {
+    pub progress: Progress,
+    pub price: u64,
+    pub passing: u64,
+}
+
+// That step, once step i has brought the sum to `after`.
+fn first_passing(passing: u64, sum: u64, after: u64, i: u64) -> u64
+    ensures { λ r. ⌜ r ≡ firstPassing passing sum after i ⌝ }
+{
+    if MOST < sum {
+        return passing;
+    }
+    if MOST < after {
+        return i;
+    }
+    passing
+}
+
+fn stopped(number: u8, place: u64, price: u64) -> Measured
+    ensures { λ r. ⌜ Halted number place price r ⌝ }
+{
+    Measured {
+        progress: Progress::Stopped(number, place),
+        price,
+        passing: 0,
+    }
+}
+
+// Takes the steps of a plan in a lent state, and sums their prices.
+pub fn measure<'a>(
+    plan: &[u8],
+    steps: usize,
+    count: usize,
+    table: Table,
+    n: usize,
+    lower: &[i64; VARIABLES],
+    upper: &[i64; VARIABLES],
+    m: usize,
+    sizes: &[u16; MODES],
+    values: &mut [i64; VARIABLES],
+    modes: &mut [u16; MODES],
+) -> Measured
+    requires { ⌜ Shaped n m (now values) (now modes) (now sizes) × (count ≤ 32) × (steps ≡ length (planNumbers (now plan))) × (steps ≤ 1000000) ⌝ }
+    ensures { λ r. ⌜ PlanMeasured (planNumbers (now (plan .entry))) count (table .actions) n (now (lower .entry)) (now (upper .entry)) m (now (sizes .entry)) (now (values .entry)) (now (modes .entry)) r (now (values .exit)) (now (modes .exit)) ⌝ }
+{
+    let mut price: u64 = 0;
+    let mut passing: u64 = 0;
+    let mut i: usize = 0;
+    while i < steps {
+        let k = source::wide16(planbytes::action_of(plan, i));
+        if count <= k {
+            return stopped(11, i as u64, price);
+        }
+        let action = table.actions[k];
+        let before = *values;
+        if !source::try_action(values, modes, n, lower, upper, m, sizes, action) {
+            return stopped(12, i as u64, price);
+        }
+        let sum = price;
+        price += price_of(&before, n, action);
+        passing = first_passing(passing, sum, price, i as u64);
+        i += 1;
+    }
+    Measured {
+        progress: Progress::Through,
+        price,
+        passing,
+    }
+}
