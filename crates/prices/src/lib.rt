@@ -7,11 +7,12 @@ use actions::TERMS;
 use actions::Term;
 use source::MODES;
 use source::Progress;
+use source::State;
 use source::Table;
 use source::VARIABLES;
 ghost use mathlib.Core.Path.{_≡_};
 ghost use mathlib.Core.Bool.{true, _&&_};
-ghost use Prim.Native.Nat.{_≤_};
+ghost use Prim.Native.Nat.{_<_, _≤_};
 ghost use lib.ListN.{length, take};
 ghost use lib.IntN.{natAbs};
 ghost use Rattle.lists.specs.Loops.{every};
@@ -19,9 +20,14 @@ ghost use Rattle.model.specs.Steps.{integerAt};
 ghost use Rattle.model.specs.Tasks.{linearEffect};
 ghost use Rattle.model.specs.Expansion.{magnitudes, priceOfEffect};
 ghost use Rattle.model.specs.Plans.{planNumbers};
-ghost use Rattle.source.specs.Step.{actionIs, Shaped};
+ghost use Rattle.model.specs.Limits.{sourceLimits};
+ghost use Rattle.model.specs.Reading.{verdictOf};
+ghost use Rattle.model.specs.Judging.{priceStep, pricePlan};
+ghost use Rattle.source.specs.Step.{actionIs, wholeIs, Shaped};
+ghost use Rattle.source.specs.Judged.{AcceptedWith};
 ghost use Rattle.source.specs.Parts.{termsIn, effectIn, small, divides, termFits, effectFits};
 ghost use Rattle.prices.specs.Prices.{divisionPrice};
+ghost use Rattle.prices.specs.Answers.{pricedIs, lastPrice, StepPriced, StepsPriced};
 ghost use Rattle.prices.specs.Measures.{firstPassing, Halted, PlanMeasured};
 
 // |z| of a number that is not large.
@@ -152,7 +158,7 @@ fn stopped(number: u8, place: u64, price: u64) -> Measured
 }
 
 // Takes the steps of a plan in a lent state, and sums their prices.
-pub fn measure<'a>(
+pub fn measure(
     plan: &[u8],
     steps: usize,
     count: usize,
@@ -182,7 +188,7 @@ pub fn measure<'a>(
             return stopped(12, i as u64, price);
         }
         let sum = price;
-        price += price_of(&before, n, action);
+        price = sum + price_of(&before, n, action);
         passing = first_passing(passing, sum, price, i as u64);
         i += 1;
     }
@@ -190,5 +196,133 @@ pub fn measure<'a>(
         progress: Progress::Through,
         price,
         passing,
+    }
+}
+
+// What pricing answers: a price, or a refusal.
+pub enum Priced {
+    Price(u64),
+    Refused(u8, u64),
+}
+
+// Prices a step in a state of an accepted file with so many actions.
+fn price_accepted(file: &[u8], count: usize, state: State, k: usize) -> Priced
+    requires { ⌜ AcceptedWith (verdictOf sourceLimits (now file)) count × (k < count) ⌝ }
+    ensures { λ r. ⌜ StepPriced (now (file .entry)) (wholeIs state) k r ⌝ }
+{
+    let mut lower = [0i64; VARIABLES];
+    let mut upper = [0i64; VARIABLES];
+    let mut start = [0i64; VARIABLES];
+    let mut sizes = [0u16; MODES];
+    let mut first = [0u16; MODES];
+    let declared = declarations::read_source(
+        file,
+        &mut lower,
+        &mut upper,
+        &mut start,
+        &mut sizes,
+        &mut first,
+    );
+    let n = declared.variables;
+    let m = declared.modes;
+    let action = source::decode_action(file, k);
+    let before = state.values;
+    let mut values = state.values;
+    let mut modes = state.modes;
+    if !source::try_action(
+        &mut values,
+        &mut modes,
+        n,
+        &lower,
+        &upper,
+        m,
+        &sizes,
+        action,
+    ) {
+        return Priced::Refused(12, 0);
+    }
+    Priced::Price(price_of(&before, n, action))
+}
+
+// The price of a step of action k in a state, by itself.
+pub fn price_step(file: &[u8], state: State, k: usize) -> Priced
+    ensures { λ r. ⌜ pricedIs r ≡ priceStep (now (file .entry)) (wholeIs state) k ⌝ }
+{
+    match tasks::check_source(file) {
+        tasks::Verdict::Rejected(number, place) => Priced::Refused(number, place),
+        tasks::Verdict::Accepted(_, _, actions) => {
+            let count = actions as usize;
+            if count <= k {
+                return Priced::Refused(11, 0);
+            }
+            price_accepted(file, count, state, k)
+        }
+    }
+}
+
+fn last_price(progress: Progress, met: bool, steps: usize, price: u64) -> Priced
+    ensures { λ r. ⌜ r ≡ lastPrice progress met steps price ⌝ }
+{
+    match progress {
+        Progress::Stopped(number, place) => Priced::Refused(number, place),
+        Progress::Through => {
+            if met {
+                return Priced::Price(price);
+            }
+            Priced::Refused(13, steps as u64)
+        }
+    }
+}
+
+// Prices a plan of so many steps against an accepted file with so many actions.
+fn price_steps(file: &[u8], count: usize, plan: &[u8], steps: usize) -> Priced
+    requires { ⌜ AcceptedWith (verdictOf sourceLimits (now file)) count × (steps ≡ length (planNumbers (now plan))) × (steps ≤ 1000000) ⌝ }
+    ensures { λ r. ⌜ StepsPriced (now (file .entry)) (planNumbers (now (plan .entry))) r ⌝ }
+{
+    let mut lower = [0i64; VARIABLES];
+    let mut upper = [0i64; VARIABLES];
+    let mut values = [0i64; VARIABLES];
+    let mut sizes = [0u16; MODES];
+    let mut modes = [0u16; MODES];
+    let declared = declarations::read_source(
+        file,
+        &mut lower,
+        &mut upper,
+        &mut values,
+        &mut sizes,
+        &mut modes,
+    );
+    let n = declared.variables;
+    let m = declared.modes;
+    let table = source::decode_actions(file, count);
+    let measured = measure(
+        plan,
+        steps,
+        count,
+        table,
+        n,
+        &lower,
+        &upper,
+        m,
+        &sizes,
+        &mut values,
+        &mut modes,
+    );
+    let goal = actions::decode_goal(actions::goal_bytes(file, count));
+    let met = source::goal_holds(&values, n, &modes, m, goal);
+    let progress = measured.progress;
+    last_price(progress, met, steps, measured.price)
+}
+
+// The price of a plan, from the file's start on.
+pub fn price_plan(file: &[u8], plan: &[u8]) -> Priced
+    ensures { λ r. ⌜ pricedIs r ≡ pricePlan (now (file .entry)) (now (plan .entry)) ⌝ }
+{
+    match tasks::check_source(file) {
+        tasks::Verdict::Rejected(number, place) => Priced::Refused(number, place),
+        tasks::Verdict::Accepted(_, _, actions) => match planbytes::count_steps(plan) {
+            planbytes::Counted::Refused(number, place) => Priced::Refused(number, place),
+            planbytes::Counted::Steps(steps) => price_steps(file, actions as usize, plan, steps),
+        },
     }
 }

@@ -1,0 +1,4 @@
+pub mod Making
+pub mod Sizes
+pub mod Walks
+pub mod Writing
