@@ -4,9 +4,10 @@
 ghost use Rattle.model.specs.Limits.{sourceLimits, restrictedLimits};
 ghost use Rattle.model.specs.Reading.{verdictOf};
 ghost use Rattle.model.specs.ActionBytes.{actionPlace};
-ghost use Rattle.model.specs.Judging.{judgeRestricted, stepRestrictedAlone, stepSourceAlone};
+ghost use Rattle.model.specs.Judging.{judgeRestricted, stepRestrictedAlone, stepSourceAlone, priceStep, pricePlan};
 ghost use Rattle.tasks.specs.Views.{verdictIs};
 ghost use Rattle.actions.specs.Places.{placedIs};
+ghost use Rattle.prices.specs.Answers.{pricedIs};
 ghost use Rattle.restricted.specs.Judging.{zeros};
 ghost use Rattle.ruphenqo.specs.Told.{Told, countsOf, itself, stateOf, endOver};
 
@@ -165,4 +166,86 @@ pub extern "C" fn ruphenqo_step_restricted(
             0
         }
     }
+}
+
+// Takes a step by itself in the state that the arrays hold, in a source task.
+#[no_mangle]
+pub extern "C" fn ruphenqo_step_source(
+    task: &[u8],
+    values: &mut [i64; 8],
+    modes: &mut [u16; 4],
+    k: u64,
+    place: &mut u64,
+) -> u32
+    ensures { λ r. ⌜ Told (stepSourceAlone (now (task .entry)) (stateOf (now (values .entry)) (now (modes .entry))) k) itself (stateOf (now (values .entry)) (now (modes .entry))) r (now (place .exit)) (stateOf (now (values .exit)) (now (modes .exit))) ⌝ }
+{
+    let before = source::State {
+        values: *values,
+        modes: *modes,
+    };
+    let answer = source::step_alone(task, before, k as usize);
+    let verdict = answer.verdict;
+    let state = answer.state;
+    match verdict {
+        source::StepVerdict::Refused(number, at) => {
+            *place = at;
+            number as u32
+        }
+        source::StepVerdict::Applied => {
+            *place = 0;
+            let after_values = state.values;
+            let after_modes = state.modes;
+            *values = after_values;
+            *modes = after_modes;
+            0
+        }
+    }
+}
+
+fn tell_price(priced: prices::Priced, price: &mut u64, place: &mut u64) -> u32
+    ensures { λ r. ⌜ Told (pricedIs priced) itself (now (price .entry)) r (now (place .exit)) (now (price .exit)) ⌝ }
+{
+    match priced {
+        prices::Priced::Refused(number, at) => {
+            *place = at;
+            number as u32
+        }
+        prices::Priced::Price(sum) => {
+            *place = 0;
+            *price = sum;
+            0
+        }
+    }
+}
+
+// The price of a step by itself.
+#[no_mangle]
+pub extern "C" fn ruphenqo_price_step(
+    task: &[u8],
+    values: &[i64; 8],
+    modes: &[u16; 4],
+    k: u64,
+    price: &mut u64,
+    place: &mut u64,
+) -> u32
+    ensures { λ r. ⌜ Told (priceStep (now (task .entry)) (stateOf (now (values .entry)) (now (modes .entry))) k) itself (now (price .entry)) r (now (place .exit)) (now (price .exit)) ⌝ }
+{
+    let before = source::State {
+        values: *values,
+        modes: *modes,
+    };
+    tell_price(prices::price_step(task, before, k as usize), price, place)
+}
+
+// The price of a plan.
+#[no_mangle]
+pub extern "C" fn ruphenqo_price_plan(
+    task: &[u8],
+    plan: &[u8],
+    price: &mut u64,
+    place: &mut u64,
+) -> u32
+    ensures { λ r. ⌜ Told (pricePlan (now (task .entry)) (now (plan .entry))) itself (now (price .entry)) r (now (place .exit)) (now (price .exit)) ⌝ }
+{
+    tell_price(prices::price_plan(task, plan), price, place)
 }
