@@ -3,10 +3,9 @@
 use mathlib.Core.Path.{_≡_, refl, sym, ap, ap₂, _∙_, subst}
 use Prim.Native.Nat.{ℕ, _≤_, _<_}
 use native.Mathlib.Omega.{arith}
-use mathlib.Core.Bool.{Bool, true, false, cond}
+use mathlib.Core.Bool.{Bool, cond}
 use mathlib.Core.Option.{Option, none, some}
 use mathlib.Core.List.{List}
-use lib.Dec.{ltb}
 use lib.ListN.{length, take}
 use lib.IntN.{ℤ}
 use borrow.Author.Tests.{lt-ltb, le-ltb}
@@ -14,10 +13,10 @@ use Rattle.integers.specs.Numbers.{Bytes}
 use Rattle.lists.specs.Answer.{Answer, given, refused, then}
 use Rattle.model.specs.Tasks.{SourceTask, State}
 use Rattle.model.specs.Limits.{sourceLimits}
-use Rattle.model.specs.Reading.{Verdict as FileVerdict, Accepted, Rejected, verdictOf}
+use Rattle.model.specs.Reading.{Verdict as FileVerdict, Rejected, verdictOf}
 use Rattle.model.specs.Decoding.{sourceActionOf, onVerdict, readSource}
 use Rattle.model.specs.ActionBytes.{actionPart, decodeAction}
-use Rattle.model.specs.Steps.{stepSource, sizesOf}
+use Rattle.model.specs.Steps.{stepSource}
 use Rattle.model.specs.Judging.{ifApplies, declaredPart, withRest, stepAlone, stepSourceAlone}
 use Rattle.model.proofs.AcceptedOk.{accepted-source-ok}
 use Rattle.actions.specs.declared.SourceAction.{SourceAction as DecodedSource}
@@ -26,8 +25,7 @@ use Rattle.actions.proofs.Accepted.{source-action-decoded}
 use Rattle.declarations.specs.declared.Declared.{Declared}
 use Rattle.declarations.specs.Holding.{HoldsSource}
 use Rattle.source.specs.declared.StepAnswer.{StepAnswer}
-use Rattle.source.specs.declared.StepVerdict.{StepVerdict}
-use Rattle.source.specs.Step.{state, actionIs, wholeIs, stepOf, handedBack, Tried}
+use Rattle.source.specs.Step.{state, actionIs, stepOf, handedBack, Tried}
 use Rattle.source.specs.Judged.{AcceptedWith}
 use Rattle.source.specs.Alone.{stepVerdict, verdictOver, stepAnswerIs, returned, StepTaken}
 use Rattle.source.proofs.Steps.{step-of-task}

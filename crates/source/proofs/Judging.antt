@@ -1,14 +1,14 @@
 -- What the judge's parts make of an accepted file.
 -- Assumes nothing.
 use mathlib.Core.Path.{_≡_, refl, sym, ap, ap₂, _∙_, subst}
-use Prim.Native.Nat.{ℕ, zero, suc, _%_, _≤_, _<_}
+use Prim.Native.Nat.{ℕ, suc, _%_, _≤_, _<_}
 use native.Mathlib.Omega.{arith}
 use mathlib.Core.Bool.{Bool, true, false, cond}
-use mathlib.Core.Option.{Option, none, some}
-use mathlib.Core.List.{List, [], _∷_}
-use lib.ListN.{length, getD, take, replicate, length-replicate}
+use mathlib.Core.Option.{Option, some}
+use mathlib.Core.List.{List, [], _∷_, _++_}
+use lib.ListN.{length, getD, take, drop, replicate, length-replicate, take-append-drop}
 use lib.Dec.{eqb, ltb}
-use lib.Seq.{take-all}
+use lib.Seq.{take-all, length-take-le}
 use lib.IntN.{ℤ, pos}
 use Rattle.integers.specs.Numbers.{Bytes}
 use Rattle.lists.specs.Answer.{Answer, given, refused, then}
@@ -18,8 +18,8 @@ use Rattle.model.specs.TaskOk.{SourceActionOk, SourceTaskOk}
 use Rattle.model.specs.Reading.{Verdict as FileVerdict, Accepted, Rejected, verdictOf, commandsOf}
 use Rattle.model.specs.Decoding.{draftOf, sourceActionOf, sourceTaskOf, onVerdict, readSource}
 use Rattle.model.specs.ActionBytes.{actionPart, decodeAction}
-use Rattle.model.specs.Steps.{stepSource, sizesOf, sourceStart, goalHolds, sourceGoalHolds}
-use Rattle.model.specs.Judging.{judge, declaredPart, judgeSourceTask, judgeSource}
+use Rattle.model.specs.Steps.{stepSource, sizesOf, goalHolds, sourceGoalHolds}
+use Rattle.model.specs.Judging.{judge, declaredPart, withRest, judgeSourceTask, judgeSource}
 use Rattle.model.specs.Plans.{readPlan, planNumbers}
 use Rattle.planbytes.specs.Counted.{countOf}
 use Rattle.model.proofs.ReadingLaws.{length-each}
@@ -34,13 +34,15 @@ use Rattle.actions.specs.Views.{GoalDecoded, conditionRoom, modeConditionRoom, 
 use Rattle.actions.proofs.Fits.{source-fits}
 use Rattle.actions.proofs.Accepted.{source-action-decoded, source-goal-conditions, source-goal-modes}
 use Rattle.declarations.specs.declared.Declared.{Declared}
+use Rattle.declarations.specs.Stored.{SourceStored}
 use Rattle.declarations.specs.Holding.{SourceRoom, HoldsSource}
+use Rattle.declarations.proofs.Accepted.{source-variables, source-modes}
 use Rattle.source.specs.declared.Progress.{Progress}
 use Rattle.source.specs.declared.Progress.the-variants.{Through, Stopped}
 use Rattle.source.specs.declared.Judgement.{Judgement}
-use Rattle.source.specs.Step.{state, actionIs, wholeIs, Shaped}
-use Rattle.source.specs.Judged.{Decoded, Ready, Ran, onProgress, goalConditionsIn, goalModesIn, AcceptedWith, refusal, lastVerdict, withState, judged, StepsJudged}
-use Rattle.source.specs.declared.Verdict.{Verdict}
+use Rattle.source.specs.Step.{state, actionIs, Shaped, Kept}
+use Rattle.source.specs.Judged.{Decoded, Ready, Ran, onProgress, goalConditionsIn, goalModesIn, AcceptedWith, lastVerdict, zeros, judgementIs, judgementOf, withState, StepsJudged}
+use Rattle.source.proofs.Trying.{kept-then}
 
 -- the bytes of a slice
 pub bytes-of : (s : List ℕ) → ((i : ℕ) → getD s i 0 < 256) → Bytes s
@@ -107,26 +109,42 @@ module _ (file : List ℕ) (bytes : Bytes file) (t : SourceTask) (is : readSourc
         (ap (take modeConditionRoom) (source-goal-modes file bytes t is g decoded′) ∙ take-all modeConditionRoom (t .goalModes) (omega (arith, ok .goal .modeConditionsFew)))
         (ap (take conditionRoom) (source-goal-conditions file bytes t is g decoded′) ∙ take-all conditionRoom (t .goalConditions) (omega (arith, ok .goal .conditionsFew)))
 
--- ---- the verdict
-last-is : (pr : Progress) (met : Bool) (steps : ℕ) (x : State) → withState (lastVerdict pr met steps) x ≡ onProgress pr (cond met (given (steps, x)) (refused 13 steps))
-last-is Through true steps x = refl
-last-is Through false steps x = refl
-last-is (Stopped number place) met steps x = refl
-
-module _ (t : SourceTask) (p : List ℕ) (count : ℕ) (table : List DecodedSource) (r : Declared) (lower upper : List ℤ) (sizes : List ℕ) (values : List ℤ) (modes : List ℕ) (pr : Progress) (values′ : List ℤ) (modes′ : List ℕ) where
-  pub judged-so : HoldsSource t r lower upper values sizes modes → Ready t count table (r .variables) lower upper (r .modes) sizes → Ran p count table (r .variables) lower upper (r .modes) sizes values modes pr values′ modes′
-      → (met : Bool) → met ≡ sourceGoalHolds t (declaredPart (r .variables) (r .modes) (state values′ modes′)) → (steps : ℕ) → steps ≡ length p
-      → withState (lastVerdict pr met steps) (declaredPart (length (t .variables)) (length (t .modes)) (state values′ modes′)) ≡ judgeSourceTask t p
-  unfolding judge
-  judged-so h R N met m steps s =
-      ap₂ (λ (a b : ℕ). withState (lastVerdict pr met steps) (declaredPart a b (state values′ modes′))) (sym (h .variableCount)) (sym (h .modeCount))
-      ∙ last-is pr met steps (declaredPart (r .variables) (r .modes) (state values′ modes′))
-      ∙ ap₂ (λ (b : Bool) (n : ℕ). onProgress pr (cond b (given (n, declaredPart (r .variables) (r .modes) (state values′ modes′))) (refused 13 n))) m s
-      ∙ sym (N .judges t R (sourceGoalHolds t))
-      ∙ ap (judge (length (t .actions)) (stepSource t) (sourceGoalHolds t) 0 p) (h .startIs)
+-- ---- what is declared, read into arrays of zeros
+pub equal-room : (a b c : ℤ) (d e : ℕ) → SourceRoom (replicate 8 a) (replicate 8 b) (replicate 8 c) (replicate 4 d) (replicate 4 e)
+equal-room a b c d e = record { lowerLong = length-replicate 8 a; upperLong = length-replicate 8 b; startLong = length-replicate 8 c; sizesLong = length-replicate 4 d; valuesLong = length-replicate 4 e }
 
 pub zero-room : SourceRoom (replicate 8 (pos 0)) (replicate 8 (pos 0)) (replicate 8 (pos 0)) (replicate 4 0) (replicate 4 0)
-zero-room = record { lowerLong = length-replicate 8 (pos 0); upperLong = length-replicate 8 (pos 0); startLong = length-replicate 8 (pos 0); sizesLong = length-replicate {A = ℕ} 4 0; valuesLong = length-replicate {A = ℕ} 4 0 }
+zero-room = equal-room (pos 0) (pos 0) (pos 0) 0 0
+
+pub zeros-kept : {file : List ℕ} {r : Declared} {lower upper start : List ℤ} {sizes modes : List ℕ} → SourceStored file (replicate 8 (pos 0)) (replicate 8 (pos 0)) (replicate 8 (pos 0)) (replicate 4 0) (replicate 4 0) r lower upper start sizes modes
+    → Kept (r .variables) (r .modes) (replicate 8 (pos 0)) (replicate 4 0) start modes
+zeros-kept s = record { valuesKept = source-variables zero-room s .allStarts .rest; modesKept = source-modes zero-room s .allValues .rest }
+
+-- the declared part in front of zeros
+in-front : {n m : ℕ} {values : List ℤ} {modes sizes : List ℕ} → Shaped n m values modes sizes → Kept n m (replicate 8 (pos 0)) (replicate 4 0) values modes
+    → state values modes ≡ withRest (length (take n values)) (length (take m modes)) zeros (declaredPart n m (state values modes))
+in-front {n} {m} {values} {modes} h k = ap₂ state
+    (sym (take-append-drop n values) ∙ ap (λ (l : List ℤ). take n values ++ l) (k .valuesKept ∙ ap (λ (i : ℕ). drop i (replicate 8 (pos 0))) (sym (length-take-le n values (omega (arith, h .valuesLong, h .variablesFew))))))
+    (sym (take-append-drop m modes) ∙ ap (λ (l : List ℕ). take m modes ++ l) (k .modesKept ∙ ap (λ (i : ℕ). drop i (replicate 4 0)) (sym (length-take-le m modes (omega (arith, h .modesLong, h .modesFew))))))
+
+-- ---- the verdict
+last-is : (pr : Progress) (met : Bool) (steps : ℕ) (x y : State) → x ≡ withRest (length (y .values)) (length (y .modes)) zeros y
+    → withState (lastVerdict pr met steps) x ≡ judgementOf (onProgress pr (cond met (given (steps, y)) (refused 13 steps)))
+last-is Through true steps x y e = ap (λ (z : State). (given steps, z)) e
+last-is Through false steps x y e = refl
+last-is (Stopped number place) met steps x y e = refl
+
+module _ (t : SourceTask) (p : List ℕ) (count : ℕ) (table : List DecodedSource) (r : Declared) (lower upper : List ℤ) (sizes : List ℕ) (values : List ℤ) (modes : List ℕ) (pr : Progress) (values′ : List ℤ) (modes′ : List ℕ) where
+  pub judged-so : HoldsSource t r lower upper values sizes modes → Kept (r .variables) (r .modes) (replicate 8 (pos 0)) (replicate 4 0) values modes → Ready t count table (r .variables) lower upper (r .modes) sizes
+      → Ran p count table (r .variables) lower upper (r .modes) sizes values modes pr values′ modes′
+      → (met : Bool) → met ≡ sourceGoalHolds t (declaredPart (r .variables) (r .modes) (state values′ modes′)) → (steps : ℕ) → steps ≡ length p
+      → withState (lastVerdict pr met steps) (state values′ modes′) ≡ judgementOf (judgeSourceTask t p)
+  unfolding judge
+  judged-so h k R N met m steps s =
+      let x = declaredPart (r .variables) (r .modes) (state values′ modes′) in
+      last-is pr met steps (state values′ modes′) x (in-front (N .shaped) (kept-then k (N .kept)))
+      ∙ ap₂ (λ (b : Bool) (n : ℕ). judgementOf (onProgress pr (cond b (given (n, x)) (refused 13 n)))) m s
+      ∙ ap judgementOf (sym (N .judges t R (sourceGoalHolds t)) ∙ ap (judge (length (t .actions)) (stepSource t) (sourceGoalHolds t) 0 p) (h .startIs))
 
 -- ---- the plan
 pub steps-of : (plan : List ℕ) (n : ℕ) → given n ≡ countOf plan → (readPlan plan ≡ given (planNumbers plan)) × (n ≡ length (planNumbers plan))
@@ -147,18 +165,19 @@ no-steps plan number place = go (readPlan plan)
     go (refused a b) e = let x : number ≡ a = cc in let y : place ≡ b = cc in cc
 
 -- ---- the three ways of judging
-module _ (file plan : List ℕ) (j : Judgement) where
-  pub when-rejected : (number place : ℕ) → Rejected number place ≡ verdictOf sourceLimits file → j .verdict ≡ refusal number place → judged (readSource file) j ≡ judgeSource file plan
-  when-rejected number place e h = subst (λ (v : FileVerdict). judged (onVerdict v (task-of file 0)) j ≡ then (onVerdict v (task-of file 0)) (λ t. then (readPlan plan) (judgeSourceTask t))) e (ap (λ (v : Verdict). withState v (declaredPart 0 0 (wholeIs (j .state)))) h)
+abbrev judgeSourceOf : Answer SourceTask → Answer (List ℕ) → Answer (ℕ × State)
+judgeSourceOf o q = then o (λ t. then q (judgeSourceTask t))
 
-  pub when-no-plan : (count number place : ℕ) → AcceptedWith (verdictOf sourceLimits file) count → readPlan plan ≡ refused number place → j .verdict ≡ refusal number place → judged (readSource file) j ≡ judgeSource file plan
-  when-no-plan count number place a e h =
-      let t = task-of file count in
-      subst (λ (o : Answer SourceTask). judged o j ≡ then o (λ t. then (readPlan plan) (judgeSourceTask t))) (sym (accepted-task file count a))
-      (ap (λ (v : Verdict). withState v (declaredPart (length (t .variables)) (length (t .modes)) (wholeIs (j .state)))) h ∙ ap (λ (o : Answer (List ℕ)). then o (judgeSourceTask t)) (sym e))
+module _ (file plan : List ℕ) where
+  pub when-rejected : (number place : ℕ) → Rejected number place ≡ verdictOf sourceLimits file → refused number place ≡ judgeSource file plan
+  when-rejected number place e = subst (λ (v : FileVerdict). refused number place ≡ judgeSourceOf (onVerdict v (task-of file 0)) (readPlan plan)) e refl
 
-  pub when-judged : (count : ℕ) (p : List ℕ) → AcceptedWith (verdictOf sourceLimits file) count → readPlan plan ≡ given p → StepsJudged file p j → judged (readSource file) j ≡ judgeSource file plan
-  when-judged count p a e h =
-      let t = task-of file count in
-      subst (λ (o : Answer SourceTask). judged o j ≡ then o (λ t. then (readPlan plan) (judgeSourceTask t))) (sym (accepted-task file count a))
-      (h .meets t (accepted-task file count a) ∙ ap (λ (o : Answer (List ℕ)). then o (judgeSourceTask t)) (sym e))
+  module _ (count : ℕ) (h : AcceptedWith (verdictOf sourceLimits file) count) where
+    read-as : (q : Answer (List ℕ)) → readPlan plan ≡ q → judgeSourceOf (given (task-of file count)) q ≡ judgeSource file plan
+    read-as q e = ap₂ judgeSourceOf (sym (accepted-task file count h)) (sym e)
+
+    pub when-no-plan : (number place : ℕ) → readPlan plan ≡ refused number place → refused number place ≡ judgeSource file plan
+    when-no-plan number place e = read-as (refused number place) e
+
+    pub when-judged : (p : List ℕ) (j : Judgement) → readPlan plan ≡ given p → StepsJudged file p j → judgementIs j ≡ judgementOf (judgeSource file plan)
+    when-judged p j e s = s .meets (task-of file count) (accepted-task file count h) ∙ ap judgementOf (read-as (given p) e)

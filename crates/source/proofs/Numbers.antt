@@ -1,6 +1,6 @@
 -- What the numbers that an effect reads make stays within 64 bits.
 -- Assumes nothing.
-use mathlib.Core.Path.{_≡_, refl, sym, ap, _∙_}
+use mathlib.Core.Path.{_≡_, refl, sym}
 use Prim.Native.Nat.{ℕ, suc, _+_, _*_, _≤_, _<_}
 use native.Mathlib.Omega.{arith}
 use native.Mathlib.Nat.{mul-le-mul, div-le-self}
@@ -14,7 +14,7 @@ use mir.Syntax.{w64}
 use mir.Val.{SFits}
 use Rattle.integers.specs.Parts.{Within}
 use Rattle.integers.specs.Relation.{withinLimit}
-use Rattle.integers.proofs.Parts.{ints, add, abs}
+use Rattle.integers.proofs.Parts.{ints, abs}
 use Rattle.integers.proofs.Products.{mul-abs}
 use Rattle.lists.proofs.Loops.{and-left, and-right}
 use Rattle.model.proofs.StepBounds.{abs-sum}
@@ -98,3 +98,21 @@ quotient-small y c = rw (mul-abs (floor y (unitLess c)) (sign c), sign-one c) (o
 
 pub residue-small : (y c : ℤ) → 0 < natAbs c → natAbs (residueOf y c) < natAbs c
 residue-small y c h = let e = euclid y c h in omega (ints, e .high, e .low, abs (residueOf y c))
+
+module _ (t y c : ℤ) (e : ((small t && small y) && divides c) ≡ true) where
+  pub priced-target : natAbs t ≤ 10_000
+  priced-target = first t y (and-left (small t && small y) (divides c) e)
+
+  pub priced-operand : natAbs y ≤ 10_000
+  priced-operand = second t y (and-left (small t && small y) (divides c) e)
+
+  pub priced-by : Within 2000000000000000 c × (0 < natAbs c)
+  priced-by = divisor c (and-right (small t && small y) (divides c) e)
+
+  pub priced-quotient : natAbs (quotientOf y c) ≤ 10_000
+  priced-quotient = omega (arith, quotient-small y c, priced-operand)
+
+  pub priced-residue : natAbs (residueOf y c) ≤ 10_000
+  priced-residue =
+      let h = small-is c (and-left (small c) (not (withinLimit 0 c)) (and-right (small t && small y) (divides c) e)) in
+      omega (arith, residue-small y c (priced-by .1), h)

@@ -1,18 +1,18 @@
 -- The judge's loop over the steps of a plan: what is left of it comes to what the whole comes to.
 -- Assumes nothing.
 use mathlib.Core.Path.{_≡_, refl, sym, ap, _∙_}
-use Prim.Native.Nat.{ℕ, zero, suc, _+_, _*_, _≤_, _<_}
+use Prim.Native.Nat.{ℕ, suc, _+_, _*_, _≤_, _<_}
 use native.Mathlib.Omega.{arith}
 use native.Mathlib.Numerals.{add-one}
 use mathlib.Core.Bool.{Bool, true, false, cond}
-use mathlib.Core.Option.{Option, none, some}
+use mathlib.Core.Option.{Option}
 use mathlib.Core.List.{List, [], _∷_}
 use lib.Dec.{ltb}
-use lib.ListN.{length, getD, take, drop, set, length-set, drop-of-length-le}
+use lib.ListN.{length, getD, drop, set, drop-of-length-le}
 use lib.Seq.{drop-cons, getD-set-same, getD-set-other}
 use lib.IntN.{ℤ}
 use borrow.Author.Tests.{lt-ltb, le-ltb, ltb-true, ltb-false}
-use Rattle.lists.specs.Answer.{Answer, given, refused}
+use Rattle.lists.specs.Answer.{refused}
 use Rattle.lists.specs.Numbers.{halves}
 use Rattle.model.specs.Tasks.{SourceTask, State}
 use Rattle.model.specs.Systems.{provided}
@@ -22,11 +22,11 @@ use Rattle.model.specs.ActionBytes.{actionPart, decodeAction}
 use Rattle.model.specs.Judging.{judge, ifApplies, declaredPart}
 use Rattle.actions.specs.declared.SourceAction.{SourceAction as DecodedSource}
 use Rattle.actions.specs.Views.{sourceActionIs, fittingSource}
-use Rattle.source.specs.declared.Progress.{Progress}
 use Rattle.source.specs.declared.Progress.the-variants.{Through, Stopped}
-use Rattle.source.specs.Step.{state, actionIs, stepOf, Shaped, Tried}
+use Rattle.source.specs.Step.{state, actionIs, Shaped, Tried, Kept}
 use Rattle.source.specs.Judged.{Decoded, Ready, Ran}
 use Rattle.source.proofs.Steps.{step-of-task}
+use Rattle.source.proofs.Trying.{kept-same, kept-then, tried-keeps}
 
 -- a plan's bytes are at least twice its steps
 pub halves-long : (s : List ℕ) → 2 * length (halves s) ≤ length s
@@ -49,12 +49,13 @@ one-more file k table a h D e j d l = go (ltb j k) refl
 module _ (p : List ℕ) (count : ℕ) (table : List DecodedSource) (n : ℕ) (lower upper : List ℤ) (m : ℕ) (sizes : List ℕ) (values₀ : List ℤ) (modes₀ : List ℕ) where
   pub record Going (values : List ℤ) (modes : List ℕ) (i : ℕ) : Type 0 where
     pub shaped : Shaped n m values modes sizes
+    pub kept : Kept n m values₀ modes₀ values modes
     pub bound : i ≤ length p
     pub same : (t : SourceTask) → Ready t count table n lower upper m sizes → (goal : State → Bool)
         → judge (length (t .actions)) (stepSource t) goal 0 p (declaredPart n m (state values₀ modes₀)) ≡ judge (length (t .actions)) (stepSource t) goal i (drop i p) (declaredPart n m (state values modes))
 
   pub begins : Shaped n m values₀ modes₀ sizes → Going values₀ modes₀ 0
-  begins h = record { shaped = h; bound = omega arith; same = λ t r goal. refl }
+  begins h = record { shaped = h; kept = kept-same; bound = omega arith; same = λ t r goal. refl }
 
   module _ (values : List ℤ) (modes : List ℕ) (i : ℕ) (g : Going values modes i) where
     pub over : length p ≤ i → Ran p count table n lower upper m sizes values₀ modes₀ Through values modes
@@ -64,6 +65,8 @@ module _ (p : List ℕ) (count : ℕ) (table : List DecodedSource) (n : ℕ) (lo
         record {
           judges = λ t r goal. g .same t r goal ∙ ap (λ (ks : List ℕ). judge (length (t .actions)) (stepSource t) goal i ks (declaredPart n m (state values modes))) (drop-of-length-le p h)
               ∙ ap (λ (j : ℕ). judge (length (t .actions)) (stepSource t) goal j [] (declaredPart n m (state values modes))) e;
+          shaped = g .shaped;
+          kept = g .kept;
         }
 
     module _ (k : ℕ) (e : k ≡ getD p i 0) (h : i < length p) where
@@ -74,7 +77,7 @@ module _ (p : List ℕ) (count : ℕ) (table : List DecodedSource) (n : ℕ) (lo
       turn t r goal = g .same t r goal ∙ ap (λ (ks : List ℕ). judge (length (t .actions)) (stepSource t) goal i ks (declaredPart n m (state values modes))) (drop-cons p i 0 h ∙ ap (λ (j : ℕ). j ∷ drop (suc i) p) (sym e))
 
       pub no-action : count ≤ k → Ran p count table n lower upper m sizes values₀ modes₀ (Stopped 11 i) values modes
-      no-action l = record { judges = λ t r goal. turn t r goal ∙ ap (λ (b : Bool). cond b (ifApplies (stepSource t (declaredPart n m (state values modes)) k) i (judge (length (t .actions)) (stepSource t) goal (suc i) (drop (suc i) p))) (refused 11 i)) (le-ltb k (length (t .actions)) (omega (arith, r .counted))) }
+      no-action l = record { judges = λ t r goal. turn t r goal ∙ ap (λ (b : Bool). cond b (ifApplies (stepSource t (declaredPart n m (state values modes)) k) i (judge (length (t .actions)) (stepSource t) goal (suc i) (drop (suc i) p))) (refused 11 i)) (le-ltb k (length (t .actions)) (omega (arith, r .counted))); shaped = g .shaped; kept = g .kept }
 
       module _ (d : DecodedSource) (l : k < count) {b : Bool} {values′ : List ℤ} {modes′ : List ℕ} (T : Tried n m lower upper sizes values modes (actionIs (getD table k d)) b values′ modes′) where
         pub stepped : (t : SourceTask) → Ready t count table n lower upper m sizes → stepSource t (declaredPart n m (state values modes)) k ≡ provided b (declaredPart n m (state values′ modes′))
@@ -90,12 +93,19 @@ module _ (p : List ℕ) (count : ℕ) (table : List DecodedSource) (n : ℕ) (lo
             ∙ ap (λ (c : Bool). cond c (ifApplies (stepSource t (declaredPart n m (state values modes)) k) i (judge (length (t .actions)) (stepSource t) goal (suc i) (drop (suc i) p))) (refused 11 i)) (lt-ltb k (length (t .actions)) (omega (arith, r .counted)))
             ∙ ap (λ (o : Option State). ifApplies o i (judge (length (t .actions)) (stepSource t) goal (suc i) (drop (suc i) p))) (stepped t r)
 
+        shaped-after : Shaped n m values′ modes′ sizes
+        shaped-after = record { variablesFew = g .shaped .variablesFew; modesFew = g .shaped .modesFew; valuesLong = T .valuesLong; modesLong = T .modesLong; sizesLong = g .shaped .sizesLong }
+
+        kept-after : Kept n m values₀ modes₀ values′ modes′
+        kept-after = kept-then (g .kept) (tried-keeps (g .shaped) T)
+
         pub not-applied : b ≡ false → Ran p count table n lower upper m sizes values₀ modes₀ (Stopped 12 i) values′ modes′
-        not-applied f = record { judges = λ t r goal. taken t r goal ∙ ap (λ (c : Bool). ifApplies (provided c (declaredPart n m (state values′ modes′))) i (judge (length (t .actions)) (stepSource t) goal (suc i) (drop (suc i) p))) f }
+        not-applied f = record { judges = λ t r goal. taken t r goal ∙ ap (λ (c : Bool). ifApplies (provided c (declaredPart n m (state values′ modes′))) i (judge (length (t .actions)) (stepSource t) goal (suc i) (drop (suc i) p))) f; shaped = shaped-after; kept = kept-after }
 
         pub goes : b ≡ true → Going values′ modes′ (i + 1)
         goes f = record {
-          shaped = record { variablesFew = g .shaped .variablesFew; modesFew = g .shaped .modesFew; valuesLong = T .valuesLong; modesLong = T .modesLong; sizesLong = g .shaped .sizesLong };
+          shaped = shaped-after;
+          kept = kept-after;
           bound = omega arith;
           same = λ t r goal. taken t r goal ∙ ap (λ (c : Bool). ifApplies (provided c (declaredPart n m (state values′ modes′))) i (judge (length (t .actions)) (stepSource t) goal (suc i) (drop (suc i) p))) f
               ∙ ap (λ (j : ℕ). judge (length (t .actions)) (stepSource t) goal j (drop j p) (declaredPart n m (state values′ modes′))) (sym (add-one i));

@@ -1,15 +1,14 @@
 -- A step by its tests, in the order in which the code makes them; and that it is the model's step of an accepted task.
 -- Assumes nothing.
-use mathlib.Core.Path.{_≡_, refl, sym, ap, ap₂, _∙_}
-use Prim.Native.Nat.{ℕ, zero, suc, _≤_, _<_}
+use mathlib.Core.Path.{_≡_, refl, sym, ap, _∙_}
+use Prim.Native.Nat.{ℕ, zero, suc, _≤_}
 use native.Mathlib.Omega.{arith}
 use mathlib.Core.Bool.{Bool, true, false, cond, not, false≢true, _&&_}
 use mathlib.Core.Option.{Option, none, some}
-use mathlib.Core.List.{List, [], _∷_, _++_}
-use lib.Dec.{ltb, leb}
+use mathlib.Core.List.{List, [], _∷_}
 use lib.ListN.{length, getD, take, getElem?}
 use Rattle.integers.specs.All.{All}
-use lib.IntN.{ℤ, pos, natAbs}
+use lib.IntN.{ℤ, natAbs}
 use lib.Signed.{leZ}
 use borrow.Author.Tests.{le-leb, lt-leb}
 use Rattle.integers.specs.Relation.{withinLimit}
@@ -23,7 +22,6 @@ use Rattle.lists.specs.Loops.{every}
 use Rattle.model.specs.Tasks.{Effect, noEffect, addEffect, linearEffect, quotientEffect, residueEffect, SourceAction, SourceVariable, SourceTask, State}
 use Rattle.model.specs.Systems.{bind, provided}
 use Rattle.model.specs.Steps.{integerAt, naturalAt, modesHold, conditionsHold, withinBounds, result, putResult, setAll, trySource, valuesWithinBounds, modesBelowSizes, soundSource, lowerBounds, upperBounds, sizesOf, stepSource}
-use Rattle.actions.specs.declared.Term.{Term}
 use Rattle.actions.specs.declared.Effect.{Effect as DecodedEffect}
 use Rattle.actions.specs.declared.Effect.the-variants.{None, Add, Linear, Quotient, Residue}
 use Rattle.actions.specs.Views.{effectIs, fittingEffect, termRoom}

@@ -4,20 +4,21 @@ use mathlib.Core.Path.{_≡_}
 use Prim.Native.Nat.{ℕ, min, _≤_}
 use mathlib.Core.Bool.{Bool, true, false, cond}
 use mathlib.Core.Option.{Option, none, some}
-use mathlib.Core.List.{List}
+use mathlib.Core.List.{List, [], _∷_}
 use lib.Dec.{ltb}
-use lib.ListN.{length, take, set}
+use lib.ListN.{length, take, drop, set}
 use lib.IntN.{ℤ}
+use Rattle.lists.specs.Loops.{every}
 use Rattle.model.specs.Tasks.{SourceAction, State}
 use Rattle.model.specs.Systems.{bind, provided}
-use Rattle.model.specs.Steps.{integerAt, trySource, soundSource}
+use Rattle.model.specs.Steps.{integerAt, naturalAt, modesHold, conditionsHold, trySource, soundSource}
 use Rattle.model.specs.Judging.{declaredPart, withRest}
 use Rattle.actions.specs.declared.SourceAction.{SourceAction as DecodedSource}
 use Rattle.actions.specs.Views.{sourceActionIs, fittingSource}
 use Rattle.source.specs.declared.State.{State as StateByValue}
 use Rattle.source.specs.declared.Shape.{Shape}
 use Rattle.source.specs.declared.Stepped.{Stepped}
-use Rattle.source.specs.Parts.{effectFits}
+use Rattle.source.specs.Parts.{conditionsIn, modeConditionsIn, effectIn, effectFits, valuesBetween, modesBelow}
 
 -- the whole arrays
 abbrev pub state : List ℤ → List ℕ → State
@@ -71,9 +72,27 @@ pub record Shaped (n m : ℕ) (values : List ℤ) (modes sizes : List ℕ) : Typ
   pub modesLong : length modes ≡ 4
   pub sizesLong : length sizes ≡ 4
 
+-- what is asked of the state before an action: that it is a state of the task, that the action's conditions hold, and that its effect fits
+abbrev pub asksBefore : ℕ → ℕ → List ℤ → List ℤ → List ℕ → List ℤ → List ℕ → DecodedSource → List Bool
+asksBefore n m lower upper sizes values modes a =
+    valuesBetween n lower upper values
+    ∷ modesBelow m sizes modes
+    ∷ modesHold (modeConditionsIn (a .«mode_condition_count») (a .«mode_condition_modes») (a .«mode_condition_values»)) (naturalAt (take m modes))
+    ∷ conditionsHold (conditionsIn (a .«condition_count») (a .«condition_variables») (a .«condition_relations») (a .«condition_constants»)) (integerAt (take n values))
+    ∷ effectFits (effectIn (a .effect) (a .«term_count») (a .terms)) (integerAt (take n values))
+    ∷ []
+
+abbrev pub appliesBefore : ℕ → ℕ → List ℤ → List ℤ → List ℕ → List ℤ → List ℕ → DecodedSource → Bool
+appliesBefore n m lower upper sizes values modes a = every (λ b. b) (asksBefore n m lower upper sizes values modes a)
+
 -- an action was tried: the answer r, and the arrays after
 pub record Tried (n m : ℕ) (lower upper : List ℤ) (sizes : List ℕ) (values : List ℤ) (modes : List ℕ) (a : SourceAction) (r : Bool) (values′ : List ℤ) (modes′ : List ℕ) : Type 0 where
   pub meets : (r, state values′ modes′) ≡ steppedIn n m lower upper sizes (state values modes) a
   pub declares : stepOf (take n lower) (take n upper) (take m sizes) (declaredPart n m (state values modes)) a ≡ provided r (declaredPart n m (state values′ modes′))
   pub valuesLong : length values′ ≡ 8
   pub modesLong : length modes′ ≡ 4
+
+-- past the first n values and m modes the arrays are as before
+pub record Kept (n m : ℕ) (values : List ℤ) (modes : List ℕ) (values′ : List ℤ) (modes′ : List ℕ) : Type 0 where
+  pub valuesKept : drop n values′ ≡ drop n values
+  pub modesKept : drop m modes′ ≡ drop m modes

@@ -17,17 +17,17 @@ ghost use lib.ListN.{length, take, drop};
 ghost use lib.IntN.{natAbs, _+ℤ_, _*ℤ_};
 ghost use Rattle.integers.specs.Parts.{Within};
 ghost use Rattle.integers.specs.Relation.{between};
+ghost use Rattle.lists.specs.Answer.{refused};
 ghost use Rattle.lists.specs.Loops.{every};
 ghost use Rattle.model.specs.Steps.{integerAt, naturalAt, conditionsHold, modesHold, setAll, linear, result, withinBounds, goalHolds};
 ghost use Rattle.source.specs.Parts.{conditionsIn, modeConditionsIn, modeEffectsIn, termsIn, effectIn, small, divides, termFits, effectFits, outcomeIs, valuesBetween, modesBelow};
-ghost use Rattle.source.specs.Step.{setAt, settled, Shaped, Tried, actionIs, wholeIs, steppedIs, stepped};
-ghost use Rattle.source.specs.Judged.{Decoded, Ran, goalModesIn, goalConditionsIn, AcceptedWith, refusal, lastVerdict, StepsJudged, judged};
-ghost use Rattle.source.specs.Step.{state};
+ghost use Rattle.source.specs.Step.{state, setAt, settled, Shaped, appliesBefore, Tried, actionIs, wholeIs, steppedIs, stepped};
+ghost use Rattle.source.specs.Judged.{Decoded, Ran, goalModesIn, goalConditionsIn, AcceptedWith, lastVerdict, judgementIs, judgementOf, withState, StepsJudged};
 ghost use Rattle.source.specs.Alone.{stepVerdict, stepAnswerIs, returned, StepTaken};
 ghost use Rattle.model.specs.Limits.{sourceLimits};
 ghost use Rattle.model.specs.Reading.{verdictOf};
 ghost use Rattle.model.specs.Judging.{declaredPart, judgeSource, stepSourceAlone};
-ghost use Rattle.model.specs.Decoding.{sourceActionOf, readSource};
+ghost use Rattle.model.specs.Decoding.{sourceActionOf};
 ghost use Rattle.model.specs.ActionBytes.{actionPart, decodeAction};
 ghost use Rattle.model.specs.Plans.{planNumbers};
 ghost use Rattle.actions.specs.Views.{sourceActionIs, fittingSource};
@@ -394,10 +394,10 @@ fn settle(
     }
 }
 
-// Takes an action in a lent state where it applies, and else leaves the state as it was. Whether it applies.
-pub fn try_action(
-    values: &mut [i64; VARIABLES],
-    modes: &mut [u16; MODES],
+// Whether the state is one of the task, the conditions of an action hold in it, and what its effect reads fits.
+fn applies_before(
+    values: &[i64; VARIABLES],
+    modes: &[u16; MODES],
     n: usize,
     lower: &[i64; VARIABLES],
     upper: &[i64; VARIABLES],
@@ -405,8 +405,8 @@ pub fn try_action(
     sizes: &[u16; MODES],
     a: SourceAction,
 ) -> bool
-    requires { ⌜ Shaped n m (now values) (now modes) (now sizes) ⌝ }
-    ensures { λ r. ⌜ Tried n m (now (lower .entry)) (now (upper .entry)) (now (sizes .entry)) (now (values .entry)) (now (modes .entry)) (actionIs a) r (now (values .exit)) (now (modes .exit)) ⌝ }
+    requires { ⌜ (n ≤ 8) × (m ≤ 4) ⌝ }
+    ensures { λ r. ⌜ r ≡ appliesBefore n m (now (lower .entry)) (now (upper .entry)) (now (sizes .entry)) (now (values .entry)) (now (modes .entry)) a ⌝ }
 {
     if !values_between(values, n, lower, upper) {
         return false;
@@ -435,9 +435,23 @@ pub fn try_action(
     }
     let effect = a.effect;
     let terms = a.terms;
-    if !effect_fits(values, n, effect, a.term_count, terms) {
-        return false;
-    }
+    effect_fits(values, n, effect, a.term_count, terms)
+}
+
+// Takes an action in a lent state where it applies, and else leaves the state as it was. Whether it applies.
+pub fn try_action(
+    values: &mut [i64; VARIABLES],
+    modes: &mut [u16; MODES],
+    n: usize,
+    lower: &[i64; VARIABLES],
+    upper: &[i64; VARIABLES],
+    m: usize,
+    sizes: &[u16; MODES],
+    a: SourceAction,
+) -> bool
+    requires { ⌜ Shaped n m (now values) (now modes) (now sizes) ⌝ }
+    ensures { λ r. ⌜ Tried n m (now (lower .entry)) (now (upper .entry)) (now (sizes .entry)) (now (values .entry)) (now (modes .entry)) (actionIs a) r (now (values .exit)) (now (modes .exit)) ⌝ }
+{
     let mut after = *modes;
     set_all(
         &mut after,
@@ -446,16 +460,16 @@ pub fn try_action(
         &a.mode_effect_modes,
         &a.mode_effect_values,
     );
+    if !applies_before(values, modes, n, lower, upper, m, sizes, a) {
+        return false;
+    }
     if !modes_below(&after, m, sizes) {
         return false;
     }
-    if !settle(
-        values,
-        n,
-        lower,
-        upper,
-        outcome_of(values, n, effect, a.term_count, terms),
-    ) {
+    let effect = a.effect;
+    let terms = a.terms;
+    let outcome = outcome_of(values, n, effect, a.term_count, terms);
+    if !settle(values, n, lower, upper, outcome) {
         return false;
     }
     *modes = after;
@@ -622,20 +636,33 @@ pub enum Verdict {
     Refused(u8, u64),
 }
 
-// With it the end state; on a refusal, the state in which it came.
+// With it the end state, in front of zeros; on a refusal, zeros.
 pub struct Judgement {
     pub verdict: Verdict,
     pub state: State,
 }
 
-fn refused_judgement(number: u8, place: u64) -> Judgement
-    ensures { λ r. ⌜ r .verdict ≡ refusal number place ⌝ }
+// The judgement of a plan that is refused.
+fn refuse(number: u8, place: u64) -> Judgement
+    ensures { λ r. ⌜ judgementIs r ≡ judgementOf (refused number place) ⌝ }
 {
+    let values = [0i64; VARIABLES];
+    let modes = [0u16; MODES];
     Judgement {
         verdict: Verdict::Refused(number, place),
-        state: State {
-            values: [0; VARIABLES],
-            modes: [0; MODES],
+        state: State { values, modes },
+    }
+}
+
+// The judgement of a plan with a verdict, over the arrays at its end.
+fn conclude(verdict: Verdict, values: [i64; VARIABLES], modes: [u16; MODES]) -> Judgement
+    ensures { λ r. ⌜ judgementIs r ≡ withState verdict (state values modes) ⌝ }
+{
+    match verdict {
+        Verdict::Refused(number, place) => refuse(number, place),
+        Verdict::Valid(steps) => Judgement {
+            verdict: Verdict::Valid(steps),
+            state: State { values, modes },
         },
     }
 }
@@ -690,20 +717,17 @@ fn judge_steps(file: &[u8], count: usize, plan: &[u8], steps: usize) -> Judgemen
     );
     let goal = actions::decode_goal(actions::goal_bytes(file, count));
     let met = goal_holds(&values, n, &modes, m, goal);
-    Judgement {
-        verdict: last_verdict(progress, met, steps),
-        state: State { values, modes },
-    }
+    conclude(last_verdict(progress, met, steps), values, modes)
 }
 
-// Judges a plan against a file.
+// Judges a plan against a file: the file's refusals first, 10, per step 11 and 12, then 13; else the count of steps and the end state.
 pub fn judge(file: &[u8], plan: &[u8]) -> Judgement
-    ensures { λ r. ⌜ judged (readSource (now (file .entry))) r ≡ judgeSource (now (file .entry)) (now (plan .entry)) ⌝ }
+    ensures { λ r. ⌜ judgementIs r ≡ judgementOf (judgeSource (now (file .entry)) (now (plan .entry))) ⌝ }
 {
     match tasks::check_source(file) {
-        tasks::Verdict::Rejected(number, place) => refused_judgement(number, place),
+        tasks::Verdict::Rejected(number, place) => refuse(number, place),
         tasks::Verdict::Accepted(_, _, actions) => match planbytes::count_steps(plan) {
-            planbytes::Counted::Refused(number, place) => refused_judgement(number, place),
+            planbytes::Counted::Refused(number, place) => refuse(number, place),
             planbytes::Counted::Steps(steps) => judge_steps(file, actions as usize, plan, steps),
         },
     }

@@ -8,33 +8,32 @@ use mir.Val.{SFits}
 use lib.IntN.{natAbs}
 use Rattle.integers.specs.Division.{quotientOf, residueOf}
 use Rattle.source.proofs.Numbers as numbers
-use Rattle.prices.proofs.Divided as divided
 use borrow.Author.Needs.{needs}
 use Rattle.prices.proofs.division_price.Statement.{statement}
 use Rattle.prices.proofs.division_price.Tie as tie
 
 quotient-requires : tie.Need-quotient-requires
 quotient-requires c κs = let s = c in
-    let d = divided.priced-by (s .args .target) (s .args .operand) (s .args .c) (s .pre) in
-    rw (toZ-ofZ (s .fits .operand), toZ-ofZ (s .fits .c)) (numbers.operand (s .args .operand) (divided.priced-operand (s .args .target) (s .args .operand) (s .args .c) (s .pre)), d .0, d .1)
+    let d = numbers.priced-by (s .args .target) (s .args .operand) (s .args .c) (s .pre) in
+    rw (toZ-ofZ (s .fits .operand), toZ-ofZ (s .fits .c)) (numbers.operand (s .args .operand) (numbers.priced-operand (s .args .target) (s .args .operand) (s .args .c) (s .pre)), d .0, d .1)
 
 size-requires : tie.Need-size-requires
 size-requires c κs = let s = c .before in
     let q : SFits w64 (c .quotient .result) = search needs in
-    rw (toZ-ofZ q, simp (toZ-ofZ, s .fits .operand, s .fits .c) at (c .quotient .ensures)) (omega (arith, divided.priced-quotient (s .args .target) (s .args .operand) (s .args .c) (s .pre)))
+    rw (toZ-ofZ q, simp (toZ-ofZ, s .fits .operand, s .fits .c) at (c .quotient .ensures)) (omega (arith, numbers.priced-quotient (s .args .target) (s .args .operand) (s .args .c) (s .pre)))
 
 residue-requires : tie.Need-residue-requires
 residue-requires c κs = let s = c .before .before in
-    let d = divided.priced-by (s .args .target) (s .args .operand) (s .args .c) (s .pre) in
-    rw (toZ-ofZ (s .fits .operand), toZ-ofZ (s .fits .c)) (numbers.operand (s .args .operand) (divided.priced-operand (s .args .target) (s .args .operand) (s .args .c) (s .pre)), d .0, d .1)
+    let d = numbers.priced-by (s .args .target) (s .args .operand) (s .args .c) (s .pre) in
+    rw (toZ-ofZ (s .fits .operand), toZ-ofZ (s .fits .c)) (numbers.operand (s .args .operand) (numbers.priced-operand (s .args .target) (s .args .operand) (s .args .c) (s .pre)), d .0, d .1)
 
 size-requires-2 : tie.Need-size-requires-2
 size-requires-2 c κs = let s = c .before .before .before in
     let q : SFits w64 (c .residue .result) = search needs in
-    rw (toZ-ofZ q, simp (toZ-ofZ, s .fits .operand, s .fits .c) at (c .residue .ensures)) (omega (arith, divided.priced-residue (s .args .target) (s .args .operand) (s .args .c) (s .pre)))
+    rw (toZ-ofZ q, simp (toZ-ofZ, s .fits .operand, s .fits .c) at (c .residue .ensures)) (omega (arith, numbers.priced-residue (s .args .target) (s .args .operand) (s .args .c) (s .pre)))
 
 size-requires-3 : tie.Need-size-requires-3
-size-requires-3 c κs = let s = c .before .before .before .before in rw (toZ-ofZ (s .fits .operand)) (omega (arith, divided.priced-operand (s .args .target) (s .args .operand) (s .args .c) (s .pre)))
+size-requires-3 c κs = let s = c .before .before .before .before in rw (toZ-ofZ (s .fits .operand)) (omega (arith, numbers.priced-operand (s .args .target) (s .args .operand) (s .args .c) (s .pre)))
 
 -- what was measured
 known3 : (c : tie.After-size3) → let s = c .before .before .before .before .before in
@@ -52,28 +51,28 @@ known4 : (c : tie.After-size4) → let s = c .before .before .before .before .be
 known4 c = let s = c .before .before .before .before .before .before in simp (toZ-ofZ, s .fits .target) at (c .size4 .ensures)
 
 mul-result : tie.Need-mul-result
-mul-result c = let s = c .before .before .before .before .before in omega (arith, known3 c, divided.priced-target (s .args .target) (s .args .operand) (s .args .c) (s .pre), divided.priced-operand (s .args .target) (s .args .operand) (s .args .c) (s .pre), divided.priced-quotient (s .args .target) (s .args .operand) (s .args .c) (s .pre), divided.priced-residue (s .args .target) (s .args .operand) (s .args .c) (s .pre))
+mul-result c = let s = c .before .before .before .before .before in omega (arith, known3 c, numbers.priced-target (s .args .target) (s .args .operand) (s .args .c) (s .pre), numbers.priced-operand (s .args .target) (s .args .operand) (s .args .c) (s .pre), numbers.priced-quotient (s .args .target) (s .args .operand) (s .args .c) (s .pre), numbers.priced-residue (s .args .target) (s .args .operand) (s .args .c) (s .pre))
 
 add-result : tie.Need-add-result
-add-result c = let s = c .before .before .before .before .before in omega (arith, known3 c, divided.priced-target (s .args .target) (s .args .operand) (s .args .c) (s .pre), divided.priced-operand (s .args .target) (s .args .operand) (s .args .c) (s .pre), divided.priced-quotient (s .args .target) (s .args .operand) (s .args .c) (s .pre), divided.priced-residue (s .args .target) (s .args .operand) (s .args .c) (s .pre))
+add-result c = let s = c .before .before .before .before .before in omega (arith, known3 c, numbers.priced-target (s .args .target) (s .args .operand) (s .args .c) (s .pre), numbers.priced-operand (s .args .target) (s .args .operand) (s .args .c) (s .pre), numbers.priced-quotient (s .args .target) (s .args .operand) (s .args .c) (s .pre), numbers.priced-residue (s .args .target) (s .args .operand) (s .args .c) (s .pre))
 
 mul-result-2 : tie.Need-mul-result-2
-mul-result-2 c = let s = c .before .before .before .before .before in omega (arith, known3 c, divided.priced-target (s .args .target) (s .args .operand) (s .args .c) (s .pre), divided.priced-operand (s .args .target) (s .args .operand) (s .args .c) (s .pre), divided.priced-quotient (s .args .target) (s .args .operand) (s .args .c) (s .pre), divided.priced-residue (s .args .target) (s .args .operand) (s .args .c) (s .pre))
+mul-result-2 c = let s = c .before .before .before .before .before in omega (arith, known3 c, numbers.priced-target (s .args .target) (s .args .operand) (s .args .c) (s .pre), numbers.priced-operand (s .args .target) (s .args .operand) (s .args .c) (s .pre), numbers.priced-quotient (s .args .target) (s .args .operand) (s .args .c) (s .pre), numbers.priced-residue (s .args .target) (s .args .operand) (s .args .c) (s .pre))
 
 add-result-2 : tie.Need-add-result-2
-add-result-2 c = let s = c .before .before .before .before .before in omega (arith, known3 c, divided.priced-target (s .args .target) (s .args .operand) (s .args .c) (s .pre), divided.priced-operand (s .args .target) (s .args .operand) (s .args .c) (s .pre), divided.priced-quotient (s .args .target) (s .args .operand) (s .args .c) (s .pre), divided.priced-residue (s .args .target) (s .args .operand) (s .args .c) (s .pre))
+add-result-2 c = let s = c .before .before .before .before .before in omega (arith, known3 c, numbers.priced-target (s .args .target) (s .args .operand) (s .args .c) (s .pre), numbers.priced-operand (s .args .target) (s .args .operand) (s .args .c) (s .pre), numbers.priced-quotient (s .args .target) (s .args .operand) (s .args .c) (s .pre), numbers.priced-residue (s .args .target) (s .args .operand) (s .args .c) (s .pre))
 
 size-requires-4 : tie.Need-size-requires-4
-size-requires-4 c κs = let s = c .before .before .before .before .before in rw (toZ-ofZ (s .fits .target)) (omega (arith, divided.priced-target (s .args .target) (s .args .operand) (s .args .c) (s .pre)))
+size-requires-4 c κs = let s = c .before .before .before .before .before in rw (toZ-ofZ (s .fits .target)) (omega (arith, numbers.priced-target (s .args .target) (s .args .operand) (s .args .c) (s .pre)))
 
 add-result-3 : tie.Need-add-result-3
-add-result-3 c = let s = c .before .before .before .before .before .before in omega (arith, known3 (c .before), known4 c, divided.priced-target (s .args .target) (s .args .operand) (s .args .c) (s .pre), divided.priced-operand (s .args .target) (s .args .operand) (s .args .c) (s .pre), divided.priced-quotient (s .args .target) (s .args .operand) (s .args .c) (s .pre), divided.priced-residue (s .args .target) (s .args .operand) (s .args .c) (s .pre))
+add-result-3 c = let s = c .before .before .before .before .before .before in omega (arith, known3 (c .before), known4 c, numbers.priced-target (s .args .target) (s .args .operand) (s .args .c) (s .pre), numbers.priced-operand (s .args .target) (s .args .operand) (s .args .c) (s .pre), numbers.priced-quotient (s .args .target) (s .args .operand) (s .args .c) (s .pre), numbers.priced-residue (s .args .target) (s .args .operand) (s .args .c) (s .pre))
 
 add-result-4 : tie.Need-add-result-4
-add-result-4 c = let s = c .before .before .before .before .before .before in omega (arith, known3 (c .before), known4 c, divided.priced-target (s .args .target) (s .args .operand) (s .args .c) (s .pre), divided.priced-operand (s .args .target) (s .args .operand) (s .args .c) (s .pre), divided.priced-quotient (s .args .target) (s .args .operand) (s .args .c) (s .pre), divided.priced-residue (s .args .target) (s .args .operand) (s .args .c) (s .pre))
+add-result-4 c = let s = c .before .before .before .before .before .before in omega (arith, known3 (c .before), known4 c, numbers.priced-target (s .args .target) (s .args .operand) (s .args .c) (s .pre), numbers.priced-operand (s .args .target) (s .args .operand) (s .args .c) (s .pre), numbers.priced-quotient (s .args .target) (s .args .operand) (s .args .c) (s .pre), numbers.priced-residue (s .args .target) (s .args .operand) (s .args .c) (s .pre))
 
 returns : tie.Need-returns
-returns c = let s = c .before .before .before .before .before .before in let a = known3 (c .before) in let b = known4 c in (omega (arith, a .0, a .1, a .2, b), omega (arith, a .0, a .1, a .2, b, divided.priced-target (s .args .target) (s .args .operand) (s .args .c) (s .pre), divided.priced-operand (s .args .target) (s .args .operand) (s .args .c) (s .pre), divided.priced-quotient (s .args .target) (s .args .operand) (s .args .c) (s .pre), divided.priced-residue (s .args .target) (s .args .operand) (s .args .c) (s .pre)))
+returns c = let s = c .before .before .before .before .before .before in let a = known3 (c .before) in let b = known4 c in (omega (arith, a .0, a .1, a .2, b), omega (arith, a .0, a .1, a .2, b, numbers.priced-target (s .args .target) (s .args .operand) (s .args .c) (s .pre), numbers.priced-operand (s .args .target) (s .args .operand) (s .args .c) (s .pre), numbers.priced-quotient (s .args .target) (s .args .operand) (s .args .c) (s .pre), numbers.priced-residue (s .args .target) (s .args .operand) (s .args .c) (s .pre)))
 
 pub division-price-spec : {M : Type 1} → statement M
 division-price-spec =

@@ -34,10 +34,7 @@ decode-goal-requires : tie.Need-decode-goal-requires
 decode-goal-requires c κs = search needs
 
 goal-holds-requires : tie.Need-goal-holds-requires
-goal-holds-requires c κs = let s = c .before .before .before .before .before .before .before .before .before .before .before .before .before .before .before .before .before .before .before in
-    let e = accepted-task (now (s .args .file)) (s .args .count) (s .pre .0) in
-    let h = source-held zero-room (c .before .before .before .before .before .before .before .before .before .before .before .read-source .ensures) (task-of (now (s .args .file)) (s .args .count)) e in
-    (h .variablesFew, h .modesFew)
+goal-holds-requires c κs = let h = c .before .before .before .before .measure .ensures .ran .shaped in (h .variablesFew, h .modesFew)
 
 last-price-requires : tie.Need-last-price-requires
 last-price-requires c κs = search needs

@@ -1,33 +1,22 @@
+-- `source::conditions_hold` meets its contract. Assumes nothing.
 use native.Mathlib.Omega.{arith}
-use mathlib.Core.Path.{_≡_, refl, sym, ap, _∙_}
-use Prim.Native.Nat.{ℕ, _+_, _-_, _≤_, _<_}
+use mathlib.Core.Path.{_≡_, refl, sym, _∙_}
+use Prim.Native.Nat.{_-_}
 use denote.Ref.{now}
 use mir.Facts.{toZ-ofZ}
 use mir.Syntax.{w64}
-use mir.Val.{SFits, toZ}
-use borrow.Author.Tests.{not-true, not-false, eq-eqb, ne-eqb}
-use mathlib.Core.Bool.{Bool, true, false, cond, _&&_}
-use mathlib.Core.List.{List, _++_}
-use lib.IntN.{ℤ, pos}
-use lib.ListN.{length, getD, take, drop, take-append-drop}
-use Rattle.lists.specs.Each.{tabulate}
-use Rattle.lists.specs.Loops.{every}
-use Rattle.model.specs.Steps.{integerAt, naturalAt, conditionsHold, modesHold, setAll, linear}
-use Rattle.model.specs.Tasks.{NumericCondition}
-use Rattle.actions.specs.Views.{conditionRoom, modeConditionRoom, modeEffectRoom, termRoom, conditionAt, pairAt, termIs}
+use mir.Val.{SFits}
+use borrow.Author.Tests.{not-true, not-false}
+use lib.IntN.{pos}
+use lib.ListN.{getD, take}
+use Rattle.model.specs.Steps.{integerAt, conditionsHold}
+use Rattle.actions.specs.Views.{conditionRoom, conditionAt}
 use Rattle.integers.specs.Relation.{related, relationOf}
-use Rattle.source.specs.Parts.{conditionsIn, modeConditionsIn, modeEffectsIn, termsIn, termFits, small}
-use lib.Dec.{eqb}
-use Rattle.source.proofs.Rows.{Left, left-start, left-next, left-none, left-pass, left-stop, row-tabulate, row-room, row-terms}
-use Rattle.source.proofs.Sound.{setting}
+use Rattle.source.specs.Parts.{conditionsIn}
+use Rattle.source.proofs.Rows.{Left, left-start, left-none, left-pass, left-stop, row-room}
 use borrow.Author.Needs.{needs}
 use Rattle.source.proofs.conditions_hold.Statement.{statement}
 use Rattle.source.proofs.conditions_hold.Tie as tie
-use Rattle.source.proofs.conditions_hold.Reads as reads
-use Rattle.source.proofs.conditions_hold.Lts as lts
-use Rattle.integers.proofs.relation_holds.Reads as relation-holds-reads
-use Rattle.source.proofs.lesser.Reads as lesser-reads
-use Rattle.source.proofs.value_at.Reads as value-at-reads
 
 abbrev Inv-loop : tie.InvT-loop
 Inv-loop values n count variables relations constants k i₀ i = Left (conditionsIn count variables relations constants) k (conditionAt variables relations constants) i (λ cs. conditionsHold cs (integerAt (take n values))) (conditionsHold (conditionsIn count variables relations constants) (integerAt (take n values)))

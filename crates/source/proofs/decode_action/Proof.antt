@@ -1,17 +1,9 @@
-use mathlib.Core.Path.{_≡_, refl, sym, ap, _∙_}
-use Prim.Native.Nat.{ℕ, _+_, _-_, _*_, _≤_, _<_}
-use denote.Ref.{now}
-use borrow.Author.Tests.{not-true, not-false}
-use lib.ListN.{length, getD, length-set, length-replicate}
+-- `source::decode_action` meets its contract. Assumes nothing.
+use Prim.Native.Nat.{_-_}
 use native.Mathlib.Numerals.{add-one}
 use borrow.Author.Needs.{needs}
 use Rattle.source.proofs.decode_action.Statement.{statement}
 use Rattle.source.proofs.decode_action.Tie as tie
-use Rattle.source.proofs.decode_action.Reads as reads
-use Rattle.source.proofs.decode_action.Lts as lts
-use Rattle.actions.proofs.decode_source.Reads as decode-source-reads
-use Rattle.actions.proofs.find_edge.Reads as find-edge-reads
-use Rattle.actions.proofs.part.Reads as part-reads
 
 find-edge-requires : tie.Need-find-edge-requires
 find-edge-requires c κs = search needs

@@ -1,20 +1,14 @@
+-- `source::decode_actions` meets its contract. Assumes nothing.
 use native.Mathlib.Omega.{arith}
-use mathlib.Core.Path.{_≡_, refl, sym, ap, _∙_}
-use Prim.Native.Nat.{ℕ, _+_, _-_, _*_, _≤_, _<_}
+use mathlib.Core.Path.{_≡_, _∙_}
+use Prim.Native.Nat.{_-_, _≤_}
 use denote.Ref.{now}
-use borrow.Author.Tests.{not-true, not-false}
-use lib.ListN.{length, getD, length-set, length-replicate}
-use native.Mathlib.Numerals.{add-one}
-use Rattle.model.specs.Plans.{planNumbers}
-use Rattle.source.specs.Step.{Shaped}
+use lib.ListN.{length, length-set, length-replicate}
 use Rattle.source.specs.Judged.{Decoded}
-use Rattle.source.proofs.Running.{Going, begins, over, no-action, not-applied, goes, one-more, halves-long}
+use Rattle.source.proofs.Running.{one-more}
 use borrow.Author.Needs.{needs}
 use Rattle.source.proofs.decode_actions.Statement.{statement}
 use Rattle.source.proofs.decode_actions.Tie as tie
-use Rattle.source.proofs.decode_actions.Reads as reads
-use Rattle.source.proofs.decode_actions.Lts as lts
-use Rattle.source.proofs.decode_action.Reads as decode-action-reads
 
 abbrev Inv-loop : tie.InvT-loop
 Inv-loop file count table₀ k₀ table k = (k ≤ count) × (length (table .actions) ≡ 32) × Decoded file k (table .actions)

@@ -1,23 +1,13 @@
-use mathlib.Core.Path.{_≡_, refl, sym, ap, _∙_}
-use Prim.Native.Nat.{ℕ, _+_, _-_, _≤_, _<_}
-use denote.Ref.{now}
+-- `source::division_fits` meets its contract. Assumes nothing.
+use mathlib.Core.Path.{_≡_, sym, ap, _∙_}
+use Prim.Native.Nat.{_-_}
 use mir.Facts.{toZ-ofZ}
-use mir.Syntax.{w64}
-use mir.Val.{SFits, toZ}
-use borrow.Author.Tests.{not-true, not-false, lt-ltb, le-ltb}
-use mathlib.Core.Bool.{Bool, true, false, cond, not, _&&_}
-use lib.IntN.{ℤ, pos}
-use lib.ListN.{length, getD, take, drop}
-use Rattle.model.specs.Steps.{integerAt, naturalAt}
-use Rattle.integers.specs.Relation.{withinLimit}
-use Rattle.source.specs.Parts.{small, divides}
+use borrow.Author.Tests.{not-true, not-false}
+use mathlib.Core.Bool.{not, _&&_}
+use Rattle.source.specs.Parts.{small}
 use borrow.Author.Needs.{needs}
 use Rattle.source.proofs.division_fits.Statement.{statement}
 use Rattle.source.proofs.division_fits.Tie as tie
-use Rattle.source.proofs.division_fits.Reads as reads
-use Rattle.source.proofs.division_fits.Lts as lts
-use Rattle.integers.proofs.is_within.Reads as is-within-reads
-use Rattle.source.proofs.operands_fit.Reads as operands-fit-reads
 
 operands-fit-requires : tie.Need-operands-fit-requires
 operands-fit-requires c κs = search needs

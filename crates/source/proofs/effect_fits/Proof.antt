@@ -1,37 +1,17 @@
-use mathlib.Core.Path.{_≡_, refl, sym, ap, _∙_}
-use Prim.Native.Nat.{ℕ, _+_, _-_, _≤_, _<_}
+-- `source::effect_fits` meets its contract. Assumes nothing.
+use mathlib.Core.Path.{_≡_, sym, _∙_}
+use Prim.Native.Nat.{_-_}
 use denote.Ref.{now}
 use mir.Facts.{toZ-ofZ}
 use mir.Syntax.{w64}
-use mir.Val.{SFits, toZ}
-use borrow.Author.Tests.{not-true, not-false, eq-eqb, ne-eqb}
-use mathlib.Core.Bool.{Bool, true, false, cond, _&&_}
-use mathlib.Core.List.{List, _++_}
-use lib.IntN.{ℤ, pos}
-use lib.ListN.{length, getD, take, drop, take-append-drop}
-use Rattle.lists.specs.Each.{tabulate}
-use Rattle.lists.specs.Loops.{every}
-use Rattle.model.specs.Steps.{integerAt, naturalAt, conditionsHold, modesHold, setAll, linear}
-use Rattle.model.specs.Tasks.{NumericCondition}
-use Rattle.actions.specs.Views.{conditionRoom, modeConditionRoom, modeEffectRoom, termRoom, conditionAt, pairAt, termIs}
-use Rattle.integers.specs.Relation.{related, relationOf}
-use Rattle.source.specs.Parts.{conditionsIn, modeConditionsIn, modeEffectsIn, termsIn, termFits, small}
-use lib.Dec.{eqb}
-use Rattle.source.proofs.Rows.{Left, left-start, left-next, left-none, left-pass, left-stop, row-tabulate, row-room, row-terms}
-use Rattle.source.proofs.Sound.{setting}
-use mathlib.Core.Option.{some}
-use Rattle.lists.proofs.Loops.{and-left, and-right}
-use Rattle.source.proofs.Numbers as numbers
-use Rattle.source.specs.Parts.{divides}
+use mir.Val.{SFits}
+use mathlib.Core.Bool.{_&&_}
+use lib.ListN.{take}
+use Rattle.model.specs.Steps.{integerAt}
+use Rattle.source.specs.Parts.{small}
 use borrow.Author.Needs.{needs}
 use Rattle.source.proofs.effect_fits.Statement.{statement}
 use Rattle.source.proofs.effect_fits.Tie as tie
-use Rattle.source.proofs.effect_fits.Reads as reads
-use Rattle.source.proofs.effect_fits.Lts as lts
-use Rattle.source.proofs.division_fits.Reads as division-fits-reads
-use Rattle.source.proofs.operands_fit.Reads as operands-fit-reads
-use Rattle.source.proofs.terms_fit.Reads as terms-fit-reads
-use Rattle.source.proofs.value_at.Reads as value-at-reads
 
 enum-told : tie.Need-enum-told
 enum-told c = search needs

@@ -1,13 +1,9 @@
-use mathlib.Core.Path.{_≡_, refl, sym, ap, _∙_}
-use denote.Ref.{now}
+-- `source::goal_holds` meets its contract. Assumes nothing.
+use mathlib.Core.Path.{sym, _∙_}
 use borrow.Author.Tests.{not-true, not-false}
 use borrow.Author.Needs.{needs}
 use Rattle.source.proofs.goal_holds.Statement.{statement}
 use Rattle.source.proofs.goal_holds.Tie as tie
-use Rattle.source.proofs.goal_holds.Reads as reads
-use Rattle.source.proofs.goal_holds.Lts as lts
-use Rattle.source.proofs.conditions_hold.Reads as conditions-hold-reads
-use Rattle.source.proofs.modes_hold.Reads as modes-hold-reads
 
 modes-hold-requires : tie.Need-modes-hold-requires
 modes-hold-requires c κs = search needs

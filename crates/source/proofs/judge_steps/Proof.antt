@@ -1,25 +1,15 @@
-use Rattle.model.specs.Judging.{declaredPart}
-use Rattle.source.specs.Step.{state}
-use mathlib.Core.Path.{_≡_, refl, sym, ap, _∙_, subst}
+-- `source::judge_steps` meets its contract: how far the plan goes, and whether the goal is met, make the judgement. Assumes nothing.
+use mathlib.Core.Path.{_∙_}
 use denote.Ref.{now}
 use native.Mathlib.Omega.{arith}
 use Rattle.model.specs.Plans.{planNumbers}
-use Rattle.model.specs.Reading.{Verdict}
+use Rattle.model.specs.Judging.{declaredPart}
 use Rattle.declarations.proofs.Accepted.{source-held}
-use Rattle.source.specs.Judged.{AcceptedWith}
-use Rattle.source.proofs.Judging.{bytes-of, task-of, accepted-task, counted-task, few-actions, ready, goal-is, judged-so, zero-room, steps-of, no-steps, when-rejected, when-no-plan, when-judged}
+use Rattle.source.specs.Step.{state}
+use Rattle.source.proofs.Judging.{bytes-of, task-of, accepted-task, counted-task, few-actions, ready, goal-is, equal-room, zeros-kept, judged-so}
 use borrow.Author.Needs.{needs}
 use Rattle.source.proofs.judge_steps.Statement.{statement}
 use Rattle.source.proofs.judge_steps.Tie as tie
-use Rattle.source.proofs.judge_steps.Reads as reads
-use Rattle.source.proofs.judge_steps.Lts as lts
-use Rattle.actions.proofs.decode_goal.Reads as decode-goal-reads
-use Rattle.actions.proofs.goal_bytes.Reads as goal-bytes-reads
-use Rattle.declarations.proofs.read_source.Reads as read-source-reads
-use Rattle.source.proofs.decode_actions.Reads as decode-actions-reads
-use Rattle.source.proofs.goal_holds.Reads as goal-holds-reads
-use Rattle.source.proofs.last_verdict.Reads as last-verdict-reads
-use Rattle.source.proofs.run.Reads as run-reads
 
 read-source-requires : tie.Need-read-source-requires
 read-source-requires c κs = search needs
@@ -33,7 +23,7 @@ run-requires : tie.Need-run-requires
 run-requires c κs = let s = c .before .before .before .before .before .before .before .before .before .before .before .before .before .before in
     let bytes = bytes-of (now (s .args .file)) (λ i. omega (arith, c .before .before .before .before .before .before .before .before .before .before .before .before .before .shared-slice-known .given i)) in
     let e = accepted-task (now (s .args .file)) (s .args .count) (s .pre .0) in
-    let h = source-held zero-room (c .before .before .before .before .before .before .read-source .ensures) (task-of (now (s .args .file)) (s .args .count)) e in
+    let h = source-held (equal-room _ _ _ _ _) (c .before .before .before .before .before .before .read-source .ensures) (task-of (now (s .args .file)) (s .args .count)) e in
     (record { variablesFew = h .variablesFew; modesFew = h .modesFew; valuesLong = h .room .startLong; modesLong = h .room .valuesLong; sizesLong = h .room .sizesLong }, few-actions (now (s .args .file)) (s .args .count) bytes (s .pre .0), s .pre .1)
 
 goal-bytes-requires : tie.Need-goal-bytes-requires
@@ -43,27 +33,30 @@ decode-goal-requires : tie.Need-decode-goal-requires
 decode-goal-requires c κs = search needs
 
 goal-holds-requires : tie.Need-goal-holds-requires
-goal-holds-requires c κs = let s = c .before .before .before .before .before .before .before .before .before .before .before .before .before .before .before .before .before .before .before in
-    let e = accepted-task (now (s .args .file)) (s .args .count) (s .pre .0) in
-    let h = source-held zero-room (c .before .before .before .before .before .before .before .before .before .before .before .read-source .ensures) (task-of (now (s .args .file)) (s .args .count)) e in
-    (h .variablesFew, h .modesFew)
+goal-holds-requires c κs = let h = c .before .before .before .before .run .ensures .shaped in (h .variablesFew, h .modesFew)
 
 last-verdict-requires : tie.Need-last-verdict-requires
 last-verdict-requires c κs = search needs
 
+conclude-requires : tie.Need-conclude-requires
+conclude-requires c κs = search needs
+
 returns : tie.Need-returns
-returns c = let s = c .before .before .before .before .before .before .before .before .before .before .before .before .before .before .before .before .before .before .before .before .before in
-    let bytes = bytes-of (now (s .args .file)) (λ i. omega (arith, c .before .before .before .before .before .before .before .before .before .before .before .before .before .before .before .before .before .before .before .before .shared-slice-known .given i)) in
+returns c = let s = c .before .before .before .before .before .before .before .before .before .before .before .before .before .before .before .before .before .before .before .before .before .before in
+    let bytes = bytes-of (now (s .args .file)) (λ i. omega (arith, c .before .before .before .before .before .before .before .before .before .before .before .before .before .before .before .before .before .before .before .before .before .shared-slice-known .given i)) in
     let file = now (s .args .file) in
+    let R = c .before .before .before .before .before .before .before .run in
+    let D = c .before .before .before .before .before .before .before .before .before .before .before .before .before .before .read-source in
     record {
       meets = λ t e.
           let n = counted-task file (s .args .count) bytes (s .pre .0) t e in
-          let h = source-held zero-room (c .before .before .before .before .before .before .before .before .before .before .before .before .before .read-source .ensures) t e in
-          let r = ready file bytes t e (s .args .count) _ _ _ _ _ _ _ n (c .before .before .before .before .before .before .before .before .before .before .before .before .decode-actions .ensures) h in
-          let g = rw (c .before .before .before .before .before .goal-bytes .ensures) at (c .before .before .before .before .decode-goal .ensures) in
-          rw (c .last-verdict .ensures)
-          (judged-so t (planNumbers (now (s .args .plan))) (s .args .count) _ _ _ _ _ _ _ _ _ _ h r (c .before .before .before .before .before .before .run .ensures) _
-          (c .before .goal-holds .ensures ∙ goal-is file bytes t e (c .before .before .before .before .decode-goal .result) (s .args .count) n g (declaredPart (c .before .before .before .before .before .before .before .before .before .before .before .before .before .read-source .result .variables) (c .before .before .before .before .before .before .before .before .before .before .before .before .before .read-source .result .modes) (state (c .before .before .before .before .before .before .run .last .1 .1 .1 .1 .1 .1 .1 .1 .1 .0) (c .before .before .before .before .before .before .run .last .1 .1 .1 .1 .1 .1 .1 .1 .1 .1 .0)))) (s .args .steps) (s .pre .1));
+          let h = source-held (equal-room _ _ _ _ _) (D .ensures) t e in
+          let r = ready file bytes t e (s .args .count) _ _ _ _ _ _ _ n (c .before .before .before .before .before .before .before .before .before .before .before .before .before .decode-actions .ensures) h in
+          let g = rw (c .before .before .before .before .before .before .goal-bytes .ensures) at (c .before .before .before .before .before .decode-goal .ensures) in
+          c .conclude .ensures
+          ∙ rw (c .before .last-verdict .ensures)
+          (judged-so t (planNumbers (now (s .args .plan))) (s .args .count) _ _ _ _ _ _ _ _ _ _ h (zeros-kept (D .ensures)) r (R .ensures) _
+          (c .before .before .goal-holds .ensures ∙ goal-is file bytes t e (c .before .before .before .before .before .decode-goal .result) (s .args .count) n g (declaredPart (D .result .variables) (D .result .modes) (state (R .last .1 .1 .1 .1 .1 .1 .1 .1 .1 .0) (R .last .1 .1 .1 .1 .1 .1 .1 .1 .1 .1 .0)))) (s .args .steps) (s .pre .1));
     }
 
 pub judge-steps-spec : {M : Type 1} → statement M
@@ -77,4 +70,5 @@ judge-steps-spec =
     decode-goal-requires
     goal-holds-requires
     last-verdict-requires
+    conclude-requires
     returns)

@@ -1,11 +1,7 @@
-use mathlib.Core.Path.{_≡_, refl, sym, ap, _∙_}
-use denote.Ref.{now}
-use borrow.Author.Tests.{not-true, not-false}
+-- `source::last_verdict` meets its contract. Assumes nothing.
 use borrow.Author.Needs.{needs}
 use Rattle.source.proofs.last_verdict.Statement.{statement}
 use Rattle.source.proofs.last_verdict.Tie as tie
-use Rattle.source.proofs.last_verdict.Reads as reads
-use Rattle.source.proofs.last_verdict.Lts as lts
 
 enum-known-progress : tie.Need-enum-known-progress
 enum-known-progress c = search needs

@@ -1,40 +1,25 @@
+-- `source::linear_of` meets its contract. Assumes nothing.
 use native.Mathlib.Omega.{arith}
-use mathlib.Core.Path.{_≡_, refl, sym, ap, _∙_}
-use Prim.Native.Nat.{ℕ, _+_, _-_, _≤_, _<_}
+use mathlib.Core.Path.{_≡_, ap}
+use Prim.Native.Nat.{ℕ, _+_, _-_, _≤_}
 use denote.Ref.{now}
 use mir.Facts.{toZ-ofZ}
 use mir.Syntax.{w64}
 use mir.Val.{SFits, toZ}
-use borrow.Author.Tests.{not-true, not-false, eq-eqb, ne-eqb}
-use mathlib.Core.Bool.{Bool, true, false, cond, _&&_}
-use mathlib.Core.List.{List, _++_}
+use mathlib.Core.Bool.{true}
 use lib.IntN.{ℤ, pos}
-use lib.ListN.{length, getD, take, drop, take-append-drop}
-use Rattle.lists.specs.Each.{tabulate}
-use Rattle.lists.specs.Loops.{every}
-use Rattle.model.specs.Steps.{integerAt, naturalAt, conditionsHold, modesHold, setAll, linear}
-use Rattle.model.specs.Tasks.{NumericCondition}
-use Rattle.actions.specs.Views.{conditionRoom, modeConditionRoom, modeEffectRoom, termRoom, conditionAt, pairAt, termIs}
-use Rattle.integers.specs.Relation.{related, relationOf}
-use Rattle.source.specs.Parts.{conditionsIn, modeConditionsIn, modeEffectsIn, termsIn, termFits, small}
-use lib.Dec.{eqb}
-use Rattle.source.proofs.Rows.{Left, left-start, left-next, left-none, left-pass, left-stop, row-tabulate, row-room, row-terms}
-use Rattle.source.proofs.Sound.{setting}
-use lib.IntN.{ℤ, pos, natAbs, _+ℤ_, _*ℤ_}
-use Prim.Native.Nat.{ℕ, _+_, _-_, _*_, _≤_, _<_}
-use Rattle.lists.proofs.Loops.{length-mapped, and-left, and-right, every-at}
-use Rattle.integers.specs.Parts.{Within}
-use Rattle.actions.specs.declared.Term.{Term}
+use lib.ListN.{getD, take}
+use Rattle.model.specs.Steps.{integerAt, linear}
+use Rattle.actions.specs.Views.{termRoom, termIs}
+use Rattle.source.specs.Parts.{termsIn, termFits}
+use Rattle.source.proofs.Rows.{Left, left-start, left-next, left-none, row-terms}
+use lib.IntN.{natAbs}
+use Prim.Native.Nat.{_*_}
+use Rattle.lists.proofs.Loops.{length-mapped, every-at}
 use Rattle.source.proofs.Numbers as numbers
-use Rattle.source.proofs.Rows.{Row}
 use borrow.Author.Needs.{needs}
 use Rattle.source.proofs.linear_of.Statement.{statement}
 use Rattle.source.proofs.linear_of.Tie as tie
-use Rattle.source.proofs.linear_of.Reads as reads
-use Rattle.source.proofs.linear_of.Lts as lts
-use Rattle.source.proofs.lesser.Reads as lesser-reads
-use Rattle.source.proofs.plus_term.Reads as plus-term-reads
-use Rattle.source.proofs.value_at.Reads as value-at-reads
 
 abbrev Inv-loop : tie.InvT-loop
 Inv-loop values n c count terms k z₀ i₀ z i = Left (termsIn count terms) k (λ j. termIs (getD terms j (record { variable = 0; weight = pos 0 }))) i (λ ts. linear (toZ w64 z) ts (integerAt (take n values))) (linear (toZ w64 c) (termsIn count terms) (integerAt (take n values))) × (natAbs (toZ w64 z) ≤ 10000 + i * 100000000) × (k ≤ 4)

@@ -1,22 +1,11 @@
+-- `source::mode_at` meets its contract. Assumes nothing.
 use native.Mathlib.Omega.{arith}
-use mathlib.Core.Path.{_≡_, refl, sym, ap, _∙_}
-use Prim.Native.Nat.{ℕ, _+_, _-_, _≤_, _<_}
+use Prim.Native.Nat.{_-_}
 use denote.Ref.{now}
-use mir.Facts.{toZ-ofZ}
-use mir.Syntax.{w64}
-use mir.Val.{SFits, toZ}
-use borrow.Author.Tests.{not-true, not-false, lt-ltb, le-ltb}
-use mathlib.Core.Bool.{Bool, true, false, cond, not, _&&_}
-use lib.IntN.{ℤ, pos}
-use lib.ListN.{length, getD, take, drop}
-use Rattle.model.specs.Steps.{integerAt, naturalAt}
-use Rattle.source.proofs.Sound.{read-in, read-out, store-in, store-out}
+use Rattle.source.proofs.Sound.{read-in, read-out}
 use borrow.Author.Needs.{needs}
 use Rattle.source.proofs.mode_at.Statement.{statement}
 use Rattle.source.proofs.mode_at.Tie as tie
-use Rattle.source.proofs.mode_at.Reads as reads
-use Rattle.source.proofs.mode_at.Lts as lts
-use Rattle.source.proofs.wide.Reads as wide-reads
 
 wide-requires : tie.Need-wide-requires
 wide-requires c κs = search needs

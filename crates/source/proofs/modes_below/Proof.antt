@@ -1,24 +1,16 @@
+-- `source::modes_below` meets its contract. Assumes nothing.
 use native.Mathlib.Omega.{arith}
-use mathlib.Core.Path.{_≡_, refl, sym, ap, _∙_}
-use Prim.Native.Nat.{ℕ, _+_, _-_, _≤_, _<_}
-use denote.Ref.{now}
-use mir.Facts.{toZ-ofZ}
-use mir.Syntax.{w64}
-use mir.Val.{SFits, toZ}
-use borrow.Author.Tests.{not-true, not-false, lt-ltb, le-ltb}
-use mathlib.Core.Bool.{Bool, true, false, cond, _&&_}
-use lib.IntN.{ℤ, pos}
-use lib.ListN.{length, getD, take, drop}
+use mathlib.Core.Path.{refl}
+use Prim.Native.Nat.{_-_}
+use borrow.Author.Tests.{lt-ltb, le-ltb}
 use Rattle.lists.specs.Each.{tabulate}
 use Rattle.lists.specs.Loops.{every}
-use Rattle.model.specs.Steps.{integerAt, naturalAt}
-use Rattle.source.proofs.Rows.{Left, left-start, left-next, left-none, left-pass, left-stop, row-tabulate, row-room, row-terms}
+use Rattle.model.specs.Steps.{naturalAt}
+use Rattle.source.proofs.Rows.{Left, left-start, left-none, left-pass, left-stop, row-tabulate}
 use lib.Dec.{ltb}
 use borrow.Author.Needs.{needs}
 use Rattle.source.proofs.modes_below.Statement.{statement}
 use Rattle.source.proofs.modes_below.Tie as tie
-use Rattle.source.proofs.modes_below.Reads as reads
-use Rattle.source.proofs.modes_below.Lts as lts
 
 abbrev Inv-loop : tie.InvT-loop
 Inv-loop modes n sizes i₀ i = Left (tabulate n (λ j. ltb (naturalAt modes j) (naturalAt sizes j))) n (λ j. ltb (naturalAt modes j) (naturalAt sizes j)) i (every (λ b. b)) (every (λ b. b) (tabulate n (λ j. ltb (naturalAt modes j) (naturalAt sizes j))))

@@ -1,21 +1,12 @@
-use mathlib.Core.Path.{_≡_, refl, sym, ap, _∙_}
-use Prim.Native.Nat.{ℕ, _+_, _-_, _≤_, _<_}
-use denote.Ref.{now}
+-- `source::operands_fit` meets its contract. Assumes nothing.
+use mathlib.Core.Path.{_≡_, sym, _∙_}
+use Prim.Native.Nat.{_-_}
 use mir.Facts.{toZ-ofZ}
-use mir.Syntax.{w64}
-use mir.Val.{SFits, toZ}
-use borrow.Author.Tests.{not-true, not-false, lt-ltb, le-ltb}
-use mathlib.Core.Bool.{Bool, true, false, cond, not, _&&_}
-use lib.IntN.{ℤ, pos}
-use lib.ListN.{length, getD, take, drop}
-use Rattle.model.specs.Steps.{integerAt, naturalAt}
+use mathlib.Core.Bool.{true, false}
 use Rattle.source.specs.Parts.{small}
 use borrow.Author.Needs.{needs}
 use Rattle.source.proofs.operands_fit.Statement.{statement}
 use Rattle.source.proofs.operands_fit.Tie as tie
-use Rattle.source.proofs.operands_fit.Reads as reads
-use Rattle.source.proofs.operands_fit.Lts as lts
-use Rattle.integers.proofs.is_within.Reads as is-within-reads
 
 is-within-requires : tie.Need-is-within-requires
 is-within-requires c κs = search needs

@@ -1,38 +1,18 @@
-use mathlib.Core.Path.{_≡_, refl, sym, ap, _∙_}
-use Prim.Native.Nat.{ℕ, _+_, _-_, _≤_, _<_}
+-- `source::outcome_of` meets its contract. Assumes nothing.
+use mathlib.Core.Path.{ap}
+use Prim.Native.Nat.{_-_}
 use denote.Ref.{now}
 use mir.Facts.{toZ-ofZ}
 use mir.Syntax.{w64}
-use mir.Val.{SFits, toZ}
-use borrow.Author.Tests.{not-true, not-false, eq-eqb, ne-eqb}
-use mathlib.Core.Bool.{Bool, true, false, cond, _&&_}
-use mathlib.Core.List.{List, _++_}
-use lib.IntN.{ℤ, pos}
-use lib.ListN.{length, getD, take, drop, take-append-drop}
-use Rattle.lists.specs.Each.{tabulate}
-use Rattle.lists.specs.Loops.{every}
-use Rattle.model.specs.Steps.{integerAt, naturalAt, conditionsHold, modesHold, setAll, linear}
-use Rattle.model.specs.Tasks.{NumericCondition}
-use Rattle.actions.specs.Views.{conditionRoom, modeConditionRoom, modeEffectRoom, termRoom, conditionAt, pairAt, termIs}
-use Rattle.integers.specs.Relation.{related, relationOf}
-use Rattle.source.specs.Parts.{conditionsIn, modeConditionsIn, modeEffectsIn, termsIn, termFits, small}
-use lib.Dec.{eqb}
-use Rattle.source.proofs.Rows.{Left, left-start, left-next, left-none, left-pass, left-stop, row-tabulate, row-room, row-terms}
-use Rattle.source.proofs.Sound.{setting}
+use mir.Val.{SFits}
+use lib.ListN.{take}
+use Rattle.model.specs.Steps.{integerAt}
+use Rattle.source.specs.Parts.{termsIn}
 use mathlib.Core.Option.{some}
-use Rattle.lists.proofs.Loops.{and-left, and-right}
 use Rattle.source.proofs.Numbers as numbers
-use Rattle.source.specs.Parts.{divides}
 use borrow.Author.Needs.{needs}
 use Rattle.source.proofs.outcome_of.Statement.{statement}
 use Rattle.source.proofs.outcome_of.Tie as tie
-use Rattle.source.proofs.outcome_of.Reads as reads
-use Rattle.source.proofs.outcome_of.Lts as lts
-use Rattle.integers.proofs.quotient.Reads as quotient-reads
-use Rattle.integers.proofs.residue.Reads as residue-reads
-use Rattle.source.proofs.linear_of.Reads as linear-of-reads
-use Rattle.source.proofs.sum.Reads as sum-reads
-use Rattle.source.proofs.value_at.Reads as value-at-reads
 
 enum-told : tie.Need-enum-told
 enum-told c = search needs

@@ -1,20 +1,10 @@
-use mathlib.Core.Path.{_≡_, refl, sym, ap, _∙_}
-use Prim.Native.Nat.{ℕ, _+_, _-_, _≤_, _<_}
-use denote.Ref.{now}
+-- `source::plus_term` meets its contract. Assumes nothing.
+use mathlib.Core.Path.{refl}
+use Prim.Native.Nat.{_-_}
 use mir.Facts.{toZ-ofZ}
-use mir.Syntax.{w64}
-use mir.Val.{SFits, toZ}
-use borrow.Author.Tests.{not-true, not-false, lt-ltb, le-ltb}
-use mathlib.Core.Bool.{Bool, true, false, cond, not, _&&_}
-use lib.IntN.{ℤ, pos}
-use lib.ListN.{length, getD, take, drop}
-use Rattle.model.specs.Steps.{integerAt, naturalAt}
 use Rattle.source.proofs.Numbers as numbers
-use borrow.Author.Needs.{needs}
 use Rattle.source.proofs.plus_term.Statement.{statement}
 use Rattle.source.proofs.plus_term.Tie as tie
-use Rattle.source.proofs.plus_term.Reads as reads
-use Rattle.source.proofs.plus_term.Lts as lts
 
 mul-result : tie.Need-mul-result
 mul-result c = simp (toZ-ofZ, c .fits .value, c .fits .weight) (numbers.product-fits (c .args .value) (c .args .weight) (c .pre .1))

@@ -1,25 +1,19 @@
+-- `source::put` meets its contract. Assumes nothing.
 use native.Mathlib.Omega.{arith}
-use mathlib.Core.Path.{_≡_, refl, sym, ap, _∙_}
-use Prim.Native.Nat.{ℕ, _+_, _-_, _≤_, _<_}
+use mathlib.Core.Path.{_≡_, refl, sym, _∙_}
+use Prim.Native.Nat.{_-_}
 use denote.Ref.{now}
 use mir.Facts.{toZ-ofZ}
 use mir.Syntax.{w64}
-use mir.Val.{SFits, toZ}
-use borrow.Author.Tests.{not-true, not-false, lt-ltb, le-ltb}
-use mathlib.Core.Bool.{Bool, true, false, cond, not, _&&_}
-use lib.IntN.{ℤ, pos}
-use lib.ListN.{length, getD, take, drop}
-use Rattle.model.specs.Steps.{integerAt, naturalAt}
-use Rattle.source.proofs.Sound.{read-in, read-out, store-in, store-out}
+use mir.Val.{SFits}
+use borrow.Author.Tests.{not-true, not-false}
+use lib.ListN.{take}
+use Rattle.model.specs.Steps.{integerAt}
+use Rattle.source.proofs.Sound.{store-in, store-out}
 use Rattle.integers.specs.Relation.{between}
 use borrow.Author.Needs.{needs}
 use Rattle.source.proofs.put.Statement.{statement}
 use Rattle.source.proofs.put.Tie as tie
-use Rattle.source.proofs.put.Reads as reads
-use Rattle.source.proofs.put.Lts as lts
-use Rattle.integers.proofs.is_between.Reads as is-between-reads
-use Rattle.source.proofs.value_at.Reads as value-at-reads
-use Rattle.source.proofs.wide.Reads as wide-reads
 
 value-at-requires : tie.Need-value-at-requires
 value-at-requires c κs = search needs

@@ -1,22 +1,14 @@
+-- `source::run` meets its contract. Assumes nothing.
 use native.Mathlib.Omega.{arith}
-use mathlib.Core.Path.{_≡_, refl, sym, ap, _∙_}
-use Prim.Native.Nat.{ℕ, _+_, _-_, _*_, _≤_, _<_}
+use mathlib.Core.Path.{_∙_}
+use Prim.Native.Nat.{_-_}
 use denote.Ref.{now}
 use borrow.Author.Tests.{not-true, not-false}
-use lib.ListN.{length, getD, length-set, length-replicate}
-use native.Mathlib.Numerals.{add-one}
 use Rattle.model.specs.Plans.{planNumbers}
-use Rattle.source.specs.Step.{Shaped}
-use Rattle.source.specs.Judged.{Decoded}
-use Rattle.source.proofs.Running.{Going, begins, over, no-action, not-applied, goes, one-more, halves-long}
+use Rattle.source.proofs.Running.{Going, begins, over, no-action, not-applied, goes, halves-long}
 use borrow.Author.Needs.{needs}
 use Rattle.source.proofs.run.Statement.{statement}
 use Rattle.source.proofs.run.Tie as tie
-use Rattle.source.proofs.run.Reads as reads
-use Rattle.source.proofs.run.Lts as lts
-use Rattle.planbytes.proofs.action_of.Reads as action-of-reads
-use Rattle.source.proofs.try_action.Reads as try-action-reads
-use Rattle.source.proofs.wide16.Reads as wide16-reads
 
 abbrev Inv-loop : tie.InvT-loop
 Inv-loop plan steps count n lower upper m sizes values₀ modes₀ table i₀ values modes i = Going (planNumbers plan) count (table .actions) n lower upper m sizes values₀ modes₀ values modes i

@@ -1,32 +1,18 @@
+-- `source::set_all` meets its contract. Assumes nothing.
 use native.Mathlib.Omega.{arith}
-use mathlib.Core.Path.{_≡_, refl, sym, ap, _∙_}
-use Prim.Native.Nat.{ℕ, _+_, _-_, _≤_, _<_}
+use mathlib.Core.Path.{sym, _∙_}
+use Prim.Native.Nat.{_+_, _-_}
 use denote.Ref.{now}
-use mir.Facts.{toZ-ofZ}
-use mir.Syntax.{w64}
-use mir.Val.{SFits, toZ}
-use borrow.Author.Tests.{not-true, not-false, eq-eqb, ne-eqb}
-use mathlib.Core.Bool.{Bool, true, false, cond, _&&_}
-use mathlib.Core.List.{List, _++_}
-use lib.IntN.{ℤ, pos}
-use lib.ListN.{length, getD, take, drop, take-append-drop}
-use Rattle.lists.specs.Each.{tabulate}
-use Rattle.lists.specs.Loops.{every}
-use Rattle.model.specs.Steps.{integerAt, naturalAt, conditionsHold, modesHold, setAll, linear}
-use Rattle.model.specs.Tasks.{NumericCondition}
-use Rattle.actions.specs.Views.{conditionRoom, modeConditionRoom, modeEffectRoom, termRoom, conditionAt, pairAt, termIs}
-use Rattle.integers.specs.Relation.{related, relationOf}
-use Rattle.source.specs.Parts.{conditionsIn, modeConditionsIn, modeEffectsIn, termsIn, termFits, small}
-use lib.Dec.{eqb}
-use Rattle.source.proofs.Rows.{Left, left-start, left-next, left-none, left-pass, left-stop, row-tabulate, row-room, row-terms}
+use mathlib.Core.List.{_++_}
+use lib.ListN.{take, drop, take-append-drop}
+use Rattle.model.specs.Steps.{setAll}
+use Rattle.actions.specs.Views.{modeEffectRoom, pairAt}
+use Rattle.source.specs.Parts.{modeEffectsIn}
+use Rattle.source.proofs.Rows.{Left, left-start, left-next, left-none, row-room}
 use Rattle.source.proofs.Sound.{setting}
 use borrow.Author.Needs.{needs}
 use Rattle.source.proofs.set_all.Statement.{statement}
 use Rattle.source.proofs.set_all.Tie as tie
-use Rattle.source.proofs.set_all.Reads as reads
-use Rattle.source.proofs.set_all.Lts as lts
-use Rattle.source.proofs.lesser.Reads as lesser-reads
-use Rattle.source.proofs.set_mode.Reads as set-mode-reads
 
 abbrev Inv-loop : tie.InvT-loop
 Inv-loop modes₀ n count numbers values k i₀ modes i = Left (modeEffectsIn count numbers values) k (pairAt 0 numbers values) i (λ es. setAll es (take n modes) ++ drop n modes) (setAll (modeEffectsIn count numbers values) (take n modes₀) ++ drop n modes₀)

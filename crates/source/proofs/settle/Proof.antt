@@ -1,12 +1,10 @@
+-- `source::settle` meets its contract. Assumes nothing.
 use mir.Facts.{toZ-ofZ}
 use mir.Syntax.{w64}
 use mir.Val.{SFits}
 use borrow.Author.Needs.{needs}
 use Rattle.source.proofs.settle.Statement.{statement}
 use Rattle.source.proofs.settle.Tie as tie
-use Rattle.source.proofs.settle.Reads as reads
-use Rattle.source.proofs.settle.Lts as lts
-use Rattle.source.proofs.put.Reads as put-reads
 
 enum-told : tie.Need-enum-told
 enum-told c = search needs

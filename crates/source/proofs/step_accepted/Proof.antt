@@ -1,22 +1,12 @@
-use mathlib.Core.Path.{_≡_, refl, sym, ap, _∙_, subst}
+-- `source::step_accepted` meets its contract. Assumes nothing.
 use denote.Ref.{now}
 use native.Mathlib.Omega.{arith}
-use Rattle.lists.specs.Answer.{Answer}
-use Rattle.model.specs.Tasks.{State}
-use Rattle.model.specs.Reading.{Verdict}
 use Rattle.declarations.proofs.Accepted.{source-held}
-use Rattle.source.specs.Judged.{AcceptedWith}
 use Rattle.source.proofs.Judging.{bytes-of, task-of, accepted-task, counted-task, few-actions, zero-room}
-use Rattle.source.proofs.Alone.{step-taken, alone-rejected, alone-no-action, alone-taken}
+use Rattle.source.proofs.Alone.{step-taken}
 use borrow.Author.Needs.{needs}
 use Rattle.source.proofs.step_accepted.Statement.{statement}
 use Rattle.source.proofs.step_accepted.Tie as tie
-use Rattle.source.proofs.step_accepted.Reads as reads
-use Rattle.source.proofs.step_accepted.Lts as lts
-use Rattle.declarations.proofs.read_source.Reads as read-source-reads
-use Rattle.source.proofs.decode_action.Reads as decode-action-reads
-use Rattle.source.proofs.step_verdict.Reads as step-verdict-reads
-use Rattle.source.proofs.try_action.Reads as try-action-reads
 
 read-source-requires : tie.Need-read-source-requires
 read-source-requires c κs = search needs

@@ -1,20 +1,14 @@
-use mathlib.Core.Path.{_≡_, refl, sym, ap, _∙_, subst}
+-- `source::step_alone` meets its contract. Assumes nothing.
+use mathlib.Core.Path.{refl, subst}
 use denote.Ref.{now}
 use native.Mathlib.Omega.{arith}
-use Rattle.lists.specs.Answer.{Answer}
-use Rattle.model.specs.Tasks.{State}
 use Rattle.model.specs.Reading.{Verdict}
-use Rattle.declarations.proofs.Accepted.{source-held}
 use Rattle.source.specs.Judged.{AcceptedWith}
-use Rattle.source.proofs.Judging.{bytes-of, task-of, accepted-task, counted-task, few-actions, zero-room}
-use Rattle.source.proofs.Alone.{step-taken, alone-rejected, alone-no-action, alone-taken}
+use Rattle.source.proofs.Judging.{bytes-of}
+use Rattle.source.proofs.Alone.{alone-rejected, alone-no-action, alone-taken}
 use borrow.Author.Needs.{needs}
 use Rattle.source.proofs.step_alone.Statement.{statement}
 use Rattle.source.proofs.step_alone.Tie as tie
-use Rattle.source.proofs.step_alone.Reads as reads
-use Rattle.source.proofs.step_alone.Lts as lts
-use Rattle.source.proofs.step_accepted.Reads as step-accepted-reads
-use Rattle.tasks.proofs.check_source.Reads as check-source-reads
 
 check-source-requires : tie.Need-check-source-requires
 check-source-requires c κs = search needs

@@ -1,36 +1,23 @@
+-- `source::terms_fit` meets its contract. Assumes nothing.
 use Rattle.lists.proofs.Loops.{length-mapped}
 use native.Mathlib.Omega.{arith}
-use mathlib.Core.Path.{_≡_, refl, sym, ap, _∙_}
-use Prim.Native.Nat.{ℕ, _+_, _-_, _≤_, _<_}
+use mathlib.Core.Path.{_≡_, refl, sym, _∙_}
+use Prim.Native.Nat.{_-_}
 use denote.Ref.{now}
 use mir.Facts.{toZ-ofZ}
 use mir.Syntax.{w64}
-use mir.Val.{SFits, toZ}
-use borrow.Author.Tests.{not-true, not-false, eq-eqb, ne-eqb}
-use mathlib.Core.Bool.{Bool, true, false, cond, _&&_}
-use mathlib.Core.List.{List, _++_}
-use lib.IntN.{ℤ, pos}
-use lib.ListN.{length, getD, take, drop, take-append-drop}
-use Rattle.lists.specs.Each.{tabulate}
+use mir.Val.{SFits}
+use borrow.Author.Tests.{not-true, not-false}
+use lib.IntN.{pos}
+use lib.ListN.{getD, take}
 use Rattle.lists.specs.Loops.{every}
-use Rattle.model.specs.Steps.{integerAt, naturalAt, conditionsHold, modesHold, setAll, linear}
-use Rattle.model.specs.Tasks.{NumericCondition}
-use Rattle.actions.specs.Views.{conditionRoom, modeConditionRoom, modeEffectRoom, termRoom, conditionAt, pairAt, termIs}
-use Rattle.integers.specs.Relation.{related, relationOf}
-use Rattle.source.specs.Parts.{conditionsIn, modeConditionsIn, modeEffectsIn, termsIn, termFits, small}
-use lib.Dec.{eqb}
-use Rattle.source.proofs.Rows.{Left, left-start, left-next, left-none, left-pass, left-stop, row-tabulate, row-room, row-terms}
-use Rattle.source.proofs.Sound.{setting}
-use lib.IntN.{ℤ, pos}
-use Rattle.actions.specs.declared.Term.{Term}
+use Rattle.model.specs.Steps.{integerAt}
+use Rattle.actions.specs.Views.{termRoom, termIs}
+use Rattle.source.specs.Parts.{termsIn, termFits}
+use Rattle.source.proofs.Rows.{Left, left-start, left-none, left-pass, left-stop, row-terms}
 use borrow.Author.Needs.{needs}
 use Rattle.source.proofs.terms_fit.Statement.{statement}
 use Rattle.source.proofs.terms_fit.Tie as tie
-use Rattle.source.proofs.terms_fit.Reads as reads
-use Rattle.source.proofs.terms_fit.Lts as lts
-use Rattle.source.proofs.lesser.Reads as lesser-reads
-use Rattle.source.proofs.operands_fit.Reads as operands-fit-reads
-use Rattle.source.proofs.value_at.Reads as value-at-reads
 
 abbrev Inv-loop : tie.InvT-loop
 Inv-loop values n count terms k i₀ i = Left (termsIn count terms) k (λ j. termIs (getD terms j (record { variable = 0; weight = pos 0 }))) i (every (termFits (integerAt (take n values)))) (every (termFits (integerAt (take n values))) (termsIn count terms))

@@ -1,25 +1,20 @@
+-- `source::values_between` meets its contract. Assumes nothing.
 use native.Mathlib.Omega.{arith}
-use mathlib.Core.Path.{_≡_, refl, sym, ap, _∙_}
-use Prim.Native.Nat.{ℕ, _+_, _-_, _≤_, _<_}
+use mathlib.Core.Path.{_≡_, refl, sym, _∙_}
+use Prim.Native.Nat.{_-_}
 use denote.Ref.{now}
 use mir.Facts.{toZ-ofZ}
 use mir.Syntax.{w64}
-use mir.Val.{SFits, toZ}
-use borrow.Author.Tests.{not-true, not-false, lt-ltb, le-ltb}
-use mathlib.Core.Bool.{Bool, true, false, cond, _&&_}
-use lib.IntN.{ℤ, pos}
-use lib.ListN.{length, getD, take, drop}
+use mir.Val.{SFits}
+use borrow.Author.Tests.{not-true, not-false}
 use Rattle.lists.specs.Each.{tabulate}
 use Rattle.lists.specs.Loops.{every}
-use Rattle.model.specs.Steps.{integerAt, naturalAt}
-use Rattle.source.proofs.Rows.{Left, left-start, left-next, left-none, left-pass, left-stop, row-tabulate, row-room, row-terms}
+use Rattle.model.specs.Steps.{integerAt}
+use Rattle.source.proofs.Rows.{Left, left-start, left-none, left-pass, left-stop, row-tabulate}
 use Rattle.integers.specs.Relation.{between}
 use borrow.Author.Needs.{needs}
 use Rattle.source.proofs.values_between.Statement.{statement}
 use Rattle.source.proofs.values_between.Tie as tie
-use Rattle.source.proofs.values_between.Reads as reads
-use Rattle.source.proofs.values_between.Lts as lts
-use Rattle.integers.proofs.is_between.Reads as is-between-reads
 
 abbrev Inv-loop : tie.InvT-loop
 Inv-loop values n lower upper i₀ i = Left (tabulate n (λ j. between (integerAt lower j) (integerAt upper j) (integerAt values j))) n (λ j. between (integerAt lower j) (integerAt upper j) (integerAt values j)) i (every (λ b. b)) (every (λ b. b) (tabulate n (λ j. between (integerAt lower j) (integerAt upper j) (integerAt values j))))
