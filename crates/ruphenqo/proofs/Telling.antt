@@ -5,7 +5,7 @@ use Prim.Native.Nat.{ℕ}
 use mathlib.Core.Option.{Option, none, some, Option·none-ne-some, Option·some-injective}
 use Rattle.lists.specs.Answer.{Answer, given, refused}
 use Rattle.model.specs.Tasks.{State}
-use Rattle.restricted.specs.Judging.{judgementOf, stepAnswerOf, zeros}
+use Rattle.restricted.specs.Judging.{stepAnswerOf}
 use Rattle.ruphenqo.specs.Told.{Told, codeOf, placeOf, resultOr, endOver, itself}
 
 pub told-as : {A B : Type 0} {answer other : Answer A} {f : A → B} {old : B} {code place : ℕ} {after : B} → answer ≡ other → Told answer f old code place after → Told other f old code place after
@@ -39,20 +39,23 @@ same-result e = ap number e
     number (given n) = n
     number (refused a b) = 0
 
-module _ (a : Answer (ℕ × State)) (old : ℕ × State) (v : Answer ℕ) (x : State) (e : _≡_ {A = Answer ℕ × State} (v, x) (judgementOf a)) where
+-- of a task of either kind: `judgementOf` puts the end state in front of `zeros`
+module _ (zeros : State) (judgementOf : Answer (ℕ × State) → Answer ℕ × State)
+    (onResult : (u : ℕ × State) → judgementOf (given u) ≡ (given (u .0), endOver zeros u .1)) (onRefusal : (number place : ℕ) → judgementOf (refused number place) ≡ (refused number place, zeros))
+    (a : Answer (ℕ × State)) (old : ℕ × State) (v : Answer ℕ) (x : State) (e : _≡_ {A = Answer ℕ × State} (v, x) (judgementOf a)) where
   pub told-judged-refusal : {number place code : ℕ} → v ≡ refused number place → code ≡ number → Told a (endOver zeros) old code place old
-  told-judged-refusal {number = number} {place = place} {code = code} r c = go a (ap (λ p. p .0) e)
+  told-judged-refusal {number = number} {place = place} {code = code} r c = go a e
     where
-      go : (b : Answer (ℕ × State)) → v ≡ judgementOf b .0 → Told b (endOver zeros) old code place old
-      go (given u) q = absurd (refusal-no-result (sym r ∙ q))
-      go (refused n p) q = told-refusal (endOver zeros) old (same-refusal (sym q ∙ r)) c
+      go : (b : Answer (ℕ × State)) → _≡_ {A = Answer ℕ × State} (v, x) (judgementOf b) → Told b (endOver zeros) old code place old
+      go (given u) q = absurd (refusal-no-result (sym r ∙ ap (λ p. p .0) (q ∙ onResult u)))
+      go (refused n p) q = told-refusal (endOver zeros) old (same-refusal (sym (ap (λ p. p .0) (q ∙ onRefusal n p)) ∙ r)) c
 
   pub told-judged-valid : {steps : ℕ} {after : ℕ × State} → v ≡ given steps → after ≡ (steps, x) → Told a (endOver zeros) old 0 0 after
   told-judged-valid {steps = steps} {after = after} r s = go a e
     where
       go : (b : Answer (ℕ × State)) → _≡_ {A = Answer ℕ × State} (v, x) (judgementOf b) → Told b (endOver zeros) old 0 0 after
-      go (given u) q = told-result (endOver zeros) old refl (s ∙ (λ i. (same-result (sym r ∙ ap (λ p. p .0) q) i, ap (λ p. p .1) q i)))
-      go (refused n p) q = absurd (refusal-no-result (sym (ap (λ p. p .0) q) ∙ r))
+      go (given u) q = let h = q ∙ onResult u in told-result (endOver zeros) old refl (s ∙ (λ i. (same-result (sym r ∙ ap (λ p. p .0) h) i, ap (λ p. p .1) h i)))
+      go (refused n p) q = absurd (refusal-no-result (sym (ap (λ p. p .0) (q ∙ onRefusal n p)) ∙ r))
 
 module _ (a : Answer State) (x : State) (v : Option (ℕ × ℕ)) (y : State) (e : _≡_ {A = Option (ℕ × ℕ) × State} (v, y) (stepAnswerOf x a)) where
   pub told-step-refusal : {number place code : ℕ} → v ≡ some (number, place) → code ≡ number → Told a itself x code place x

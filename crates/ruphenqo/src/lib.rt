@@ -4,11 +4,12 @@
 ghost use Rattle.model.specs.Limits.{sourceLimits, restrictedLimits};
 ghost use Rattle.model.specs.Reading.{verdictOf};
 ghost use Rattle.model.specs.ActionBytes.{actionPlace};
-ghost use Rattle.model.specs.Judging.{judgeRestricted, stepRestrictedAlone, stepSourceAlone, priceStep, pricePlan};
+ghost use Rattle.model.specs.Judging.{judgeSource, judgeRestricted, stepRestrictedAlone, stepSourceAlone, priceStep, pricePlan};
 ghost use Rattle.tasks.specs.Views.{verdictIs};
 ghost use Rattle.actions.specs.Places.{placedIs};
 ghost use Rattle.prices.specs.Answers.{pricedIs};
 ghost use Rattle.restricted.specs.Judging.{zeros};
+ghost use Rattle.source.specs.Judged.{zeros as sourceZeros};
 ghost use Rattle.ruphenqo.specs.Told.{Told, countsOf, itself, stateOf, endOver};
 
 fn tell_counts(verdict: tasks::Verdict, counts: &mut [u64; 3], place: &mut u64) -> u32
@@ -100,6 +101,38 @@ pub extern "C" fn ruphenqo_restricted_action(
         end,
         place,
     )
+}
+
+// Judges a source plan: the count of its steps and the end state.
+#[no_mangle]
+pub extern "C" fn ruphenqo_judge_source(
+    task: &[u8],
+    plan: &[u8],
+    steps: &mut u64,
+    values: &mut [i64; 8],
+    modes: &mut [u16; 4],
+    place: &mut u64,
+) -> u32
+    ensures { λ r. ⌜ Told (judgeSource (now (task .entry)) (now (plan .entry))) (endOver sourceZeros) (now (steps .entry), stateOf (now (values .entry)) (now (modes .entry))) r (now (place .exit)) (now (steps .exit), stateOf (now (values .exit)) (now (modes .exit))) ⌝ }
+{
+    let judgement = source::judge(task, plan);
+    let verdict = judgement.verdict;
+    let state = judgement.state;
+    match verdict {
+        source::Verdict::Refused(number, at) => {
+            *place = at;
+            number as u32
+        }
+        source::Verdict::Valid(count) => {
+            *place = 0;
+            *steps = count;
+            let end_values = state.values;
+            let end_modes = state.modes;
+            *values = end_values;
+            *modes = end_modes;
+            0
+        }
+    }
 }
 
 // Judges a restricted plan: the count of its steps and the end state.
