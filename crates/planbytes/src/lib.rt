@@ -1,8 +1,10 @@
-// A plan's bytes: whether they are a plan at all, how many steps it has, and the action number of each. It knows no task.
+// A plan's bytes: whether they are a plan at all, how many steps it has, the action number of each, and how often one number stands in a
+// row. It knows no task.
 ghost use mathlib.Core.Path.{_≡_};
-ghost use Prim.Native.Nat.{_+_, _*_, _<_, _≤_};
-ghost use lib.ListN.{length, getD};
+ghost use Prim.Native.Nat.{min, _+_, _*_, _<_, _≤_};
+ghost use lib.ListN.{length, getD, drop, replicate};
 ghost use Rattle.model.specs.Plans.{planNumbers};
+ghost use Rattle.planbytes.specs.Agreeing.{agreeing, numberAt, Small, fourAt, Passed};
 ghost use Rattle.planbytes.specs.Counted.{countedIs, countOf};
 
 // What the bytes of a plan are: so many steps, or the refusal 10 with their length.
@@ -38,4 +40,80 @@ pub fn action_of(plan: &[u8], i: usize) -> u16
 {
     let place = 2 * i;
     wide(plan[place]) + 256 * wide(plan[place + 1])
+}
+
+fn lesser(a: usize, b: usize) -> usize
+    ensures { λ r. ⌜ r ≡ min a b ⌝ }
+{
+    if a < b { a } else { b }
+}
+
+fn wider(byte: u8) -> u64
+    ensures { λ r. ⌜ (r ≡ byte) × (r < 256) ⌝ }
+{
+    byte as u64
+}
+
+// The number in the two bytes from a place on.
+fn number_at(plan: &[u8], place: usize) -> u64
+    requires { ⌜ place + 1 < length (now plan) ⌝ }
+    ensures { λ r. ⌜ (r ≡ numberAt (now (plan .entry)) place) × (r < 65536) ⌝ }
+{
+    let next = place + 1;
+    wider(plan[place]) + 256 * wider(plan[next])
+}
+
+// Four numbers from a place on, as one of 64 bits: a single read of the machine.
+fn four_at(plan: &[u8], place: usize) -> u64
+    requires { ⌜ place + 7 < length (now plan) ⌝ }
+    ensures { λ r. ⌜ (r ≡ fourAt (now (plan .entry)) place) × Small (now (plan .entry)) place × Small (now (plan .entry)) (place + 2) × Small (now (plan .entry)) (place + 4) × Small (now (plan .entry)) (place + 6) ⌝ }
+{
+    number_at(plan, place)
+        + 65536 * number_at(plan, place + 2)
+        + 4294967296 * number_at(plan, place + 4)
+        + 281474976710656 * number_at(plan, place + 6)
+}
+
+// Of `most` numbers from step `at` on, so many blocks of four as are `number`.
+fn matches_fours(plan: &[u8], at: usize, number: u16, most: usize) -> usize
+    requires { ⌜ 2 * (at + most) ≤ length (now plan) ⌝ }
+    ensures { λ r. ⌜ Passed number (drop at (planNumbers (now (plan .entry)))) most r ⌝ }
+{
+    let k = number as u64;
+    let pattern = k + 65536 * k + 4294967296 * k + 281474976710656 * k;
+    let mut i: usize = 0;
+    while most - i >= 4 {
+        if four_at(plan, 2 * (at + i)) != pattern {
+            return i;
+        }
+        i += 4;
+    }
+    i
+}
+
+// The same one at a time, where the first so many have been found to be `number`.
+fn matches_ones(plan: &[u8], at: usize, number: u16, most: usize, passed: usize) -> usize
+    requires { ⌜ 2 * (at + most) ≤ length (now plan) ⌝ }
+    requires { ⌜ Passed number (drop at (planNumbers (now plan))) most passed ⌝ }
+    ensures { λ r. ⌜ r ≡ agreeing (replicate most number) (drop at (planNumbers (now (plan .entry)))) ⌝ }
+{
+    let k = number as u64;
+    let mut i = passed;
+    while i < most {
+        if k != number_at(plan, 2 * (at + i)) {
+            return i;
+        }
+        i += 1;
+    }
+    i
+}
+
+// How many of the next `count` numbers from step `at` on are `number`.
+pub fn matches_run(plan: &[u8], at: usize, number: u16, count: usize) -> usize
+    requires { ⌜ at ≤ length (planNumbers (now plan)) ⌝ }
+    ensures { λ r. ⌜ r ≡ agreeing (replicate count number) (drop at (planNumbers (now (plan .entry)))) ⌝ }
+{
+    let most = lesser(count, plan.len() / 2 - at);
+    let passed = matches_fours(plan, at, number, most);
+    matches_ones(plan, at, number, most, passed)
 }

@@ -1,4 +1,5 @@
 pub mod Making
+pub mod Matching
 pub mod Sizes
 pub mod Walks
 pub mod Writing

@@ -5,16 +5,20 @@ use Prim.Native.Nat.{ℕ, zero, suc, _+_, _*_, _≤_, _<_, zero-le}
 use native.Mathlib.Numerals.{add-one}
 use native.Mathlib.Nat.{div-le-self}
 use native.Mathlib.Omega.{arith}
-use mathlib.Core.Bool.{true, false}
+use mathlib.Core.Bool.{true, false, not, _&&_}
 use mathlib.Core.List.{List, [], _∷_, _++_, append-assoc, append-nil}
 use lib.ListN.{length, take, set, replicate, length-set, length-append}
 use lib.Seq.{take-suc-set}
 use lib.IntN.{ℤ, pos, negsuc, natAbs, _-ℤ_, _*ℤ_}
 use lib.Signed.{leZ}
-use Rattle.integers.specs.Division.{unitLess, sign, floor, quotientOf}
+use Rattle.integers.specs.Division.{unitLess, sign, floor, quotientOf, residueOf}
 use Rattle.integers.specs.Parts.{Within, EachWithin}
 use Rattle.integers.proofs.Parts.{ints, sub, mul-up, mul-down}
 use Rattle.runs.specs.declared.Strokes.{Strokes}
+use Rattle.integers.specs.Relation.{withinLimit}
+use Rattle.lists.proofs.Loops.{and-left, and-right}
+use Rattle.source.specs.Parts.{small, divides}
+use Rattle.source.proofs.Numbers as numbers
 use Rattle.source.proofs.Rows.{Row, Left, left-next, left-none}
 use Rattle.runs.specs.Strokes.{termStrokes}
 use Rattle.runs.specs.Made.{strokesIs, Listed, Two}
@@ -58,6 +62,27 @@ floor-down y (negsuc n) e = omega (ints, sub (pos 0) (floor y (unitLess (negsuc 
 pub floor-within : (y : ℤ) (u : ℕ) → natAbs y ≤ 10000 → Within 1000000000 (floor y u)
 floor-within (pos n) u h = record { within = omega (arith, div-le-self n (suc u)) }
 floor-within (negsuc n) u h = record { within = omega (arith, div-le-self n (suc u)) }
+
+-- the numbers of a division that fits
+pub record Fitting (t y c : ℤ) : Type 0 where
+  pub target : natAbs t ≤ 10000
+  pub operand : natAbs y ≤ 10000
+  pub by : Within 2000000000000000 c × (0 < natAbs c)
+  pub quotient : natAbs (quotientOf y c) ≤ 10000
+  pub residue : natAbs (residueOf y c) ≤ 10000
+
+pub fitting : (t y c : ℤ) → ((small t && small y) && divides c) ≡ true → Fitting t y c
+fitting t y c e =
+    let f = and-left (small t && small y) (divides c) e in
+    let g = and-right (small t && small y) (divides c) e in
+    let d = numbers.divisor c g in
+    record {
+      target = numbers.first t y f;
+      operand = numbers.second t y f;
+      by = d;
+      quotient = omega (arith, numbers.quotient-small y c, numbers.second t y f);
+      residue = omega (arith, numbers.residue-small y c (d .1), numbers.small-is c (and-left (small c) (not (withinLimit 0 c)) g));
+    }
 
 -- ---- two strokes more, behind those that are known
 module _ {zs : List ℤ} {s r : Strokes} {x y : ℤ} where

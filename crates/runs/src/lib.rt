@@ -12,12 +12,13 @@ ghost use mathlib.Core.Path.{_≡_};
 ghost use mathlib.Core.Bool.{true, _&&_};
 ghost use Prim.Native.Nat.{_+_, _≤_, _<_};
 ghost use mathlib.Core.List.{[]};
-ghost use lib.ListN.{take};
+ghost use lib.ListN.{length, take, drop};
 ghost use lib.IntN.{natAbs};
 ghost use Rattle.integers.specs.Division.{unitLess, floor, quotientOf, residueOf};
 ghost use Rattle.integers.specs.Parts.{Within};
 ghost use Rattle.lists.specs.Writing.{Room, Wrote};
-ghost use Rattle.model.specs.Plans.{planBytes};
+ghost use Rattle.model.specs.Plans.{planBytes, planNumbers};
+ghost use Rattle.planbytes.specs.Agreeing.{agreeing};
 ghost use Rattle.model.specs.Steps.{integerAt};
 ghost use Rattle.model.specs.Tasks.{linearEffect};
 ghost use Rattle.source.specs.Parts.{termsIn, effectIn, small, divides, effectFits};
@@ -152,6 +153,16 @@ pub fn strokes_of(
     }
 }
 
+// The strokes of an action, over the values before the step.
+pub fn action_strokes(values: &[i64; VARIABLES], n: usize, action: SourceAction) -> Strokes
+    requires { ⌜ (n ≤ 8) × (effectFits (actionIs action .effect) (integerAt (take n (now values))) ≡ true) ⌝ }
+    ensures { λ r. ⌜ Listed (strokesOf (actionIs action .effect) (integerAt (take n (now (values .entry))))) r ⌝ }
+{
+    let effect = action.effect;
+    let terms = action.terms;
+    strokes_of(values, n, effect, action.term_count, terms)
+}
+
 // The strokes of a stage as a run, its actions being numbered from `first`.
 fn run_of(first: u16, z: i64) -> Run
     requires { ⌜ first + 2 < 65536 ⌝ }
@@ -207,6 +218,55 @@ pub fn put_step(out: &mut [u8], at: usize, opening: u16, s: Strokes) -> usize
 {
     let place = lists::put16(out, at, opening);
     put_stages(out, place, opening + 1, s)
+}
+
+// How many numbers from step `at` of a plan on are the steps of a stage.
+fn matches_stage(plan: &[u8], at: usize, first: u16, z: i64) -> usize
+    requires { ⌜ (first + 2 < 65536) × (at ≤ length (planNumbers (now plan))) ⌝ }
+    ensures { λ r. ⌜ r ≡ agreeing (stageSteps first z) (drop at (planNumbers (now (plan .entry)))) ⌝ }
+{
+    let run = run_of(first, z);
+    let strokes = planbytes::matches_run(plan, at, run.number, run.count);
+    if strokes < run.count {
+        return strokes;
+    }
+    strokes + planbytes::matches_run(plan, at + strokes, first + 2, 1)
+}
+
+// How many are the steps of all stages, the first one's actions being numbered from `first`.
+fn matches_stages(plan: &[u8], at: usize, first: u16, s: Strokes) -> usize
+    requires { ⌜ (first ≤ 65001) × (s .count ≤ 10) × (at ≤ length (planNumbers (now plan))) ⌝ }
+    ensures { λ r. ⌜ r ≡ agreeing (macroSteps first (strokesIs s)) (drop at (planNumbers (now (plan .entry)))) ⌝ }
+{
+    let count = s.count;
+    let times = s.times;
+    let mut matched: usize = 0;
+    let mut number = first;
+    let mut i: usize = 0;
+    while i < count {
+        let z = times[i];
+        let run = run_of(number, z);
+        let stage = matches_stage(plan, at + matched, number, z);
+        matched += stage;
+        if stage <= run.count {
+            return matched;
+        }
+        number += 3;
+        i += 1;
+    }
+    matched
+}
+
+// How many numbers from step `at` of a plan on are what a source step becomes.
+pub fn matches_step(plan: &[u8], at: usize, opening: u16, s: Strokes) -> usize
+    requires { ⌜ (opening ≤ 65000) × (s .count ≤ 10) × (at ≤ length (planNumbers (now plan))) ⌝ }
+    ensures { λ r. ⌜ r ≡ agreeing (stepNumbers opening (strokesIs s)) (drop at (planNumbers (now (plan .entry)))) ⌝ }
+{
+    let opened = planbytes::matches_run(plan, at, opening, 1);
+    if opened == 0 {
+        return 0;
+    }
+    1 + matches_stages(plan, at + 1, opening + 1, s)
 }
 
 // How many restricted actions an action becomes: at most 31.

@@ -9,9 +9,8 @@ use mir.Syntax.{w64}
 use mir.Val.{SFits}
 use Rattle.integers.specs.Division.{unitLess, floor}
 use Rattle.integers.specs.Parts.{Within}
-use Rattle.source.proofs.Numbers as numbers
 use Rattle.runs.specs.Made.{Listed}
-use Rattle.runs.proofs.Making.{listed-two, floor-within}
+use Rattle.runs.proofs.Making.{Fitting, fitting, listed-two, floor-within}
 use borrow.Author.Needs.{needs}
 use Rattle.runs.proofs.division_strokes.Statement.{statement}
 use Rattle.runs.proofs.division_strokes.Tie as tie
@@ -27,21 +26,21 @@ no-strokes-requires c κs = search needs
 with-two-requires : tie.Need-with-two-requires
 with-two-requires c κs = omega (arith, c .no-strokes .ensures .counted)
 
--- the operand is small
-operand : (s : tie.Start) → natAbs (s .args .y) ≤ 10000
-operand s = numbers.priced-operand (s .args .target) (s .args .y) (s .args .c) (s .pre .0)
+-- its numbers are small
+fits : (s : tie.Start) → Fitting (s .args .target) (s .args .y) (s .args .c)
+fits s = fitting (s .args .target) (s .args .y) (s .args .c) (s .pre .0)
 
 drained : (c : tie.After-with-two) → let s = c .before .before in Listed (s .args .y ∷ s .args .y ∷ []) (c .with-two .result)
 drained c =
     let s = c .before .before in
-    let w : Within 1000000000 (s .args .y) = record { within = omega (arith, operand s) } in
+    let w : Within 1000000000 (s .args .y) = record { within = omega (arith, fits s .operand) } in
     listed-two (c .before .no-strokes .ensures) (simp (toZ-ofZ, s .fits .y) at (c .with-two .ensures)) (with-two-requires (c .before) tt) w w
 
 divide-strokes-requires : tie.Need-divide-strokes-requires
 divide-strokes-requires c κs =
     let s = c .before .before in
-    let d = numbers.priced-by (s .args .target) (s .args .y) (s .args .c) (s .pre .0) in
-    rw (toZ-ofZ (s .fits .y), toZ-ofZ (s .fits .c)) (record { within = operand s }, d .0, d .1)
+    let d = fits s .by in
+    rw (toZ-ofZ (s .fits .y), toZ-ofZ (s .fits .c)) (record { within = fits s .operand }, d .0, d .1)
 
 with-two-requires-2 : tie.Need-with-two-requires-2
 with-two-requires-2 c κs = omega (arith, drained (c .before) .counted)
@@ -51,7 +50,7 @@ divided c =
     let s = c .before .before .before .before in
     let f : SFits w64 (c .before .divide-strokes .result) = search needs in
     let e = simp (toZ-ofZ, s .fits .y, s .fits .c) at (c .before .divide-strokes .ensures) in
-    listed-two (drained (c .before .before)) (rw e at (simp (toZ-ofZ, f, s .fits .emptied) at (c .with-two2 .ensures))) (with-two-requires-2 (c .before) tt) (floor-within (s .args .y) (unitLess (s .args .c)) (operand s)) (s .pre .1)
+    listed-two (drained (c .before .before)) (rw e at (simp (toZ-ofZ, f, s .fits .emptied) at (c .with-two2 .ensures))) (with-two-requires-2 (c .before) tt) (floor-within (s .args .y) (unitLess (s .args .c)) (fits s .operand)) (s .pre .1)
 
 with-two-requires-3 : tie.Need-with-two-requires-3
 with-two-requires-3 c κs = omega (arith, divided c .counted)
@@ -59,7 +58,7 @@ with-two-requires-3 c κs = omega (arith, divided c .counted)
 returns : tie.Need-returns
 returns c =
     let s = c .before .before .before .before .before in
-    let t : Within 1000000000 (s .args .target) = record { within = omega (arith, numbers.priced-target (s .args .target) (s .args .y) (s .args .c) (s .pre .0)) } in
+    let t : Within 1000000000 (s .args .target) = record { within = omega (arith, fits s .target) } in
     listed-two (divided (c .before)) (simp (toZ-ofZ, s .fits .target, s .fits .moved) at (c .with-two3 .ensures)) (with-two-requires-3 (c .before) tt) t (s .pre .2)
 
 pub division-strokes-spec : {M : Type 1} → statement M

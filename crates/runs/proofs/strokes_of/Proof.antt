@@ -11,6 +11,7 @@ use lib.ListN.{take}
 use Rattle.model.specs.Steps.{integerAt}
 use Rattle.source.proofs.Numbers as numbers
 use Rattle.runs.specs.Strokes.{strokesOf}
+use Rattle.runs.proofs.Making.{fitting}
 use borrow.Author.Needs.{needs}
 use Rattle.runs.proofs.strokes_of.Statement.{statement}
 use Rattle.runs.proofs.strokes_of.Tie as tie
@@ -97,7 +98,7 @@ division-strokes-requires c κs =
     let p = rw (e .1) at (s .pre .1) in
     let y = values s (e .0 .1 .0) in
     rw (toZ-ofZ fu, toZ-ofZ fv, toZ-ofZ k, toZ-ofZ fx, toZ-ofZ fz, u .ensures, v .ensures)
-    (p, record { within = omega (arith, ap natAbs ex, numbers.priced-residue (values s (e .0 .0)) y (e .0 .1 .1 .0) p) }, record { within = omega (arith, ap natAbs ez, numbers.priced-quotient (values s (e .0 .0)) y (e .0 .1 .1 .0) p) })
+    (p, record { within = omega (arith, ap natAbs ex, fitting (values s (e .0 .0)) y (e .0 .1 .1 .0) p .residue) }, record { within = omega (arith, ap natAbs ez, fitting (values s (e .0 .0)) y (e .0 .1 .1 .0) p .quotient) })
 
 enum-known-effect-3 : tie.Need-enum-known-effect-3
 enum-known-effect-3 c = search needs
@@ -148,7 +149,7 @@ division-strokes-requires-2 c κs =
     let p = rw (e .1) at (s .pre .1) in
     let y = values s (e .0 .1 .0) in
     rw (toZ-ofZ fu, toZ-ofZ fv, toZ-ofZ k, toZ-ofZ fx, toZ-ofZ fz, u .ensures, v .ensures)
-    (p, record { within = omega (arith, ap natAbs ex, numbers.priced-quotient (values s (e .0 .0)) y (e .0 .1 .1 .0) p) }, record { within = omega (arith, ap natAbs ez, numbers.priced-residue (values s (e .0 .0)) y (e .0 .1 .1 .0) p) })
+    (p, record { within = omega (arith, ap natAbs ex, fitting (values s (e .0 .0)) y (e .0 .1 .1 .0) p .quotient) }, record { within = omega (arith, ap natAbs ez, fitting (values s (e .0 .0)) y (e .0 .1 .1 .0) p .residue) })
 
 returns : tie.Need-returns
 unfolding strokesOf
