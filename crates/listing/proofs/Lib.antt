@@ -1,0 +1,3 @@
+pub mod Lines
+pub mod Lining
+pub mod Listing

@@ -1,0 +1,42 @@
+-- The laws of a line's parts.
+-- Assumes nothing.
+use mathlib.Core.Path.{_≡_, refl, sym, ap, _∙_}
+use Prim.Native.Nat.{ℕ, _+_}
+use native.Mathlib.Omega.{arith}
+use mathlib.Core.List.{List, [], _∷_, _++_, append-assoc}
+use lib.ListN.{length, length-append}
+use lib.IntN.{ℤ, pos}
+use Rattle.lists.specs.Each.{flat}
+use Rattle.lists.proofs.Each.{flat-nil, flat-cons}
+use Rattle.model.specs.Listing.{decimal, decimalSigned, fieldsOf, goalLine, refusedLine}
+use Rattle.listing.specs.Lines.{field, lineOf}
+
+pub natural : (n : ℕ) → decimalSigned (pos n) ≡ decimal n
+unfolding decimalSigned
+natural n = refl
+
+-- the fields of a line, and its end
+pub fields-are : (zs : List ℤ) → fieldsOf zs ≡ flat field zs ++ (10 ∷ [])
+fields-are [] = rw (flat-nil field)
+fields-are (z ∷ zs) = rw (flat-cons field z zs) (ap (λ (xs : List ℕ). 32 ∷ xs) (ap (λ (xs : List ℕ). decimalSigned z ++ xs) (fields-are zs) ∙ sym (append-assoc (decimalSigned z) (flat field zs) (10 ∷ []))))
+
+-- ---- how long the lines are
+field-long : (n : ℕ) (xs : List ℕ) → length (32 ∷ (decimalSigned (pos n) ++ xs)) ≡ length (decimal n) + length xs + 1
+field-long n xs = rw (natural n) (omega (arith, length-append (decimal n) xs))
+
+pub line-long : (i k price : ℕ) (zs : List ℤ) → length (lineOf i k price zs) ≡ length (decimal i) + length (decimal k) + length (decimal price) + length (flat field zs) + 3
+line-long i k price zs =
+    omega (
+      arith,
+      length-append (decimal i) (fieldsOf (pos k ∷ pos price ∷ zs)),
+      field-long k (fieldsOf (pos price ∷ zs)),
+      field-long price (fieldsOf zs),
+      ap length (fields-are zs),
+      length-append (flat field zs) (10 ∷ []),
+    )
+
+pub goal-long : (total : ℕ) → length (goalLine total) ≡ length (decimal total) + 6
+goal-long total = omega (arith, field-long total (10 ∷ []))
+
+pub refused-long : (number place : ℕ) → length (refusedLine number place) ≡ length (decimal number) + length (decimal place) + 10
+refused-long number place = omega (arith, field-long number (fieldsOf (pos place ∷ [])), field-long place (10 ∷ []))

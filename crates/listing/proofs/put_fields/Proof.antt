@@ -1,0 +1,37 @@
+-- `listing::put_fields` meets its contract: the values, and the line's end. Assumes nothing.
+use Prim.Native.Nat.{ℕ}
+use mathlib.Core.List.{List, [], _∷_}
+use lib.ListN.{drop, take}
+use denote.Ref.{now}
+use Rattle.lists.specs.Each.{flat}
+use Rattle.lists.proofs.Writing.{Left, start, step, done, room, wrote-long}
+use Rattle.model.specs.Listing.{fieldsOf}
+use Rattle.listing.specs.Lines.{field}
+use Rattle.listing.proofs.Lines.{fields-are}
+use Rattle.listing.proofs.put_fields.Statement.{statement}
+use Rattle.listing.proofs.put_fields.Tie as tie
+
+-- what is left to write, from the first call on
+abbrev Stage : tie.Start → List ℕ → ℕ → List (List ℕ) → Type 0
+Stage s after place parts = Left (now (s .args .out)) (s .args .at) (fieldsOf (take (s .args .n) (now (s .args .values)))) after place parts
+
+l₀ : (s : tie.Start) → Stage s (now (s .args .out)) (s .args .at) (flat field (take (s .args .n) (now (s .args .values))) ∷ (10 ∷ []) ∷ [])
+l₀ s = start _ _ (fields-are _)
+
+l₁ : (c : tie.After-put-values) → let s = c .before .before .before in Stage s (c .put-values .last .0) (c .put-values .result) (drop 1 (flat field (take (s .args .n) (now (s .args .values))) ∷ (10 ∷ []) ∷ []))
+l₁ c = step (l₀ (c .before .before .before)) (c .put-values .ensures)
+
+put-values-requires : tie.Need-put-values-requires
+put-values-requires c κs = let s = c .before .before in (s .pre .0, s .pre .1, room (s .pre .2) (l₀ (c .before .before)))
+
+put8-requires : tie.Need-put8-requires
+put8-requires c κs = let s = c .before .before .before .before .before .before in room (s .pre .2) (l₁ (c .before .before .before))
+
+same-length : tie.Need-same-length
+same-length c = wrote-long (done (step (l₁ (c .before .before .before .before .before .before)) (c .before .before .put8 .ensures)))
+
+returns : tie.Need-returns
+returns c = done (step (l₁ (c .before .before .before .before .before .before)) (c .before .before .put8 .ensures))
+
+pub put-fields-spec : {M : Type 1} → statement M
+put-fields-spec = tie.close (tie.spec put-values-requires put8-requires same-length returns)

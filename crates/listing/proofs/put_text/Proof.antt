@@ -1,0 +1,73 @@
+-- `listing::put_text` meets its contract: the loop writes each byte as a list of one. Assumes nothing.
+use mathlib.Core.Path.{_≡_, refl, sym, _∙_}
+use Prim.Native.Nat.{ℕ, _-_}
+use native.Mathlib.Omega.{arith}
+use mathlib.Core.List.{List}
+use lib.ListN.{length, getD, take}
+use lib.Seq.{take-all}
+use Rattle.lists.specs.Each.{flat}
+use Rattle.lists.specs.Writing.{Room}
+use Rattle.lists.proofs.Each.{single, flat-single}
+use Rattle.lists.proofs.Loops.{there-all}
+use Rattle.lists.proofs.Writing.{room-as, wrote-as}
+use Rattle.lists.proofs.WritingLoops.{Going, going-start, going-room, going-next, going-end, going-long}
+use denote.Ref.{now}
+use borrow.Author.Needs.{needs}
+use Rattle.listing.proofs.put_text.Statement.{statement}
+use Rattle.listing.proofs.put_text.Tie as tie
+
+abbrev Inv-loop : tie.InvT-loop
+Inv-loop out₀ at text place₀ i₀ out place i = Going single (length text) text (length text) out₀ at out place i
+
+abbrev μ-loop : tie.MeasureT-loop
+μ-loop out₀ at text place₀ i₀ out place i = length text - i
+
+bytes-are : (xs : List ℕ) → flat single (take (length xs) xs) ≡ xs
+bytes-are xs = flat-single _ ∙ take-all (length xs) xs (omega arith)
+
+-- the byte that a turn writes has room
+fits : (c : tie.In-loop Inv-loop μ-loop) → Room (c .before .loop .out) (c .before .loop .place) (single (getD (now (c .before .before .args .text)) (c .before .loop .i) 0))
+fits c = going-room 0 (c .before .loop .inv) (c .loop-test .taken) (room-as (sym (bytes-are _)) (c .before .before .pre))
+
+loop-holds : tie.Need-loop-holds Inv-loop μ-loop
+loop-holds c = going-start (there-all _ _ (omega arith))
+
+shared-slice-read-out : tie.Need-shared-slice-read-out Inv-loop μ-loop
+shared-slice-read-out c = search needs
+
+slice-write-out : tie.Need-slice-write-out Inv-loop μ-loop
+slice-write-out c = omega (arith, fits (c .before))
+
+add-place : tie.Need-add-place Inv-loop μ-loop
+add-place c = omega (arith, fits (c .before), going-long (c .before .before .loop .inv))
+
+add-i : tie.Need-add-i Inv-loop μ-loop
+add-i c = search needs
+
+loop-less : tie.Need-loop-less Inv-loop μ-loop
+loop-less c = search needs
+
+loop-again : tie.Need-loop-again Inv-loop μ-loop
+loop-again c = going-next 0 (c .before .before .loop .inv) (c .before .loop-test .taken) (record { place = refl; bytes = refl })
+
+same-length : tie.Need-same-length Inv-loop μ-loop
+same-length c = going-long (c .before .loop .inv)
+
+returns : tie.Need-returns Inv-loop μ-loop
+returns c = wrote-as (bytes-are _) (going-end (c .before .loop .inv) (c .loop-test .left))
+
+pub put-text-spec : {M : Type 1} → statement M
+put-text-spec =
+    tie.close
+    (tie.spec
+    Inv-loop
+    μ-loop
+    loop-holds
+    shared-slice-read-out
+    slice-write-out
+    add-place
+    add-i
+    loop-less
+    loop-again
+    same-length
+    returns)

@@ -1,0 +1,15 @@
+-- `listing::read_setting` meets its contract: the arrays are filled from zeros. Assumes nothing.
+use Rattle.declarations.proofs.Accepted.{source-held}
+use Rattle.source.proofs.Judging.{zero-room}
+use borrow.Author.Needs.{needs}
+use Rattle.listing.proofs.read_setting.Statement.{statement}
+use Rattle.listing.proofs.read_setting.Tie as tie
+
+read-source-requires : tie.Need-read-source-requires
+read-source-requires c κs = search needs
+
+returns : tie.Need-returns
+returns c = record { holds = λ t e. source-held zero-room (c .read-source .ensures) t e }
+
+pub read-setting-spec : {M : Type 1} → statement M
+read-setting-spec = tie.close (tie.spec read-source-requires returns)

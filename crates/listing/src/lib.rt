@@ -1,0 +1,480 @@
+// The listing of a plan: a header, a line for each step, and the goal with the total price; on a refusal one line that names it.
+//
+// The text is written into output that a caller lends, its length counted first. Nothing is written where it does not fit.
+use actions::SourceAction;
+use source::MODES;
+use source::Progress;
+use source::Shape;
+use source::State;
+use source::Table;
+use source::VARIABLES;
+ghost use mathlib.Core.Path.{_≡_};
+ghost use Prim.Native.Nat.{_≤_};
+ghost use lib.ListN.{length, take};
+ghost use lib.IntN.{pos};
+ghost use Rattle.lists.specs.Answer.{given};
+ghost use Rattle.lists.specs.Each.{flat};
+ghost use Rattle.lists.specs.Writing.{Room, Wrote};
+ghost use Rattle.lists.specs.Written.{Lent};
+ghost use Rattle.model.specs.Limits.{sourceLimits};
+ghost use Rattle.model.specs.Listing.{fieldsOf, goalLine, refusedLine, listing};
+ghost use Rattle.model.specs.Plans.{planNumbers};
+ghost use Rattle.model.specs.Reading.{verdictOf};
+ghost use Rattle.source.specs.Step.{actionIs, Shaped};
+ghost use Rattle.source.specs.Judged.{Decoded, AcceptedWith};
+ghost use Rattle.listing.specs.Lines.{field, lineOf};
+ghost use Rattle.listing.specs.Listed.{Turned, Listable, LinesLong, LinesRoom, LinesPut, ListableIn, ListingRoom, ListingPut, ListingWritten, Set, Surveyed, StepsListed};
+
+// A text, byte for byte.
+fn put_text(out: &mut [u8], at: usize, text: &[u8]) -> usize
+    requires { ⌜ Room (now out) at (now text) ⌝ }
+    ensures { λ r. ⌜ Wrote (now (out .entry)) at (now (text .entry)) (now (out .exit)) r ⌝ }
+{
+    let mut place = at;
+    let mut i: usize = 0;
+    while i < text.len() {
+        out[place] = text[i];
+        place += 1;
+        i += 1;
+    }
+    place
+}
+
+// A space, and a whole number.
+fn put_field(out: &mut [u8], at: usize, z: i64) -> usize
+    requires { ⌜ Room (now out) at (field z) ⌝ }
+    ensures { λ r. ⌜ Wrote (now (out .entry)) at (field z) (now (out .exit)) r ⌝ }
+{
+    out[at] = 32;
+    text::put_integer(out, at + 1, z)
+}
+
+// A space, and a number that is not negative.
+fn put_count(out: &mut [u8], at: usize, n: u64) -> usize
+    requires { ⌜ Room (now out) at (field (pos n)) ⌝ }
+    ensures { λ r. ⌜ Wrote (now (out .entry)) at (field (pos n)) (now (out .exit)) r ⌝ }
+{
+    out[at] = 32;
+    text::put_natural(out, at + 1, n)
+}
+
+// The first n values, a space before each.
+fn put_values(out: &mut [u8], at: usize, values: &[i64; VARIABLES], n: usize) -> usize
+    requires { ⌜ (n ≤ 8) × (length (now values) ≡ 8) × Room (now out) at (flat field (take n (now values))) ⌝ }
+    ensures { λ r. ⌜ Wrote (now (out .entry)) at (flat field (take n (now (values .entry)))) (now (out .exit)) r ⌝ }
+{
+    let mut place = at;
+    let mut i: usize = 0;
+    while i < n {
+        place = put_field(out, place, values[i]);
+        i += 1;
+    }
+    place
+}
+
+// The first n values and the line's end.
+fn put_fields(out: &mut [u8], at: usize, values: &[i64; VARIABLES], n: usize) -> usize
+    requires { ⌜ (n ≤ 8) × (length (now values) ≡ 8) × Room (now out) at (fieldsOf (take n (now values))) ⌝ }
+    ensures { λ r. ⌜ Wrote (now (out .entry)) at (fieldsOf (take n (now (values .entry)))) (now (out .exit)) r ⌝ }
+{
+    let end = put_values(out, at, values, n);
+    lists::put8(out, end, 10)
+}
+
+// The line of step i, which took action k at a price and left the first n values.
+fn put_step_line(
+    out: &mut [u8],
+    at: usize,
+    i: u64,
+    k: u64,
+    price: u64,
+    values: &[i64; VARIABLES],
+    n: usize,
+) -> usize
+    requires { ⌜ (n ≤ 8) × (length (now values) ≡ 8) × Room (now out) at (lineOf i k price (take n (now values))) ⌝ }
+    ensures { λ r. ⌜ Wrote (now (out .entry)) at (lineOf i k price (take n (now (values .entry)))) (now (out .exit)) r ⌝ }
+{
+    let action_at = text::put_natural(out, at, i);
+    let price_at = put_count(out, action_at, k);
+    let values_at = put_count(out, price_at, price);
+    put_fields(out, values_at, values, n)
+}
+
+// The last line.
+fn put_goal_line(out: &mut [u8], at: usize, total: u64) -> usize
+    requires { ⌜ Room (now out) at (goalLine total) ⌝ }
+    ensures { λ r. ⌜ Wrote (now (out .entry)) at (goalLine total) (now (out .exit)) r ⌝ }
+{
+    let total_at = put_text(out, at, b"goal");
+    let end = put_count(out, total_at, total);
+    lists::put8(out, end, 10)
+}
+
+// The one line of a refusal.
+fn put_refused_line(out: &mut [u8], at: usize, number: u64, place: u64) -> usize
+    requires { ⌜ Room (now out) at (refusedLine number place) ⌝ }
+    ensures { λ r. ⌜ Wrote (now (out .entry)) at (refusedLine number place) (now (out .exit)) r ⌝ }
+{
+    let number_at = put_text(out, at, b"refused");
+    let place_at = put_count(out, number_at, number);
+    let end = put_count(out, place_at, place);
+    lists::put8(out, end, 10)
+}
+
+// How long the first n values are, with the space before each.
+fn values_length(values: &[i64; VARIABLES], n: usize) -> usize
+    requires { ⌜ (n ≤ 8) × (length (now values) ≡ 8) ⌝ }
+    ensures { λ r. ⌜ (r ≡ length (flat field (take n (now (values .entry))))) × (r ≤ 168) ⌝ }
+{
+    let mut sum: usize = 0;
+    let mut i: usize = 0;
+    while i < n {
+        sum += text::integer_length(values[i]) + 1;
+        i += 1;
+    }
+    sum
+}
+
+// How long the line of a step is.
+fn step_line_length(i: u64, k: u64, price: u64, values: &[i64; VARIABLES], n: usize) -> usize
+    requires { ⌜ (n ≤ 8) × (length (now values) ≡ 8) ⌝ }
+    ensures { λ r. ⌜ (r ≡ length (lineOf i k price (take n (now (values .entry))))) × (r ≤ 231) ⌝ }
+{
+    let counts = text::natural_length(i) + text::natural_length(k) + text::natural_length(price);
+    counts + values_length(values, n) + 3
+}
+
+fn goal_line_length(total: u64) -> usize
+    ensures { λ r. ⌜ (r ≡ length (goalLine total)) × (r ≤ 26) ⌝ }
+{
+    text::natural_length(total) + 6
+}
+
+fn refused_line_length(number: u64, place: u64) -> usize
+    ensures { λ r. ⌜ (r ≡ length (refusedLine number place)) × (r ≤ 50) ⌝ }
+{
+    text::natural_length(number) + text::natural_length(place) + 10
+}
+
+// The whole output where a task or a plan is refused; 8 where it is longer than the output lent.
+fn write_refusal(out: &mut [u8], number: u8, place: u64) -> lists::Written
+    ensures { λ r. ⌜ Lent (now (out .entry)) (given (refusedLine number place)) (now (out .exit)) r ⌝ }
+{
+    let need = refused_line_length(number as u64, place);
+    if out.len() < need {
+        return lists::Written::Refused(8, need as u64);
+    }
+    put_refused_line(out, 0, number as u64, place);
+    lists::Written::Bytes(need)
+}
+
+// What a step comes to: whether its action applies, and its price where it does.
+struct Turn {
+    applied: bool,
+    price: u64,
+}
+
+// Takes an action in a lent state where it applies.
+fn take_turn(
+    values: &mut [i64; VARIABLES],
+    modes: &mut [u16; MODES],
+    n: usize,
+    lower: &[i64; VARIABLES],
+    upper: &[i64; VARIABLES],
+    m: usize,
+    sizes: &[u16; MODES],
+    action: SourceAction,
+) -> Turn
+    requires { ⌜ Shaped n m (now values) (now modes) (now sizes) ⌝ }
+    ensures { λ r. ⌜ Turned n m (now (lower .entry)) (now (upper .entry)) (now (sizes .entry)) (now (values .entry)) (now (modes .entry)) (actionIs action) r (now (values .exit)) (now (modes .exit)) ⌝ }
+{
+    let before = *values;
+    if !source::try_action(values, modes, n, lower, upper, m, sizes, action) {
+        return Turn {
+            applied: false,
+            price: 0,
+        };
+    }
+    let price = prices::price_of(&before, n, action);
+    Turn {
+        applied: true,
+        price,
+    }
+}
+
+// How long the lines of the steps are, from a lent state on.
+fn lines_length<'a>(
+    plan: &[u8],
+    steps: usize,
+    count: usize,
+    table: Table,
+    n: usize,
+    lower: &[i64; VARIABLES],
+    upper: &[i64; VARIABLES],
+    m: usize,
+    sizes: &[u16; MODES],
+    values: &mut [i64; VARIABLES],
+    modes: &mut [u16; MODES],
+) -> usize
+    requires { ⌜ Listable (planNumbers (now plan)) steps count (table .actions) n (now lower) (now upper) m (now sizes) (now values) (now modes) ⌝ }
+    ensures { λ r. ⌜ LinesLong (planNumbers (now (plan .entry))) count (table .actions) n (now (lower .entry)) (now (upper .entry)) m (now (sizes .entry)) (now (values .entry)) (now (modes .entry)) r ⌝ }
+{
+    let mut sum: usize = 0;
+    let mut i: usize = 0;
+    while i < steps {
+        let k = source::wide16(planbytes::action_of(plan, i));
+        if count <= k {
+            return sum;
+        }
+        let turn = take_turn(values, modes, n, lower, upper, m, sizes, table.actions[k]);
+        if !turn.applied {
+            return sum;
+        }
+        sum += step_line_length(i as u64, k as u64, turn.price, values, n);
+        i += 1;
+    }
+    sum
+}
+
+// The lines of the steps, from a lent state on.
+fn put_lines<'a>(
+    out: &mut [u8],
+    at: usize,
+    plan: &[u8],
+    steps: usize,
+    count: usize,
+    table: Table,
+    n: usize,
+    lower: &[i64; VARIABLES],
+    upper: &[i64; VARIABLES],
+    m: usize,
+    sizes: &[u16; MODES],
+    values: &mut [i64; VARIABLES],
+    modes: &mut [u16; MODES],
+) -> usize
+    requires { ⌜ Listable (planNumbers (now plan)) steps count (table .actions) n (now lower) (now upper) m (now sizes) (now values) (now modes) ⌝ }
+    requires { ⌜ LinesRoom (planNumbers (now plan)) count (table .actions) n (now lower) (now upper) m (now sizes) (now values) (now modes) (now out) at ⌝ }
+    ensures { λ r. ⌜ LinesPut (planNumbers (now (plan .entry))) count (table .actions) n (now (lower .entry)) (now (upper .entry)) m (now (sizes .entry)) (now (values .entry)) (now (modes .entry)) (now (out .entry)) at (now (out .exit)) r ⌝ }
+{
+    let mut place = at;
+    let mut i: usize = 0;
+    while i < steps {
+        let k = source::wide16(planbytes::action_of(plan, i));
+        if count <= k {
+            return place;
+        }
+        let turn = take_turn(values, modes, n, lower, upper, m, sizes, table.actions[k]);
+        if !turn.applied {
+            return place;
+        }
+        place = put_step_line(out, place, i as u64, k as u64, turn.price, values, n);
+        i += 1;
+    }
+    place
+}
+
+// The text of a valid plan, at the front of the output.
+fn put_listing(
+    out: &mut [u8],
+    plan: &[u8],
+    steps: usize,
+    count: usize,
+    table: Table,
+    shape: Shape,
+    start: State,
+    total: u64,
+) -> usize
+    requires { ⌜ ListableIn (planNumbers (now plan)) steps count table shape start × ListingRoom (planNumbers (now plan)) count table shape start total (now out) ⌝ }
+    ensures { λ r. ⌜ ListingPut (planNumbers (now (plan .entry))) count table shape start total (now (out .entry)) (now (out .exit)) r ⌝ }
+{
+    let lower = shape.lower;
+    let upper = shape.upper;
+    let sizes = shape.sizes;
+    let mut values = start.values;
+    let mut modes = start.modes;
+    let lines_at = put_text(out, 0, b"step action cost values\n");
+    let goal_at = put_lines(
+        out,
+        lines_at,
+        plan,
+        steps,
+        count,
+        table,
+        shape.variables,
+        &lower,
+        &upper,
+        shape.modes,
+        &sizes,
+        &mut values,
+        &mut modes,
+    );
+    put_goal_line(out, goal_at, total)
+}
+
+// The same; 8 where it is longer than the output lent.
+fn write_listing(
+    out: &mut [u8],
+    plan: &[u8],
+    steps: usize,
+    count: usize,
+    table: Table,
+    shape: Shape,
+    start: State,
+    total: u64,
+) -> lists::Written
+    requires { ⌜ ListableIn (planNumbers (now plan)) steps count table shape start ⌝ }
+    ensures { λ r. ⌜ ListingWritten (planNumbers (now (plan .entry))) count table shape start total (now (out .entry)) (now (out .exit)) r ⌝ }
+{
+    let lower = shape.lower;
+    let upper = shape.upper;
+    let sizes = shape.sizes;
+    let mut values = start.values;
+    let mut modes = start.modes;
+    let lines = lines_length(
+        plan,
+        steps,
+        count,
+        table,
+        shape.variables,
+        &lower,
+        &upper,
+        shape.modes,
+        &sizes,
+        &mut values,
+        &mut modes,
+    );
+    let need = 24 + lines + goal_line_length(total);
+    if out.len() < need {
+        return lists::Written::Refused(8, need as u64);
+    }
+    put_listing(out, plan, steps, count, table, shape, start, total);
+    lists::Written::Bytes(need)
+}
+
+// A task's variables and modes, and its start.
+struct Setting {
+    shape: Shape,
+    start: State,
+}
+
+fn read_setting(file: &[u8]) -> Setting
+    ensures { λ r. ⌜ Set (now (file .entry)) (r .shape) (r .start) ⌝ }
+{
+    let mut lower = [0i64; VARIABLES];
+    let mut upper = [0i64; VARIABLES];
+    let mut values = [0i64; VARIABLES];
+    let mut sizes = [0u16; MODES];
+    let mut modes = [0u16; MODES];
+    let declared = declarations::read_source(
+        file,
+        &mut lower,
+        &mut upper,
+        &mut values,
+        &mut sizes,
+        &mut modes,
+    );
+    Setting {
+        shape: Shape {
+            variables: declared.variables,
+            lower,
+            upper,
+            modes: declared.modes,
+            sizes,
+        },
+        start: State { values, modes },
+    }
+}
+
+// How far a plan goes, whether the goal is met at its end, and the sum of its prices.
+struct Survey {
+    progress: Progress,
+    met: bool,
+    price: u64,
+}
+
+fn survey_plan(
+    file: &[u8],
+    count: usize,
+    plan: &[u8],
+    steps: usize,
+    table: Table,
+    shape: Shape,
+    start: State,
+) -> Survey
+    requires { ⌜ AcceptedWith (verdictOf sourceLimits (now file)) count × (steps ≡ length (planNumbers (now plan))) × (steps ≤ 1000000) ⌝ }
+    requires { ⌜ Decoded (now file) count (table .actions) × Set (now file) shape start ⌝ }
+    ensures { λ r. ⌜ Surveyed (now (file .entry)) (planNumbers (now (plan .entry))) r ⌝ }
+{
+    let lower = shape.lower;
+    let upper = shape.upper;
+    let sizes = shape.sizes;
+    let mut values = start.values;
+    let mut modes = start.modes;
+    let measured = prices::measure(
+        plan,
+        steps,
+        count,
+        table,
+        shape.variables,
+        &lower,
+        &upper,
+        shape.modes,
+        &sizes,
+        &mut values,
+        &mut modes,
+    );
+    let goal = actions::decode_goal(actions::goal_bytes(file, count));
+    let progress = measured.progress;
+    Survey {
+        progress,
+        met: source::goal_holds(&values, shape.variables, &modes, shape.modes, goal),
+        price: measured.price,
+    }
+}
+
+// Lists a plan of so many steps of an accepted file with so many actions.
+fn list_steps(
+    file: &[u8],
+    count: usize,
+    plan: &[u8],
+    steps: usize,
+    out: &mut [u8],
+) -> lists::Written
+    requires { ⌜ AcceptedWith (verdictOf sourceLimits (now file)) count × (steps ≡ length (planNumbers (now plan))) × (steps ≤ 1000000) ⌝ }
+    ensures { λ r. ⌜ StepsListed (now (file .entry)) (planNumbers (now (plan .entry))) (now (out .entry)) (now (out .exit)) r ⌝ }
+{
+    let setting = read_setting(file);
+    let shape = setting.shape;
+    let start = setting.start;
+    let table = source::decode_actions(file, count);
+    let survey = survey_plan(file, count, plan, steps, table, shape, start);
+    let progress = survey.progress;
+    match progress {
+        Progress::Stopped(number, place) => write_refusal(out, number, place),
+        Progress::Through => {
+            if !survey.met {
+                return write_refusal(out, 13, steps as u64);
+            }
+            write_listing(out, plan, steps, count, table, shape, start, survey.price)
+        }
+    }
+}
+
+// The whole listing of a task and a plan, a refusal's line included. The only refusal is 8: the output lent is shorter than the text.
+pub fn list(file: &[u8], plan: &[u8], out: &mut [u8]) -> lists::Written
+    ensures { λ r. ⌜ Lent (now (out .entry)) (given (listing (now (file .entry)) (now (plan .entry)))) (now (out .exit)) r ⌝ }
+{
+    match tasks::check_source(file) {
+        tasks::Verdict::Rejected(number, place) => write_refusal(out, number, place),
+        tasks::Verdict::Accepted(_, _, actions) => match planbytes::count_steps(plan) {
+            planbytes::Counted::Refused(number, place) => write_refusal(out, number, place),
+            planbytes::Counted::Steps(steps) => list_steps(
+                file,
+                actions as usize,
+                plan,
+                steps,
+                out,
+            ),
+        },
+    }
+}
