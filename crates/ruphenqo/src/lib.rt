@@ -1,10 +1,14 @@
 // The library for C: every entry point as an exported function of numbers and slices. include/ruphenqo.h is its manual.
 //
 // A function returns 0 or the refusal's number. It never asks anything of its input, and on a refusal it leaves what it was lent, but for the place, as it was.
+ghost use mathlib.Core.Path.{_≡_};
+ghost use Rattle.lists.specs.Answer.{given, lent};
+ghost use Rattle.lists.specs.Written.{answerOf};
 ghost use Rattle.model.specs.Limits.{sourceLimits, restrictedLimits};
 ghost use Rattle.model.specs.Reading.{verdictOf};
 ghost use Rattle.model.specs.ActionBytes.{actionPlace};
-ghost use Rattle.model.specs.Judging.{judgeSource, judgeRestricted, stepRestrictedAlone, stepSourceAlone, priceStep, pricePlan};
+ghost use Rattle.model.specs.Judging.{judgeSource, judgeRestricted, stepRestrictedAlone, stepSourceAlone, priceStep, pricePlan, expandBytes};
+ghost use Rattle.model.specs.Listing.{listing};
 ghost use Rattle.tasks.specs.Views.{verdictIs};
 ghost use Rattle.actions.specs.Places.{placedIs};
 ghost use Rattle.prices.specs.Answers.{pricedIs};
@@ -281,4 +285,50 @@ pub extern "C" fn ruphenqo_price_plan(
     ensures { λ r. ⌜ Told (pricePlan (now (task .entry)) (now (plan .entry))) itself (now (price .entry)) r (now (place .exit)) (now (price .exit)) ⌝ }
 {
     tell_price(prices::price_plan(task, plan), price, place)
+}
+
+fn tell_written(written: lists::Written, length: &mut u64, place: &mut u64) -> u32
+    ensures { λ r. ⌜ Told (answerOf written) itself (now (length .entry)) r (now (place .exit)) (now (length .exit)) ⌝ }
+{
+    match written {
+        lists::Written::Refused(number, at) => {
+            *place = at;
+            number as u32
+        }
+        lists::Written::Bytes(count) => {
+            *place = 0;
+            *length = count as u64;
+            0
+        }
+    }
+}
+
+// The expansion of a source plan, written into lent output.
+#[no_mangle]
+pub extern "C" fn ruphenqo_expand(
+    task: &[u8],
+    plan: &[u8],
+    out: &mut [u8],
+    length: &mut u64,
+    place: &mut u64,
+) -> u32
+    ensures { λ r. ⌜ Told (lent (now (out .entry)) (expandBytes (now (task .entry)) (now (plan .entry))) .0) itself (now (length .entry)) r (now (place .exit)) (now (length .exit)) ⌝ }
+    ensures { λ _. ⌜ now (out .exit) ≡ lent (now (out .entry)) (expandBytes (now (task .entry)) (now (plan .entry))) .1 ⌝ }
+{
+    tell_written(plans::expand(task, plan, out), length, place)
+}
+
+// The listing of a source plan, written into lent output. A refused task or plan is a line of it: the only refusal is 8.
+#[no_mangle]
+pub extern "C" fn ruphenqo_list(
+    task: &[u8],
+    plan: &[u8],
+    out: &mut [u8],
+    length: &mut u64,
+    place: &mut u64,
+) -> u32
+    ensures { λ r. ⌜ Told (lent (now (out .entry)) (given (listing (now (task .entry)) (now (plan .entry)))) .0) itself (now (length .entry)) r (now (place .exit)) (now (length .exit)) ⌝ }
+    ensures { λ _. ⌜ now (out .exit) ≡ lent (now (out .entry)) (given (listing (now (task .entry)) (now (plan .entry)))) .1 ⌝ }
+{
+    tell_written(listing::list(task, plan, out), length, place)
 }
