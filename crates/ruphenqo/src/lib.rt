@@ -1,0 +1,334 @@
+// The library for C: every entry point as an exported function of numbers and slices. include/ruphenqo.h is its manual.
+//
+// A function returns 0 or the refusal's number. It never asks anything of its input, and on a refusal it leaves what it was lent, but for the place, as it was.
+ghost use mathlib.Core.Path.{_≡_};
+ghost use Rattle.lists.specs.Answer.{given, lent};
+ghost use Rattle.lists.specs.Written.{answerOf};
+ghost use Rattle.model.specs.Limits.{sourceLimits, restrictedLimits};
+ghost use Rattle.model.specs.Reading.{verdictOf};
+ghost use Rattle.model.specs.ActionBytes.{actionPlace};
+ghost use Rattle.model.specs.Judging.{judgeSource, judgeRestricted, stepRestrictedAlone, stepSourceAlone, priceStep, pricePlan, expandBytes};
+ghost use Rattle.model.specs.Listing.{listing};
+ghost use Rattle.tasks.specs.Views.{verdictIs};
+ghost use Rattle.actions.specs.Places.{placedIs};
+ghost use Rattle.prices.specs.Answers.{pricedIs};
+ghost use Rattle.restricted.specs.Judging.{zeros};
+ghost use Rattle.source.specs.Judged.{zeros as sourceZeros};
+ghost use Rattle.ruphenqo.specs.Told.{Told, countsOf, itself, stateOf, endOver};
+
+fn tell_counts(verdict: tasks::Verdict, counts: &mut [u64; 3], place: &mut u64) -> u32
+    ensures { λ r. ⌜ Told (countsOf (verdictIs verdict)) itself (now (counts .entry)) r (now (place .exit)) (now (counts .exit)) ⌝ }
+{
+    match verdict {
+        tasks::Verdict::Rejected(number, at) => {
+            *place = at;
+            number as u32
+        }
+        tasks::Verdict::Accepted(variables, modes, actions) => {
+            *place = 0;
+            *counts = [variables as u64, modes as u64, actions as u64];
+            0
+        }
+    }
+}
+
+// Reads a source file: the counts of its variables, modes and actions.
+#[no_mangle]
+pub extern "C" fn ruphenqo_read_source(task: &[u8], counts: &mut [u64; 3], place: &mut u64) -> u32
+    ensures { λ r. ⌜ Told (countsOf (verdictOf sourceLimits (now (task .entry)))) itself (now (counts .entry)) r (now (place .exit)) (now (counts .exit)) ⌝ }
+{
+    tell_counts(tasks::check_source(task), counts, place)
+}
+
+// Reads a restricted file.
+#[no_mangle]
+pub extern "C" fn ruphenqo_read_restricted(
+    task: &[u8],
+    counts: &mut [u64; 3],
+    place: &mut u64,
+) -> u32
+    ensures { λ r. ⌜ Told (countsOf (verdictOf restrictedLimits (now (task .entry)))) itself (now (counts .entry)) r (now (place .exit)) (now (counts .exit)) ⌝ }
+{
+    tell_counts(tasks::check_restricted(task), counts, place)
+}
+
+fn tell_place(placed: actions::Placed, start: &mut u64, end: &mut u64, place: &mut u64) -> u32
+    ensures { λ r. ⌜ Told (placedIs placed) itself (now (start .entry), now (end .entry)) r (now (place .exit)) (now (start .exit), now (end .exit)) ⌝ }
+{
+    match placed {
+        actions::Placed::Refused(number, at) => {
+            *place = at;
+            number as u32
+        }
+        actions::Placed::At(from, to) => {
+            *place = 0;
+            *start = from as u64;
+            *end = to as u64;
+            0
+        }
+    }
+}
+
+// Where the bytes of action k of a source file start and end.
+#[no_mangle]
+pub extern "C" fn ruphenqo_source_action(
+    task: &[u8],
+    k: u64,
+    start: &mut u64,
+    end: &mut u64,
+    place: &mut u64,
+) -> u32
+    ensures { λ r. ⌜ Told (actionPlace sourceLimits (now (task .entry)) k) itself (now (start .entry), now (end .entry)) r (now (place .exit)) (now (start .exit), now (end .exit)) ⌝ }
+{
+    tell_place(
+        actions::place_source_action(task, k as usize),
+        start,
+        end,
+        place,
+    )
+}
+
+// Likewise of a restricted file.
+#[no_mangle]
+pub extern "C" fn ruphenqo_restricted_action(
+    task: &[u8],
+    k: u64,
+    start: &mut u64,
+    end: &mut u64,
+    place: &mut u64,
+) -> u32
+    ensures { λ r. ⌜ Told (actionPlace restrictedLimits (now (task .entry)) k) itself (now (start .entry), now (end .entry)) r (now (place .exit)) (now (start .exit), now (end .exit)) ⌝ }
+{
+    tell_place(
+        actions::place_restricted_action(task, k as usize),
+        start,
+        end,
+        place,
+    )
+}
+
+// Judges a source plan: the count of its steps and the end state.
+#[no_mangle]
+pub extern "C" fn ruphenqo_judge_source(
+    task: &[u8],
+    plan: &[u8],
+    steps: &mut u64,
+    values: &mut [i64; 8],
+    modes: &mut [u16; 4],
+    place: &mut u64,
+) -> u32
+    ensures { λ r. ⌜ Told (judgeSource (now (task .entry)) (now (plan .entry))) (endOver sourceZeros) (now (steps .entry), stateOf (now (values .entry)) (now (modes .entry))) r (now (place .exit)) (now (steps .exit), stateOf (now (values .exit)) (now (modes .exit))) ⌝ }
+{
+    let judgement = source::judge(task, plan);
+    let verdict = judgement.verdict;
+    let state = judgement.state;
+    match verdict {
+        source::Verdict::Refused(number, at) => {
+            *place = at;
+            number as u32
+        }
+        source::Verdict::Valid(count) => {
+            *place = 0;
+            *steps = count;
+            let end_values = state.values;
+            let end_modes = state.modes;
+            *values = end_values;
+            *modes = end_modes;
+            0
+        }
+    }
+}
+
+// Judges a restricted plan: the count of its steps and the end state.
+#[no_mangle]
+pub extern "C" fn ruphenqo_judge_restricted(
+    task: &[u8],
+    plan: &[u8],
+    steps: &mut u64,
+    values: &mut [i64; 64],
+    modes: &mut [u16; 8],
+    place: &mut u64,
+) -> u32
+    ensures { λ r. ⌜ Told (judgeRestricted (now (task .entry)) (now (plan .entry))) (endOver zeros) (now (steps .entry), stateOf (now (values .entry)) (now (modes .entry))) r (now (place .exit)) (now (steps .exit), stateOf (now (values .exit)) (now (modes .exit))) ⌝ }
+{
+    let judgement = restricted::judge(task, plan);
+    let verdict = judgement.verdict;
+    let state = judgement.state;
+    match verdict {
+        restricted::Verdict::Refused(number, at) => {
+            *place = at;
+            number as u32
+        }
+        restricted::Verdict::Valid(count) => {
+            *place = 0;
+            *steps = count;
+            let end_values = state.values;
+            let end_modes = state.modes;
+            *values = end_values;
+            *modes = end_modes;
+            0
+        }
+    }
+}
+
+// Takes a step by itself in the state that the arrays hold.
+#[no_mangle]
+pub extern "C" fn ruphenqo_step_restricted(
+    task: &[u8],
+    values: &mut [i64; 64],
+    modes: &mut [u16; 8],
+    k: u64,
+    place: &mut u64,
+) -> u32
+    ensures { λ r. ⌜ Told (stepRestrictedAlone (now (task .entry)) (stateOf (now (values .entry)) (now (modes .entry))) k) itself (stateOf (now (values .entry)) (now (modes .entry))) r (now (place .exit)) (stateOf (now (values .exit)) (now (modes .exit))) ⌝ }
+{
+    let before = restricted::State {
+        values: *values,
+        modes: *modes,
+    };
+    let answer = restricted::step_alone(task, before, k as usize);
+    let verdict = answer.verdict;
+    let state = answer.state;
+    match verdict {
+        restricted::StepVerdict::Refused(number, at) => {
+            *place = at;
+            number as u32
+        }
+        restricted::StepVerdict::Applied => {
+            *place = 0;
+            let after_values = state.values;
+            let after_modes = state.modes;
+            *values = after_values;
+            *modes = after_modes;
+            0
+        }
+    }
+}
+
+// Takes a step by itself in the state that the arrays hold, in a source task.
+#[no_mangle]
+pub extern "C" fn ruphenqo_step_source(
+    task: &[u8],
+    values: &mut [i64; 8],
+    modes: &mut [u16; 4],
+    k: u64,
+    place: &mut u64,
+) -> u32
+    ensures { λ r. ⌜ Told (stepSourceAlone (now (task .entry)) (stateOf (now (values .entry)) (now (modes .entry))) k) itself (stateOf (now (values .entry)) (now (modes .entry))) r (now (place .exit)) (stateOf (now (values .exit)) (now (modes .exit))) ⌝ }
+{
+    let before = source::State {
+        values: *values,
+        modes: *modes,
+    };
+    let answer = source::step_alone(task, before, k as usize);
+    let verdict = answer.verdict;
+    let state = answer.state;
+    match verdict {
+        source::StepVerdict::Refused(number, at) => {
+            *place = at;
+            number as u32
+        }
+        source::StepVerdict::Applied => {
+            *place = 0;
+            let after_values = state.values;
+            let after_modes = state.modes;
+            *values = after_values;
+            *modes = after_modes;
+            0
+        }
+    }
+}
+
+fn tell_price(priced: prices::Priced, price: &mut u64, place: &mut u64) -> u32
+    ensures { λ r. ⌜ Told (pricedIs priced) itself (now (price .entry)) r (now (place .exit)) (now (price .exit)) ⌝ }
+{
+    match priced {
+        prices::Priced::Refused(number, at) => {
+            *place = at;
+            number as u32
+        }
+        prices::Priced::Price(sum) => {
+            *place = 0;
+            *price = sum;
+            0
+        }
+    }
+}
+
+// The price of a step by itself.
+#[no_mangle]
+pub extern "C" fn ruphenqo_price_step(
+    task: &[u8],
+    values: &[i64; 8],
+    modes: &[u16; 4],
+    k: u64,
+    price: &mut u64,
+    place: &mut u64,
+) -> u32
+    ensures { λ r. ⌜ Told (priceStep (now (task .entry)) (stateOf (now (values .entry)) (now (modes .entry))) k) itself (now (price .entry)) r (now (place .exit)) (now (price .exit)) ⌝ }
+{
+    let before = source::State {
+        values: *values,
+        modes: *modes,
+    };
+    tell_price(prices::price_step(task, before, k as usize), price, place)
+}
+
+// The price of a plan.
+#[no_mangle]
+pub extern "C" fn ruphenqo_price_plan(
+    task: &[u8],
+    plan: &[u8],
+    price: &mut u64,
+    place: &mut u64,
+) -> u32
+    ensures { λ r. ⌜ Told (pricePlan (now (task .entry)) (now (plan .entry))) itself (now (price .entry)) r (now (place .exit)) (now (price .exit)) ⌝ }
+{
+    tell_price(prices::price_plan(task, plan), price, place)
+}
+
+fn tell_written(written: lists::Written, length: &mut u64, place: &mut u64) -> u32
+    ensures { λ r. ⌜ Told (answerOf written) itself (now (length .entry)) r (now (place .exit)) (now (length .exit)) ⌝ }
+{
+    match written {
+        lists::Written::Refused(number, at) => {
+            *place = at;
+            number as u32
+        }
+        lists::Written::Bytes(count) => {
+            *place = 0;
+            *length = count as u64;
+            0
+        }
+    }
+}
+
+// The expansion of a source plan, written into lent output.
+#[no_mangle]
+pub extern "C" fn ruphenqo_expand(
+    task: &[u8],
+    plan: &[u8],
+    out: &mut [u8],
+    length: &mut u64,
+    place: &mut u64,
+) -> u32
+    ensures { λ r. ⌜ Told (lent (now (out .entry)) (expandBytes (now (task .entry)) (now (plan .entry))) .0) itself (now (length .entry)) r (now (place .exit)) (now (length .exit)) ⌝ }
+    ensures { λ _. ⌜ now (out .exit) ≡ lent (now (out .entry)) (expandBytes (now (task .entry)) (now (plan .entry))) .1 ⌝ }
+{
+    tell_written(plans::expand(task, plan, out), length, place)
+}
+
+// The listing of a source plan, written into lent output. A refused task or plan is a line of it: the only refusal is 8.
+#[no_mangle]
+pub extern "C" fn ruphenqo_list(
+    task: &[u8],
+    plan: &[u8],
+    out: &mut [u8],
+    length: &mut u64,
+    place: &mut u64,
+) -> u32
+    ensures { λ r. ⌜ Told (lent (now (out .entry)) (given (listing (now (task .entry)) (now (plan .entry)))) .0) itself (now (length .entry)) r (now (place .exit)) (now (length .exit)) ⌝ }
+    ensures { λ _. ⌜ now (out .exit) ≡ lent (now (out .entry)) (given (listing (now (task .entry)) (now (plan .entry)))) .1 ⌝ }
+{
+    tell_written(listing::list(task, plan, out), length, place)
+}
