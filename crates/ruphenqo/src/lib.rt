@@ -7,7 +7,7 @@ ghost use Rattle.lists.specs.Written.{answerOf};
 ghost use Rattle.model.specs.Limits.{sourceLimits, restrictedLimits};
 ghost use Rattle.model.specs.Reading.{verdictOf};
 ghost use Rattle.model.specs.ActionBytes.{actionPlace};
-ghost use Rattle.model.specs.Judging.{judgeSource, judgeRestricted, stepRestrictedAlone, stepSourceAlone, priceStep, pricePlan, expandBytes};
+ghost use Rattle.model.specs.Judging.{judgeSource, judgeRestricted, stepRestrictedAlone, stepSourceAlone, priceStep, pricePlan, expandBytes, projectBytes};
 ghost use Rattle.model.specs.Listing.{listing};
 ghost use Rattle.tasks.specs.Views.{verdictIs};
 ghost use Rattle.actions.specs.Places.{placedIs};
@@ -331,4 +331,19 @@ pub extern "C" fn ruphenqo_list(
     ensures { λ _. ⌜ now (out .exit) ≡ lent (now (out .entry)) (given (listing (now (task .entry)) (now (plan .entry)))) .1 ⌝ }
 {
     tell_written(listing::list(task, plan, out), length, place)
+}
+
+// The source plan that a restricted plan of the lowering projects to, written into lent output.
+#[no_mangle]
+pub extern "C" fn ruphenqo_project(
+    task: &[u8],
+    plan: &[u8],
+    out: &mut [u8],
+    length: &mut u64,
+    place: &mut u64,
+) -> u32
+    ensures { λ r. ⌜ Told (lent (now (out .entry)) (projectBytes (now (task .entry)) (now (plan .entry))) .0) itself (now (length .entry)) r (now (place .exit)) (now (length .exit)) ⌝ }
+    ensures { λ _. ⌜ now (out .exit) ≡ lent (now (out .entry)) (projectBytes (now (task .entry)) (now (plan .entry))) .1 ⌝ }
+{
+    tell_written(projection::project(task, plan, out), length, place)
 }
