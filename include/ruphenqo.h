@@ -55,15 +55,45 @@ uint32_t ruphenqo_source_action(const uint8_t *task, size_t task_length, uint64_
 uint32_t ruphenqo_restricted_action(const uint8_t *task, size_t task_length, uint64_t k, uint64_t *start, uint64_t *end, uint64_t *place);
 
 /* ---- steps ----
- * Takes action k in the state that the arrays hold; they hold the state after it. Refusals 1 to 7, then 11 and 12 at 0. In a state with a
- * variable outside its bounds (source) or past 2,000,000,000,000,000 either way (restricted), or a mode not below its size, no action applies. */
+ * Takes action k in the state that the arrays hold; afterwards they hold the state after it, entries past the declared ones as before.
+ * Refusals 1 to 7, then 11 and 12 at 0. In a state with a variable outside its bounds (source) or past 2,000,000,000,000,000 either way
+ * (restricted), or a mode not below its size, no action applies. */
+uint32_t ruphenqo_step_source(const uint8_t *task, size_t task_length, int64_t values[8], uint16_t modes[4], uint64_t k, uint64_t *place);
 uint32_t ruphenqo_step_restricted(const uint8_t *task, size_t task_length, int64_t values[64], uint16_t modes[8], uint64_t k, uint64_t *place);
 
 /* ---- judging ----
  * Whether a plan is valid: the count of its steps, and the end state with zeros behind the declared entries. Refusals 1 to 7, 10, then 11 and
  * 12 at the step, 13. */
+uint32_t ruphenqo_judge_source(const uint8_t *task, size_t task_length, const uint8_t *plan, size_t plan_length,
+                               uint64_t *steps, int64_t values[8], uint16_t modes[4], uint64_t *place);
 uint32_t ruphenqo_judge_restricted(const uint8_t *task, size_t task_length, const uint8_t *plan, size_t plan_length,
                                    uint64_t *steps, int64_t values[64], uint16_t modes[8], uint64_t *place);
+
+/* ---- prices ----
+ * How many restricted steps a source step, or a whole source plan, becomes. They refuse as the step and the judge do. */
+uint32_t ruphenqo_price_step(const uint8_t *task, size_t task_length, const int64_t values[8], const uint16_t modes[4], uint64_t k,
+                             uint64_t *price, uint64_t *place);
+uint32_t ruphenqo_price_plan(const uint8_t *task, size_t task_length, const uint8_t *plan, size_t plan_length, uint64_t *price, uint64_t *place);
+
+/* ---- into lent output ----
+ * The result stands at the front of `out`, *length is its length in bytes, and what lies beyond it is untouched. 8 comes last, with the
+ * bytes needed: a call with out_length 0 asks for the length of a result that is not empty. */
+
+/* The restricted task's file. Refusals 1 to 7, 8. */
+uint32_t ruphenqo_lower(const uint8_t *task, size_t task_length, uint8_t *out, size_t out_length, uint64_t *length, uint64_t *place);
+
+/* The restricted plan that a source plan becomes. Refusals 1 to 7, 10 to 13 as by judging the source plan, 9, 8. */
+uint32_t ruphenqo_expand(const uint8_t *task, size_t task_length, const uint8_t *plan, size_t plan_length,
+                         uint8_t *out, size_t out_length, uint64_t *length, uint64_t *place);
+
+/* The source plan that a restricted plan comes from, whoever wrote it. Refusals 1 to 7 of the source task, 10 to 13 as by judging the
+ * restricted plan against the lowered file (steps of the restricted plan), 8. */
+uint32_t ruphenqo_project(const uint8_t *task, size_t task_length, const uint8_t *plan, size_t plan_length,
+                          uint8_t *out, size_t out_length, uint64_t *length, uint64_t *place);
+
+/* The listing of a source plan as text. A refused task or plan is its one line `refused`, number, place; the only refusal is 8. */
+uint32_t ruphenqo_list(const uint8_t *task, size_t task_length, const uint8_t *plan, size_t plan_length,
+                       uint8_t *out, size_t out_length, uint64_t *length, uint64_t *place);
 
 #ifdef __cplusplus
 }
