@@ -14,17 +14,17 @@ ghost use Prim.Native.Nat.{_+_, _≤_, _<_};
 ghost use mathlib.Core.List.{[]};
 ghost use lib.ListN.{length, take, drop};
 ghost use lib.IntN.{natAbs};
-ghost use Rattle.integers.specs.Division.{unitLess, floor, quotientOf, residueOf};
+ghost use Rattle.integers.specs.Division.{unitLess, floor};
 ghost use Rattle.integers.specs.Parts.{Within};
 ghost use Rattle.lists.specs.Writing.{Room, Wrote};
 ghost use Rattle.model.specs.Plans.{planBytes, planNumbers};
-ghost use Rattle.planbytes.specs.Agreeing.{agreeing};
 ghost use Rattle.model.specs.Steps.{integerAt};
 ghost use Rattle.model.specs.Tasks.{linearEffect};
+ghost use Rattle.planbytes.specs.Agreeing.{agreeing};
+ghost use Rattle.source.specs.Step.{actionIs};
 ghost use Rattle.source.specs.Parts.{termsIn, effectIn, small, divides, effectFits};
 ghost use Rattle.runs.specs.Strokes.{strokesOf, stageSteps, macroSteps, stepNumbers};
 ghost use Rattle.runs.specs.Openings.{Sized, Opened};
-ghost use Rattle.source.specs.Step.{actionIs};
 ghost use Rattle.runs.specs.Made.{strokesIs, Listed, Two, RunOf, divisionStrokes};
 
 // The most stages of a macro.
