@@ -76,8 +76,8 @@ filling-start openings count = record {
 }
 
 module _ {openings : List ℕ} {count : ℕ} {numbers : List ℕ} {k : ℕ} (o : Openable openings count) (g : Filling openings count numbers k) where
-  pub filling-next : k < count → Filling openings count (set numbers (getD openings k 0) k) (k + 1)
-  filling-next h = record {
+  one-more : k < count → Filling openings count (set numbers (getD openings k 0) k) (k + 1)
+  one-more h = record {
     bound = omega arith;
     long = length-set numbers (getD openings k 0) k ∙ g .long;
     only = λ j l. store j l (eqb j (getD openings k 0)) refl;
@@ -104,6 +104,9 @@ module _ {openings : List ℕ} {count : ℕ} {numbers : List ℕ} {k : ℕ} (o :
           let m : k ≤ a = ltb-false a k e in
           let q : a ≡ k = omega arith in
           rw q (getD-set-same numbers (getD openings k 0) k 0 inside)
+
+  pub filling-next : {i : ℕ} → i ≡ getD openings k 0 → k < count → Filling openings count (set numbers i k) (k + 1)
+  filling-next e h = subst (λ (i : ℕ). Filling openings count (set numbers i k) (k + 1)) (sym e) (one-more h)
 
 -- ---- the whole table, against the openings of actions
 module _ {openings : List ℕ} {count : ℕ} {numbers : List ℕ} {k : ℕ} (o : Openable openings count) (g : Filling openings count numbers k) (h : count ≤ k)

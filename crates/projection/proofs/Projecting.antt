@@ -22,14 +22,38 @@ use Rattle.source.specs.Judged.{goalModesIn, goalConditionsIn}
 use Rattle.projection.specs.declared.Followed.{Followed}
 use Rattle.projection.specs.declared.Followed.the-variants.{Ended, Stopped}
 use Rattle.projection.specs.Following.{followedTo, foundIn, Lowered, PlanFollowed}
-use Rattle.projection.specs.Projecting.{asBytes, projected, Projectable, SourcesPut, Aims, Posed, Projected}
+use Rattle.projection.specs.Projecting.{asBytes, reachedTo, projected, Projectable, SourcesPut, Aims, Posed, Reached, Projected}
 
+-- ---- to the goal
 module _ {q : List ℕ} {table : List DecodedSource} {n : ℕ} {lower upper : List ℤ} {m : ℕ} {sizes : List ℕ} {total : ℕ} {sources : List ℕ} {values : List ℤ} {modes : List ℕ} {r : Followed} {values′ : List ℤ} {modes′ : List ℕ}
-    (F : PlanFollowed q table n lower upper m sizes total sources values modes r values′ modes′) (goal : Goal) (old : List ℕ) where
-  pub when-stopped : {number place : ℕ} → r ≡ Stopped number place → Projected q table n lower upper m sizes sources values modes total goal old old (Refused number place)
-  when-stopped e = record {
-    meets = λ t L a. refusal (ap asBytes (F .meets t L ∙ ap (λ (f : Followed). followedTo f (sourceGoalHolds t (declaredPart n m (state values′ modes′))) (length q) (F .numbers)) e));
+    (F : PlanFollowed q table n lower upper m sizes total sources values modes r values′ modes′) (goal : Goal) where
+  pub not-followed : {number place : ℕ} → r ≡ Stopped number place → Reached q table n lower upper m sizes sources values modes total goal (Stopped number place)
+  not-followed e = record {
+    numbers = F .numbers;
+    counted = refl;
+    few = F .few;
+    meets = λ t L a. F .meets t L ∙ ap (λ (f : Followed). followedTo f (sourceGoalHolds t (declaredPart n m (state values′ modes′))) (length q) (F .numbers)) e;
   }
+
+  module _ {found : ℕ} (e : r ≡ Ended found) {met : Bool} (is : met ≡ goalHolds (goalModesIn goal) (goalConditionsIn goal) (declaredPart n m (state values′ modes′))) where
+    comes : {b : Bool} → met ≡ b → (t : SourceTask) → Lowered t table n lower upper m sizes total sources → Aims q table n lower upper m sizes sources values modes total goal t
+        → projected q table n lower upper m sizes sources values modes t ≡ cond b (given (F .numbers)) (refused 13 (length q))
+    comes f t L a =
+        F .meets t L
+        ∙ ap (λ (o : Followed). followedTo o (sourceGoalHolds t (declaredPart n m (state values′ modes′))) (length q) (F .numbers)) e
+        ∙ ap (λ (b : Bool). cond b (given (F .numbers)) (refused 13 (length q))) (sym (a (declaredPart n m (state values′ modes′))) ∙ sym is ∙ f)
+
+    pub goal-met : met ≡ true → Reached q table n lower upper m sizes sources values modes total goal (Ended found)
+    goal-met f = record { numbers = F .numbers; counted = ap (λ (o : Followed). foundIn o (length (F .numbers))) (sym e) ∙ F .counted; few = F .few; meets = comes f }
+
+    pub goal-unmet : met ≡ false → {steps : ℕ} → steps ≡ length q → Reached q table n lower upper m sizes sources values modes total goal (Stopped 13 steps)
+    goal-unmet f s = record { numbers = F .numbers; counted = refl; few = F .few; meets = λ t L a. comes f t L a ∙ ap (refused 13) (sym s) }
+
+-- ---- into the output
+module _ {q : List ℕ} {table : List DecodedSource} {n : ℕ} {lower upper : List ℤ} {m : ℕ} {sizes : List ℕ} {total : ℕ} {sources : List ℕ} {values : List ℤ} {modes : List ℕ} {goal : Goal} {r : Followed}
+    (F : Reached q table n lower upper m sizes sources values modes total goal r) (old : List ℕ) where
+  pub when-stopped : {number place : ℕ} → r ≡ Stopped number place → Projected q table n lower upper m sizes sources values modes total goal old old (Refused number place)
+  when-stopped e = record { meets = λ t L a. refusal (ap asBytes (F .meets t L a ∙ ap (λ (f : Followed). reachedTo f (F .numbers)) e)) }
 
   module _ {found : ℕ} (e : r ≡ Ended found) where
     counted : found ≡ length (F .numbers)
@@ -41,30 +65,21 @@ module _ {q : List ℕ} {table : List DecodedSource} {n : ℕ} {lower upper : Li
     bytes-needed : 2 * found ≡ length (planBytes (F .numbers))
     bytes-needed = omega (arith, counted, length-numbers 2 (F .numbers))
 
-    module _ {met : Bool} (m-is : met ≡ goalHolds (goalModesIn goal) (goalConditionsIn goal) (declaredPart n m (state values′ modes′))) where
-      comes : {b : Bool} → met ≡ b → (t : SourceTask) → Lowered t table n lower upper m sizes total sources → Aims q table n lower upper m sizes sources values modes total goal t
-          → projected q table n lower upper m sizes sources values modes t ≡ cond b (given (F .numbers)) (refused 13 (length q))
-      comes f t L a =
-          F .meets t L
-          ∙ ap (λ (o : Followed). followedTo o (sourceGoalHolds t (declaredPart n m (state values′ modes′))) (length q) (F .numbers)) e
-          ∙ ap (λ (b : Bool). cond b (given (F .numbers)) (refused 13 (length q))) (sym (a (declaredPart n m (state values′ modes′))) ∙ sym m-is ∙ f)
+    reaches : (t : SourceTask) → Lowered t table n lower upper m sizes total sources → Aims q table n lower upper m sizes sources values modes total goal t → projected q table n lower upper m sizes sources values modes t ≡ given (F .numbers)
+    reaches t L a = F .meets t L a ∙ ap (λ (f : Followed). reachedTo f (F .numbers)) e
 
-      pub when-unmet : met ≡ false → {steps : ℕ} → steps ≡ length q → Projected q table n lower upper m sizes sources values modes total goal old old (Refused 13 steps)
-      when-unmet f s = record { meets = λ t L a. refusal (ap asBytes (comes f t L a ∙ ap (refused 13) (sym s))) }
+    pub when-short : length old < 2 * found → Projected q table n lower upper m sizes sources values modes total goal old old (Refused 8 (2 * found))
+    when-short s = record { meets = λ t L a. too-short (ap asBytes (reaches t L a)) bytes-needed s }
 
-      module _ (f : met ≡ true) where
-        pub when-short : length old < 2 * found → Projected q table n lower upper m sizes sources values modes total goal old old (Refused 8 (2 * found))
-        when-short s = record { meets = λ t L a. too-short (ap asBytes (comes f t L a)) bytes-needed s }
+    module _ (h : 2 * found ≤ length old) where
+      pub projectable : Posed q table n lower upper m sizes sources values modes total goal → Projectable q table n lower upper m sizes sources values modes old
+      projectable p = record {
+        total = total;
+        placed = p .placed;
+        numbers = F .numbers;
+        projects = reaches (p .placed .task) (p .placed .lowered) (p .aims);
+        room = record { fits = omega (arith, bytes-needed) };
+      }
 
-        module _ (h : 2 * found ≤ length old) where
-          pub projectable : Posed q table n lower upper m sizes sources values modes total goal → Projectable q table n lower upper m sizes sources values modes old
-          projectable p = record {
-            total = total;
-            placed = p .placed;
-            numbers = F .numbers;
-            projects = comes f (p .placed .task) (p .placed .lowered) (p .aims);
-            room = record { fits = omega (arith, bytes-needed) };
-          }
-
-          pub when-written : {after : List ℕ} {next : ℕ} → SourcesPut q table n lower upper m sizes sources values modes old after next → Projected q table n lower upper m sizes sources values modes total goal old after (Bytes (2 * found))
-          when-written w = record { meets = λ t L a. written (ap asBytes (comes f t L a)) bytes-needed h (w .meets total t L (F .numbers) (comes f t L a)) }
+      pub when-written : {after : List ℕ} {next : ℕ} → SourcesPut q table n lower upper m sizes sources values modes old after next → Projected q table n lower upper m sizes sources values modes total goal old after (Bytes (2 * found))
+      when-written w = record { meets = λ t L a. written (ap asBytes (reaches t L a)) bytes-needed h (w .meets total t L (F .numbers) (reaches t L a)) }

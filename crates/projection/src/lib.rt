@@ -31,7 +31,7 @@ ghost use Rattle.source.specs.Judged.{AcceptedWith};
 ghost use Rattle.runs.specs.Strokes.{strokesOf, stepNumbers};
 ghost use Rattle.projection.specs.Sources.{entryAt, Openable, Sourced};
 ghost use Rattle.projection.specs.Following.{opensIn, Answers, Further, Advanced, Placed, PlanFollowed};
-ghost use Rattle.projection.specs.Projecting.{Projectable, SourcesPut, Posed, Projected, FileProjected};
+ghost use Rattle.projection.specs.Projecting.{Projectable, SourcesPut, Posed, Reached, Projected, FileProjected};
 
 // The restricted numbers that a table of source actions has room for, and what stands there for a number that opens none.
 const NUMBERS: usize = 1024;
@@ -39,8 +39,8 @@ const NUMBERS: usize = 1024;
 const NONE: u8 = 32;
 
 // The source action that each restricted number opens, or NONE.
-pub struct Sources {
-    pub numbers: [u8; NUMBERS],
+struct Sources {
+    numbers: [u8; NUMBERS],
 }
 
 // From the numbers of the openings of so many actions.
@@ -93,7 +93,7 @@ fn astray(plan: &[u8], steps: usize, total: usize, place: usize) -> u8
 }
 
 // What a source step comes to: the plan goes on at a place, or is refused.
-pub enum Next {
+enum Next {
     At(usize),
     Refused(u8, u64),
 }
@@ -217,7 +217,7 @@ fn advance(
 }
 
 // How far a plan goes: to its end, with so many source steps, or it is refused.
-pub enum Followed {
+enum Followed {
     Ended(usize),
     Stopped(u8, u64),
 }
@@ -277,6 +277,52 @@ fn follow(
     Followed::Ended(found)
 }
 
+// The same from a start, where the goal is to be met at the end.
+fn follow_to_goal(
+    plan: &[u8],
+    steps: usize,
+    total: usize,
+    sources: &[u8; NUMBERS],
+    table: Table,
+    goal: Goal,
+    n: usize,
+    lower: &[i64; VARIABLES],
+    upper: &[i64; VARIABLES],
+    m: usize,
+    sizes: &[u16; MODES],
+    values: [i64; VARIABLES],
+    modes: [u16; MODES],
+) -> Followed
+    requires { ⌜ Placed (table .actions) n (now lower) (now upper) m (now sizes) total (now sources) values modes × (steps ≡ length (planNumbers (now plan))) ⌝ }
+    ensures { λ r. ⌜ Reached (planNumbers (now (plan .entry))) (table .actions) n (now (lower .entry)) (now (upper .entry)) m (now (sizes .entry)) (now (sources .entry)) values modes total goal r ⌝ }
+{
+    let mut end_values = values;
+    let mut end_modes = modes;
+    let followed = follow(
+        plan,
+        steps,
+        total,
+        sources,
+        table,
+        n,
+        lower,
+        upper,
+        m,
+        sizes,
+        &mut end_values,
+        &mut end_modes,
+    );
+    match followed {
+        Followed::Stopped(number, place) => Followed::Stopped(number, place),
+        Followed::Ended(found) => {
+            if source::goal_holds(&end_values, n, &end_modes, m, goal) {
+                return Followed::Ended(found);
+            }
+            Followed::Stopped(13, steps as u64)
+        }
+    }
+}
+
 // Writes the source numbers that a plan projects to, from a lent start on. The plan is known to go through, so it is not compared again.
 fn put_sources(
     plan: &[u8],
@@ -298,7 +344,8 @@ fn put_sources(
     let mut place: usize = 0;
     let mut at: usize = 0;
     while at < steps {
-        let number = source_of(sources, planbytes::action_of(plan, at));
+        let opening = planbytes::action_of(plan, at);
+        let number = source_of(sources, opening);
         let k = wide(number);
         let action = table.actions[k];
         let size = prices::price_of(values, n, action) as usize;
@@ -329,28 +376,24 @@ fn project_from(
     requires { ⌜ Posed (planNumbers (now plan)) (table .actions) n (now lower) (now upper) m (now sizes) (now sources) (now values) (now modes) total goal × (steps ≡ length (planNumbers (now plan))) ⌝ }
     ensures { λ r. ⌜ Projected (planNumbers (now (plan .entry))) (table .actions) n (now (lower .entry)) (now (upper .entry)) m (now (sizes .entry)) (now (sources .entry)) (now (values .entry)) (now (modes .entry)) total goal (now (out .entry)) (now (out .exit)) r ⌝ }
 {
-    let mut end_values = *values;
-    let mut end_modes = *modes;
-    let followed = follow(
+    let followed = follow_to_goal(
         plan,
         steps,
         total,
         sources,
         table,
+        goal,
         n,
         lower,
         upper,
         m,
         sizes,
-        &mut end_values,
-        &mut end_modes,
+        *values,
+        *modes,
     );
     match followed {
         Followed::Stopped(number, place) => Written::Refused(number, place),
         Followed::Ended(found) => {
-            if !source::goal_holds(&end_values, n, &end_modes, m, goal) {
-                return Written::Refused(13, steps as u64);
-            }
             let needed = 2 * found;
             if out.len() < needed {
                 return Written::Refused(8, needed as u64);

@@ -54,7 +54,7 @@ loop-less c = search needs
 loop-again : tie.Need-loop-again Inv-loop μ-loop
 loop-again c = let h = c .before .before in
     let l = h .before in
-    rw (c .wide16 .ensures) (filling-next (l .before .pre) (l .loop .inv) (h .loop-test .taken))
+    filling-next (l .before .pre) (l .loop .inv) (c .wide16 .ensures) (h .loop-test .taken)
 
 -- src/lib.rt:49:1
 returns : tie.Need-returns Inv-loop μ-loop
