@@ -1,0 +1,93 @@
+-- What is read of an accepted file is what its task declares, and its goal.
+-- Assumes nothing.
+use mathlib.Core.Path.{_≡_, refl, sym, ap, ap₂, _∙_, subst}
+use mathlib.Core.List.{List, [], _∷_, _++_}
+use Prim.Native.Nat.{ℕ, zero, suc, _+_, _≤_, _<_}
+use native.Mathlib.Omega.{arith}
+use lib.ListN.{length, take, getD}
+use lib.Seq.{getD-take, ext-getD}
+use Rattle.lists.proofs.Each.{length-tabulate, getD-tabulate}
+use lib.IntN.{ℤ, pos, natAbs}
+use Rattle.integers.specs.All.{All}
+use Rattle.integers.specs.Numbers.{Bytes}
+use Rattle.lists.specs.Answer.{given}
+use Rattle.model.specs.Tasks.{SourceVariable, SourceTask, State}
+use Rattle.model.specs.Limits.{sourceLimits, restrictedLimits}
+use Rattle.model.specs.TaskOk.{InRange}
+use Rattle.model.specs.Reading.{verdictOf}
+use Rattle.model.specs.Decoding.{each, readSource}
+use Rattle.model.specs.Steps.{integerAt, sizesOf, startModes, sourceStart}
+use Rattle.model.specs.Lowering.{lowerTask}
+use Rattle.model.proofs.ReadingLaws.{length-each}
+use Rattle.model.proofs.AcceptedOk.{accepted-source-ok}
+use Rattle.model.proofs.LoweredOk.{lowered-task-ok}
+use Rattle.actions.specs.declared.Goal.{Goal}
+use Rattle.actions.specs.Places.{goalPart}
+use Rattle.actions.specs.Views.{pairAt, pairsIs, GoalDecoded}
+use Rattle.actions.proofs.Accepted.{source-goal-conditions, source-goal-modes, source-goal-within}
+use Rattle.declarations.specs.declared.Declared.{Declared}
+use Rattle.declarations.specs.Holding.{HoldsSource}
+use Rattle.source.specs.Judged.{AcceptedWith}
+use Rattle.source.proofs.Judging.{accepted-task, counted-task}
+use Rattle.writing.specs.Parts.{Constants}
+use Rattle.writing.proofs.Sizes.{goal-writable}
+use Rattle.lowering.specs.Held.{taskOf, Held, Declares, GoalOf}
+
+-- ---- lists
+front-small : (n : ℕ) (xs ys : List ℤ) (i : ℕ) → All (λ (z : ℤ). natAbs z ≤ n) (xs ++ ys) → i < length xs → natAbs (integerAt xs i) ≤ n
+front-small n [] ys i h l = absurd (omega arith)
+front-small n (x ∷ xs) ys zero (h, hs) l = h
+front-small n (x ∷ xs) ys (suc i) (h, hs) l = front-small n xs ys i hs (omega arith)
+
+getD-each : {A B : Type 0} (f : A → B) (xs : List A) (k : ℕ) (d : A) → getD (each f xs) k (f d) ≡ f (getD xs k d)
+getD-each f [] k d = refl
+getD-each f (x ∷ xs) zero d = refl
+getD-each f (x ∷ xs) (suc k) d = getD-each f xs k d
+
+-- pairs in two arrays, from their firsts and their seconds
+pairs-are : (n : ℕ) (xs ys : List ℕ) (ms : List (ℕ × ℕ)) → n ≡ length ms → take n xs ≡ each (λ (m : ℕ × ℕ). m .0) ms → take n ys ≡ each (λ (m : ℕ × ℕ). m .1) ms → pairsIs 0 n xs ys ≡ ms
+pairs-are n xs ys ms l e f =
+    ext-getD (0, 0) (pairsIs 0 n xs ys) ms (length-tabulate n (pairAt 0 xs ys) ∙ l)
+    (λ k h.
+    let b : k < n = omega (arith, length-tabulate n (pairAt 0 xs ys)) in
+    getD-tabulate n (pairAt 0 xs ys) k (0, 0) b
+    ∙ ap₂ (λ (x y : ℕ). (x, y))
+    (sym (getD-take n xs k 0 b) ∙ ap (λ (z : List ℕ). getD z k 0) e ∙ getD-each (λ (m : ℕ × ℕ). m .0) ms k (0, 0))
+    (sym (getD-take n ys k 0 b) ∙ ap (λ (z : List ℕ). getD z k 0) f ∙ getD-each (λ (m : ℕ × ℕ). m .1) ms k (0, 0)))
+
+-- ---- an accepted file
+module _ (file : List ℕ) (count : ℕ) (bytes : Bytes file) (accepted : AcceptedWith (verdictOf sourceLimits file) count) where
+  is : readSource file ≡ given (taskOf file)
+  is = accepted-task file count accepted
+
+  counted : count ≡ length (taskOf file .actions)
+  counted = counted-task file count bytes accepted (taskOf file) is
+
+  module _ (r : Declared) (lower upper start : List ℤ) (sizes values : List ℕ) (h : HoldsSource (taskOf file) r lower upper start sizes values) where
+    starts-small : Constants (r .variables) start
+    starts-small i l =
+        let e : take (r .variables) start ≡ sourceStart (taskOf file) .values = ap (λ (x : State). x .values) (h .startIs) in
+        let ok = lowered-task-ok (taskOf file) (accepted-source-ok file (taskOf file) is) .startsIn in
+        let long : i < length (sourceStart (taskOf file) .values) = omega (arith, l, h .variableCount, length-each (λ (b : SourceVariable). b .start) (taskOf file .variables)) in
+        let small = front-small 1000000000 (sourceStart (taskOf file) .values) (pos 0 ∷ pos 0 ∷ []) i ok long in
+        let same : integerAt (sourceStart (taskOf file) .values) i ≡ getD start i (pos 0) = ap (λ (z : List ℤ). integerAt z i) (sym e) ∙ getD-take (r .variables) start i (pos 0) l in
+        let bound : natAbs (getD start i (pos 0)) ≤ 1000000000 = subst (λ (z : ℤ). natAbs z ≤ 1000000000) same small in
+        omega (arith, bound)
+
+    pub declared : Declares file count (record { shape = record { variables = r .variables; lower = lower; upper = upper; modes = r .modes; sizes = sizes }; starts = start; values = values })
+    declared = record {
+      held = record { bytes = bytes; is = is; counted = counted; variablesAre = h .variableCount; modesAre = h .modeCount; lowersAre = h .lowersAre; uppersAre = h .uppersAre };
+      startsLong = h .room .startLong;
+      startsIn = starts-small;
+      startsAre = ap (λ (x : State). x .values) (h .startIs);
+      modesAre = pairs-are (r .modes) sizes values (taskOf file .modes) (h .modeCount) (h .sizesAre) (ap (λ (x : State). x .modes) (h .startIs));
+    }
+
+  pub goal-read : (g : Goal) → GoalDecoded (goalPart file count) g → GoalOf file g
+  goal-read g d =
+      let e : GoalDecoded (goalPart file (length (taskOf file .actions))) g = subst (λ (n : ℕ). GoalDecoded (goalPart file n) g) counted d in
+      record {
+        writable = goal-writable (length (taskOf file .variables)) (sizesOf (taskOf file .modes)) g (source-goal-within file bytes (taskOf file) is g e);
+        modes = source-goal-modes file bytes (taskOf file) is g e;
+        conditions = source-goal-conditions file bytes (taskOf file) is g e;
+      }

@@ -1,0 +1,5 @@
+pub mod Declared
+pub mod File
+pub mod Macros
+pub mod Walk
+pub mod WalkLoops

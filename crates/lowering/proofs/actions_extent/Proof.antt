@@ -1,0 +1,75 @@
+-- `lowering::actions_extent` meets its contract: the loop counts the bytes and the stages of each action. Assumes nothing.
+use mathlib.Core.Path.{_≡_, refl, sym, ap, _∙_, subst}
+use Prim.Native.Nat.{ℕ, suc, _+_, _-_, _*_, _<_, _≤_}
+use native.Mathlib.Omega.{arith}
+use denote.Ref.{now}
+use lib.ListN.{length}
+use Rattle.macros.specs.Shapes.{lowerOf, upperOf, stagesIn, macroIn}
+use Rattle.lowering.specs.Lowered.{actionOr}
+use Rattle.lowering.proofs.Walk.{Walk, few-actions, macro-ready, stages-end}
+use Rattle.lowering.proofs.WalkLoops.{Putting, Summing, Finding, putting-start, putting-room, putting-next, putting-end, summing-start, summing-next, summing-end, finding-start, found, finding-next, finding-end}
+use borrow.Author.Needs.{needs}
+use Rattle.lowering.proofs.actions_extent.Statement.{statement}
+use Rattle.lowering.proofs.actions_extent.Tie as tie
+use Rattle.lowering.proofs.actions_extent.Reads as reads
+use Rattle.lowering.proofs.actions_extent.Lts as lts
+use Rattle.lowering.proofs.macro_size.Reads as macro-size-reads
+use Rattle.macros.proofs.stage_count.Reads as stage-count-reads
+use Rattle.source.proofs.decode_action.Reads as decode-action-reads
+
+abbrev Inv-loop : tie.InvT-loop
+Inv-loop file count shape bytes₀ from₀ k₀ bytes from k = Summing file count shape bytes k from
+
+abbrev μ-loop : tie.MeasureT-loop
+μ-loop file count shape bytes₀ from₀ k₀ bytes from k = count - k
+
+loop-holds : tie.Need-loop-holds Inv-loop μ-loop
+loop-holds c = summing-start (c .before .pre)
+
+decode-action-requires : tie.Need-decode-action-requires Inv-loop μ-loop
+decode-action-requires c κs = omega (arith, c .loop-test .taken, few-actions (c .before .loop .inv .walk .held))
+
+macro-size-requires : tie.Need-macro-size-requires Inv-loop μ-loop
+macro-size-requires c κs = macro-ready (c .before .before .loop .inv .walk) (c .before .loop-test .taken) (c .decode-action .result) (c .decode-action .ensures)
+
+add-bytes : tie.Need-add-bytes Inv-loop μ-loop
+add-bytes c = omega (arith, c .before .before .before .loop .inv .small, c .macro-size .ensures .1, c .before .before .loop-test .taken, few-actions (c .before .before .before .loop .inv .walk .held))
+
+stage-count-requires : tie.Need-stage-count-requires Inv-loop μ-loop
+stage-count-requires c κs = search needs
+
+cast-from : tie.Need-cast-from Inv-loop μ-loop
+cast-from c = omega (arith, c .stage-count .ensures .1)
+
+add-from : tie.Need-add-from Inv-loop μ-loop
+add-from c = omega (arith, c .before .before .before .before .loop .inv .walk .high, c .before .before .before .loop-test .taken, few-actions (c .before .before .before .before .loop .inv .walk .held), c .stage-count .ensures .1)
+
+add-k : tie.Need-add-k Inv-loop μ-loop
+add-k c = search needs
+
+loop-less : tie.Need-loop-less Inv-loop μ-loop
+loop-less c = search needs
+
+loop-again : tie.Need-loop-again Inv-loop μ-loop
+loop-again c = summing-next (c .before .before .before .loop-test .taken) (c .before .before .decode-action .result) (c .before .before .decode-action .ensures) (c .stage-count .result) (c .stage-count .ensures .0 (lowerOf (c .before .before .before .before .before .before .args .shape)) (upperOf (c .before .before .before .before .before .before .args .shape))) (c .before .before .before .before .loop .inv) (c .before .macro-size .result) (c .stage-count .ensures .1) (c .before .macro-size .ensures .0) (c .before .macro-size .ensures .1)
+
+returns : tie.Need-returns Inv-loop μ-loop
+returns c = (summing-end (c .before .loop .inv) (c .loop-test .left), omega (arith, c .before .loop .inv .small, c .before .loop .inv .walk .bound, few-actions (c .before .loop .inv .walk .held)), stages-end (c .before .loop .inv .walk) (c .loop-test .left))
+
+pub actions-extent-spec : {M : Type 1} → statement M
+actions-extent-spec =
+    tie.close
+    (tie.spec
+    Inv-loop
+    μ-loop
+    loop-holds
+    decode-action-requires
+    macro-size-requires
+    add-bytes
+    stage-count-requires
+    cast-from
+    add-from
+    add-k
+    loop-less
+    loop-again
+    returns)

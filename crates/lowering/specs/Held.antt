@@ -1,0 +1,67 @@
+-- What is known of an accepted file while its task is lowered.
+-- Assumes nothing.
+use mathlib.Core.Path.{_≡_}
+use Prim.Native.Nat.{ℕ, suc, _≤_}
+use mathlib.Core.List.{List}
+use lib.ListN.{length, take, drop}
+use lib.IntN.{ℤ}
+use Rattle.integers.specs.All.{All}
+use Rattle.integers.specs.Numbers.{Bytes}
+use Rattle.lists.specs.Answer.{given}
+use Rattle.model.specs.Tasks.{SourceVariable, SourceTask, RestrictedAction}
+use Rattle.model.specs.Limits.{sourceLimits, restrictedLimits}
+use Rattle.model.specs.TaskOk.{RestrictedActionOk}
+use Rattle.model.specs.Reading.{commandsOf}
+use Rattle.model.specs.Decoding.{each, draftOf, sourceTaskOf, readSource}
+use Rattle.model.specs.Steps.{lowerBounds, upperBounds, sourceStart}
+use Rattle.model.specs.Stages.{lowerActions, stageCount}
+use Rattle.model.specs.Lowering.{numberedAll}
+use Rattle.actions.specs.declared.Goal.{Goal}
+use Rattle.actions.specs.Views.{pairsIs, goalModesIs, goalConditionsIs}
+use Rattle.source.specs.declared.Shape.{Shape}
+use Rattle.writing.specs.Parts.{Constants, GoalWritable}
+use Rattle.lowering.specs.declared.Declarations.{Declarations}
+
+-- the task of an accepted file
+abbrev pub taskOf : List ℕ → SourceTask
+taskOf file = sourceTaskOf (draftOf (commandsOf sourceLimits file))
+
+-- the file is accepted, has so many actions, and a task of this shape
+pub record Held (file : List ℕ) (count : ℕ) (h : Shape) : Type 0 where
+  pub bytes : Bytes file
+  pub is : readSource file ≡ given (taskOf file)
+  pub counted : count ≡ length (taskOf file .actions)
+  pub variablesAre : h .variables ≡ length (taskOf file .variables)
+  pub modesAre : h .modes ≡ length (taskOf file .modes)
+  pub lowersAre : take (h .variables) (h .lower) ≡ each (λ (b : SourceVariable). b .lower) (taskOf file .variables)
+  pub uppersAre : take (h .variables) (h .upper) ≡ each (λ (b : SourceVariable). b .upper) (taskOf file .variables)
+
+-- besides, the starts and the modes that it declares
+pub record Declares (file : List ℕ) (count : ℕ) (d : Declarations) : Type 0 where
+  pub held : Held file count (d .shape)
+  pub startsLong : length (d .starts) ≡ 8
+  pub startsIn : Constants (d .shape .variables) (d .starts)
+  pub startsAre : take (d .shape .variables) (d .starts) ≡ sourceStart (taskOf file) .values
+  pub modesAre : pairsIs 0 (d .shape .modes) (d .shape .sizes) (d .values) ≡ taskOf file .modes
+
+-- the goal
+pub record GoalOf (file : List ℕ) (g : Goal) : Type 0 where
+  pub writable : GoalWritable g
+  pub modes : goalModesIs g ≡ taskOf file .goalModes
+  pub conditions : goalConditionsIs g ≡ taskOf file .goalConditions
+
+-- ---- what is left of the lowered actions at source action k, whose stages are numbered from `from`
+abbrev pub restAt : List ℕ → ℕ → ℕ → List RestrictedAction
+restAt file from k =
+    numberedAll (length (taskOf file .variables)) (length (taskOf file .modes)) (lowerActions (lowerBounds (taskOf file)) (upperBounds (taskOf file)) from (drop k (taskOf file .actions)))
+
+-- the count of all stages
+abbrev pub stagesOfTask : List ℕ → ℕ
+stagesOfTask file = stageCount (lowerBounds (taskOf file)) (upperBounds (taskOf file)) (taskOf file .actions)
+
+-- actions that keep to the rules on restricted files
+pub record Sound (acts : List RestrictedAction) : Type 0 where
+  pub variables : ℕ
+  pub sizes : List ℕ
+  pub few : length sizes ≤ 8
+  pub ok : All (RestrictedActionOk restrictedLimits variables sizes) acts

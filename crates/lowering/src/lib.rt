@@ -1,0 +1,277 @@
+// The lowering: from a source file the restricted file, written into lent output, and its actions one by one, by value.
+//
+// A file that is refused has no lowered task. The length of the result is counted before anything is written, so that a refusal leaves the
+// output as it was.
+use actions::ADDITIONS;
+use actions::CONDITIONS;
+use actions::Goal;
+use actions::MODE_CONDITIONS;
+use actions::MODE_EFFECTS;
+use actions::RestrictedAction;
+use actions::SourceAction;
+use lists::Written;
+use source::MODES;
+use source::Shape;
+use source::VARIABLES;
+ghost use mathlib.Core.Path.{_≡_};
+ghost use Prim.Native.Nat.{suc, _+_, _<_, _≤_};
+ghost use lib.ListN.{length, getElem?};
+ghost use Rattle.lists.specs.Each.{flat};
+ghost use Rattle.lists.specs.Writing.{Room, Wrote};
+ghost use Rattle.lists.specs.Written.{Lent};
+ghost use Rattle.model.specs.Limits.{sourceLimits};
+ghost use Rattle.model.specs.Reading.{verdictOf};
+ghost use Rattle.model.specs.Lowering.{lowerTask, lowerFile};
+ghost use Rattle.model.specs.Judging.{lowerBytes};
+ghost use Rattle.source.specs.Judged.{AcceptedWith};
+ghost use Rattle.writing.specs.Parts.{actionBytes};
+ghost use Rattle.macros.specs.Shapes.{Lowerable, macroIn};
+ghost use Rattle.lowering.specs.Held.{taskOf, Held, Declares, GoalOf, Sound, stagesOfTask};
+ghost use Rattle.lowering.specs.Lowered.{loweredActionAt, actionOr, answerIs, refusal};
+
+// How many bytes a source action becomes, its stages being numbered from `from`.
+fn macro_size(action: SourceAction, shape: Shape, from: u16) -> usize
+    requires { ⌜ Lowerable shape action × (0 < from) × (from ≤ 1000) × Sound (macroIn shape from action) ⌝ }
+    ensures { λ r. ⌜ (r ≡ length (flat actionBytes (macroIn shape from action))) × (r ≤ 11191) ⌝ }
+{
+    let n = 1 + 3 * macros::stage_count(action);
+    let mut sum: usize = 0;
+    let mut i: usize = 0;
+    while i < n {
+        sum += writing::action_size(macros::macro_action(action, shape, from, i));
+        i += 1;
+    }
+    sum
+}
+
+// What a source action becomes.
+fn put_macro(out: &mut [u8], at: usize, action: SourceAction, shape: Shape, from: u16) -> usize
+    requires { ⌜ Lowerable shape action × (0 < from) × (from ≤ 1000) × Sound (macroIn shape from action) ⌝ }
+    requires { ⌜ Room (now out) at (flat actionBytes (macroIn shape from action)) ⌝ }
+    ensures { λ r. ⌜ Wrote (now (out .entry)) at (flat actionBytes (macroIn shape from action)) (now (out .exit)) r ⌝ }
+{
+    let n = 1 + 3 * macros::stage_count(action);
+    let mut place = at;
+    let mut i: usize = 0;
+    while i < n {
+        place = writing::put_action(out, place, macros::macro_action(action, shape, from, i));
+        i += 1;
+    }
+    place
+}
+
+// What a file declares, by value.
+struct Declarations {
+    shape: Shape,
+    starts: [i64; VARIABLES],
+    values: [u16; MODES],
+}
+
+// How many bytes the actions become, and the size of control: 1 and the count of all stages.
+struct Extent {
+    bytes: usize,
+    control: u16,
+}
+
+fn actions_extent(file: &[u8], count: usize, shape: Shape) -> Extent
+    requires { ⌜ Held (now file) count shape ⌝ }
+    ensures { λ r. ⌜ (r .bytes ≡ length (flat actionBytes (lowerTask (taskOf (now (file .entry))) .actions))) × (r .bytes ≤ 400000) × (r .control ≡ suc (stagesOfTask (now (file .entry)))) ⌝ }
+{
+    let mut bytes: usize = 0;
+    let mut from: u16 = 1;
+    let mut k: usize = 0;
+    while k < count {
+        let action = source::decode_action(file, k);
+        bytes += macro_size(action, shape, from);
+        from += macros::stage_count(action) as u16;
+        k += 1;
+    }
+    Extent {
+        bytes,
+        control: from,
+    }
+}
+
+// What all actions become.
+fn put_actions(out: &mut [u8], at: usize, file: &[u8], count: usize, shape: Shape) -> usize
+    requires { ⌜ Held (now file) count shape ⌝ }
+    requires { ⌜ Room (now out) at (flat actionBytes (lowerTask (taskOf (now file)) .actions)) ⌝ }
+    ensures { λ r. ⌜ Wrote (now (out .entry)) at (flat actionBytes (lowerTask (taskOf (now (file .entry))) .actions)) (now (out .exit)) r ⌝ }
+{
+    let mut place = at;
+    let mut from: u16 = 1;
+    let mut k: usize = 0;
+    while k < count {
+        let action = source::decode_action(file, k);
+        place = put_macro(out, place, action, shape, from);
+        from += macros::stage_count(action) as u16;
+        k += 1;
+    }
+    place
+}
+
+// What an accepted file with so many actions declares.
+fn read_declarations(file: &[u8], count: usize) -> Declarations
+    requires { ⌜ AcceptedWith (verdictOf sourceLimits (now file)) count ⌝ }
+    ensures { λ r. ⌜ Declares (now (file .entry)) count r ⌝ }
+{
+    let mut lower = [0i64; VARIABLES];
+    let mut upper = [0i64; VARIABLES];
+    let mut starts = [0i64; VARIABLES];
+    let mut sizes = [0u16; MODES];
+    let mut values = [0u16; MODES];
+    let declared = declarations::read_source(
+        file,
+        &mut lower,
+        &mut upper,
+        &mut starts,
+        &mut sizes,
+        &mut values,
+    );
+    let shape = Shape {
+        variables: declared.variables,
+        lower,
+        upper,
+        modes: declared.modes,
+        sizes,
+    };
+    Declarations {
+        shape,
+        starts,
+        values,
+    }
+}
+
+// The goal of an accepted file with so many actions.
+fn read_goal(file: &[u8], count: usize) -> Goal
+    requires { ⌜ AcceptedWith (verdictOf sourceLimits (now file)) count ⌝ }
+    ensures { λ r. ⌜ GoalOf (now (file .entry)) r ⌝ }
+{
+    actions::decode_goal(actions::goal_bytes(file, count))
+}
+
+// The lowered task's file, from the front of output that has room for it.
+fn put_task(
+    out: &mut [u8],
+    file: &[u8],
+    count: usize,
+    declared: Declarations,
+    goal: Goal,
+    control: u16,
+) -> usize
+    requires { ⌜ Declares (now file) count declared × GoalOf (now file) goal × (control ≡ suc (stagesOfTask (now file))) ⌝ }
+    requires { ⌜ Room (now out) 0 (lowerFile (taskOf (now file))) ⌝ }
+    ensures { λ r. ⌜ Wrote (now (out .entry)) 0 (lowerFile (taskOf (now (file .entry)))) (now (out .exit)) r ⌝ }
+{
+    let shape = declared.shape;
+    let starts = declared.starts;
+    let values = declared.values;
+    let sizes = shape.sizes;
+    let modes = writing::put_starts(out, 0, shape.variables, &starts);
+    let first = writing::put_modes(out, modes, shape.modes, &sizes, &values, control);
+    let end = put_actions(out, first, file, count, shape);
+    writing::put_goal(out, end, goal, shape.modes as u8)
+}
+
+// The lowered task of an accepted file with so many actions.
+fn lower_accepted(file: &[u8], count: usize, out: &mut [u8]) -> Written
+    requires { ⌜ AcceptedWith (verdictOf sourceLimits (now file)) count ⌝ }
+    ensures { λ r. ⌜ Lent (now (out .entry)) (lowerBytes (now (file .entry))) (now (out .exit)) r ⌝ }
+{
+    let declared = read_declarations(file, count);
+    let goal = read_goal(file, count);
+    let shape = declared.shape;
+    let extent = actions_extent(file, count, shape);
+    let heads = 5 * (shape.variables + 2) + 5 * (shape.modes + 1);
+    let need = heads + extent.bytes + writing::goal_size(goal);
+    if out.len() < need {
+        return Written::Refused(8, need as u64);
+    }
+    put_task(out, file, count, declared, goal, extent.control);
+    Written::Bytes(need)
+}
+
+// The lowered task's file, written into lent output.
+pub fn lower(file: &[u8], out: &mut [u8]) -> Written
+    ensures { λ r. ⌜ Lent (now (out .entry)) (lowerBytes (now (file .entry))) (now (out .exit)) r ⌝ }
+{
+    match tasks::check_source(file) {
+        tasks::Verdict::Rejected(number, place) => Written::Refused(number, place),
+        tasks::Verdict::Accepted(_, _, actions) => lower_accepted(file, actions as usize, out),
+    }
+}
+
+// Whether an action of the lowered task is given, or what refuses it.
+pub enum LoweredVerdict {
+    Given,
+    Refused(u8, u64),
+}
+
+// With it the action; on a refusal it says nothing.
+pub struct LoweredAnswer {
+    pub verdict: LoweredVerdict,
+    pub action: RestrictedAction,
+}
+
+fn no_action(number: u8, place: u64) -> LoweredAnswer
+    ensures { λ r. ⌜ answerIs r ≡ refusal number place ⌝ }
+{
+    LoweredAnswer {
+        verdict: LoweredVerdict::Refused(number, place),
+        action: RestrictedAction {
+            condition_count: 0,
+            condition_variables: [0; CONDITIONS],
+            condition_relations: [0; CONDITIONS],
+            condition_constants: [0; CONDITIONS],
+            mode_condition_count: 0,
+            mode_condition_modes: [0; MODE_CONDITIONS],
+            mode_condition_values: [0; MODE_CONDITIONS],
+            mode_effect_count: 0,
+            mode_effect_modes: [0; MODE_EFFECTS],
+            mode_effect_values: [0; MODE_EFFECTS],
+            addition_count: 0,
+            addition_variables: [0; ADDITIONS],
+            addition_amounts: [0; ADDITIONS],
+        },
+    }
+}
+
+// Action i of the lowered task of an accepted file with so many actions and a shape.
+fn find_action(file: &[u8], count: usize, shape: Shape, i: usize) -> LoweredAnswer
+    requires { ⌜ Held (now file) count shape ⌝ }
+    ensures { λ r. ⌜ answerIs r ≡ actionOr i (getElem? (lowerTask (taskOf (now (file .entry))) .actions) i) ⌝ }
+{
+    let mut left = i;
+    let mut from: u16 = 1;
+    let mut k: usize = 0;
+    while k < count {
+        let action = source::decode_action(file, k);
+        let stages = macros::stage_count(action);
+        let n = 1 + 3 * stages;
+        if left < n {
+            return LoweredAnswer {
+                verdict: LoweredVerdict::Given,
+                action: macros::macro_action(action, shape, from, left),
+            };
+        }
+        left -= n;
+        from += stages as u16;
+        k += 1;
+    }
+    no_action(11, i as u64)
+}
+
+// Action k of the lowered task, by value: the task's refusals first, then 11 with place k where there is no action k.
+pub fn lowered_action(file: &[u8], k: usize) -> LoweredAnswer
+    ensures { λ r. ⌜ answerIs r ≡ loweredActionAt (now (file .entry)) k ⌝ }
+{
+    match tasks::check_source(file) {
+        tasks::Verdict::Rejected(number, place) => no_action(number, place),
+        tasks::Verdict::Accepted(_, _, actions) => {
+            let count = actions as usize;
+            let declared = read_declarations(file, count);
+            let shape = declared.shape;
+            find_action(file, count, shape, k)
+        }
+    }
+}

@@ -1,0 +1,89 @@
+-- The stages of an effect by number.
+-- Assumes nothing.
+use mathlib.Core.Path.{_≡_, refl, sym, ap, _∙_, subst}
+use mathlib.Core.Option.{Option, some}
+use mathlib.Core.List.{List, [], _∷_}
+use Prim.Native.Nat.{ℕ, zero, suc, min, _+_, _*_, _≤_, _<_}
+use native.Mathlib.Omega.{arith}
+use lib.ListN.{length, getD, getElem?, take, length-take}
+use lib.Seq.{take-nil}
+use lib.IntN.{ℤ}
+use Rattle.model.specs.Decoding.{each}
+use Rattle.model.proofs.ReadingLaws.{length-each}
+use Rattle.model.specs.Stages.{Stage, drain, refill, drainTerms}
+use Rattle.model.specs.Limits.{sourceLimits}
+use Rattle.model.specs.TaskOk.{InRange, AmountOk, EffectOk}
+use Rattle.integers.specs.All.{All}
+use Rattle.actions.specs.declared.Effect.{Effect as DecodedEffect}
+use Rattle.actions.specs.declared.Effect.the-variants.{None, Add, Linear, Quotient, Residue}
+use Rattle.actions.specs.declared.Term.{Term}
+use Rattle.actions.specs.Views.{termIs, termsIs, effectIs}
+use Rattle.macros.specs.Shapes.{Moderate}
+use Rattle.macros.specs.Stages.{WeightsSmall}
+
+-- ---- the stages of an L
+module _ (rest : List Stage) where
+  pub drain-at : (ts : List (ℕ × ℤ)) (i j : ℕ) (d : ℕ × ℤ) → j ≡ 2 * i → i < length ts → getElem? (drainTerms ts rest) j ≡ some (drain (getD ts i d .0) (getD ts i d .1))
+  drain-at [] i j d e h = absurd (omega arith)
+  drain-at (t ∷ ts) zero j d e h = let z : j ≡ zero = omega arith in rw z
+  drain-at (t ∷ ts) (suc i) j d e h = let z : j ≡ suc (suc (2 * i)) = omega arith in rw z (drain-at ts i (2 * i) d refl (omega arith))
+
+  pub refill-at : (ts : List (ℕ × ℤ)) (i j : ℕ) (d : ℕ × ℤ) → j ≡ 2 * i + 1 → i < length ts → getElem? (drainTerms ts rest) j ≡ some (refill (getD ts i d .0))
+  refill-at [] i j d e h = absurd (omega arith)
+  refill-at (t ∷ ts) zero j d e h = let z : j ≡ suc zero = omega arith in rw z
+  refill-at (t ∷ ts) (suc i) j d e h = let z : j ≡ suc (suc (2 * i + 1)) = omega arith in rw z (refill-at ts i (2 * i + 1) d refl (omega arith))
+
+  pub past-terms : (ts : List (ℕ × ℤ)) (j i : ℕ) → j ≡ 2 * length ts + i → getElem? (drainTerms ts rest) j ≡ getElem? rest i
+  past-terms [] j i e = let z : j ≡ i = omega arith in rw z
+  past-terms (t ∷ ts) j i e = let z : j ≡ suc (suc (2 * length ts + i)) = omega arith in rw z (past-terms ts (2 * length ts + i) i refl)
+
+  pub drained-length : (ts : List (ℕ × ℤ)) → length (drainTerms ts rest) ≡ 2 * length ts + length rest
+  drained-length [] = omega arith
+  drained-length (t ∷ ts) = let e = drained-length ts in omega arith
+
+-- ---- its terms
+pub terms-length : (k : ℕ) (terms : List Term) → length (termsIs k terms) ≡ min k (length terms)
+terms-length k terms = length-each termIs (take k terms) ∙ length-take k terms
+
+pub term-at : (k : ℕ) (terms : List Term) (i : ℕ) (d : ℕ × ℤ) (e : Term) → i < k → i < length terms → getD (termsIs k terms) i d ≡ termIs (getD terms i e)
+term-at k [] i d e h l = absurd (omega arith)
+term-at zero (t ∷ ts) i d e h l = absurd (omega arith)
+term-at (suc k) (t ∷ ts) zero d e h l = refl
+term-at (suc k) (t ∷ ts) (suc i) d e h l = term-at k ts i d e (omega arith) (omega arith)
+
+-- as many as there is room for are all
+pub room-of-terms : (room k r : ℕ) (terms : List Term) → length terms ≡ room → r ≡ min room k → termsIs r terms ≡ termsIs k terms
+room-of-terms room k r terms l e = ap (each termIs) (ap (λ (z : ℕ). take z terms) e ∙ take-room room k terms l)
+  where
+    take-room : {A : Type 0} (room k : ℕ) (xs : List A) → length xs ≡ room → take (min room k) xs ≡ take k xs
+    take-room room k [] l = take-nil (min room k) ∙ sym (take-nil k)
+    take-room room zero (x ∷ xs) l = let z : min room zero ≡ zero = omega arith in rw z
+    take-room room (suc k) (x ∷ xs) l =
+        let z : min room (suc k) ≡ suc (min (length xs) k) = omega arith in
+        rw z (ap (λ w. x ∷ w) (take-room (length xs) k xs refl))
+
+-- ---- the numbers of an effect that keeps to the rules
+pub moderate : (n : ℕ) (e : DecodedEffect) (ts : List (ℕ × ℤ)) → EffectOk sourceLimits n (effectIs e ts) → Moderate e
+moderate n None ts h = tt
+moderate n (Add t c) ts h = h .1
+moderate n (Linear t w) ts h = h .1
+moderate n (Quotient t y c) ts h = h .2
+moderate n (Residue t y c) ts h = h .2
+
+all-at : {A : Type 0} (P : A → Type 0) (xs : List A) (i : ℕ) (d : A) → All P xs → i < length xs → P (getD xs i d)
+all-at P [] i d h l = absurd (omega arith)
+all-at P (x ∷ xs) zero d (p, ps) l = p
+all-at P (x ∷ xs) (suc i) d (p, ps) l = all-at P xs i d ps (omega arith)
+
+pub weights-small : (n k : ℕ) (terms : List Term) → k ≤ length terms → All (AmountOk sourceLimits n) (termsIs k terms) → WeightsSmall k terms
+weights-small n k terms f h i d l =
+    let few : i < length (termsIs k terms) = omega (arith, terms-length k terms) in
+    let ok : AmountOk sourceLimits n (getD (termsIs k terms) i (termIs d)) = all-at (AmountOk sourceLimits n) (termsIs k terms) i (termIs d) h few in
+    let at : AmountOk sourceLimits n (termIs (getD terms i d)) = subst (AmountOk sourceLimits n) (term-at k terms i (termIs d) d l (omega arith)) ok in
+    at .1 .1
+
+-- the same stages, their numbers said in another way
+pub same-stages : (S : ℤ → ℤ → ℤ → List Stage) (j : ℕ) {c c′ lower lower′ upper upper′ : ℤ} (x : Option Stage) → c ≡ c′ → lower ≡ lower′ → upper ≡ upper′
+    → getElem? (S c lower upper) j ≡ x → getElem? (S c′ lower′ upper′) j ≡ x
+same-stages S j {c} {c′} {lower} {lower′} {upper} {upper′} x e f g h =
+    sym (ap (λ (z : ℤ). getElem? (S z lower upper) j) e ∙ ap (λ (z : ℤ). getElem? (S c′ z upper) j) f ∙ ap (λ (z : ℤ). getElem? (S c′ lower′ z) j) g) ∙ h

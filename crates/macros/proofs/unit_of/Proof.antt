@@ -1,0 +1,25 @@
+-- `macros::unit_of` meets its contract. Assumes nothing.
+use mathlib.Core.Path.{_≡_, refl, sym, ap, _∙_}
+use mir.Facts.{toZ-ofZ}
+use mir.Syntax.{w64}
+use mir.Val.{SFits, toZ}
+use lib.Dec.{lit≤}
+use lib.IntN.{ℤ, pos, _-ℤ_}
+use Rattle.macros.proofs.Numbers.{zero-minus, minus-fits, unit-positive, unit-negative, sign-negative, sign-positive}
+use borrow.Author.Needs.{needs}
+use Rattle.macros.proofs.unit_of.Statement.{statement}
+use Rattle.macros.proofs.unit_of.Tie as tie
+use Rattle.macros.proofs.unit_of.Reads as reads
+use Rattle.macros.proofs.unit_of.Lts as lts
+
+returns : tie.Need-returns
+returns c = simp (toZ-ofZ, c .before .fits .c) (unit-positive (c .before .args .c) (c .before .pre) (simp (toZ-ofZ, c .before .fits .c) at (c .if1 .taken)))
+
+sub-result : tie.Need-sub-result
+sub-result c = simp (toZ-ofZ, c .before .fits .c) (minus-fits (c .before .args .c) (c .before .pre .1))
+
+returns-2 : tie.Need-returns-2
+returns-2 c = simp (toZ-ofZ, c .before .fits .c, minus-fits (c .before .args .c) (c .before .pre .1)) (unit-negative (c .before .args .c) (c .before .pre) (simp (toZ-ofZ, c .before .fits .c) at (c .if1 .left)))
+
+pub unit-of-spec : {M : Type 1} → statement M
+unit-of-spec = tie.close (tie.spec returns sub-result returns-2)

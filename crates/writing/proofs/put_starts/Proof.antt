@@ -1,0 +1,40 @@
+-- `writing::put_starts` meets its contract: its parts are written one after another. Assumes nothing.
+use mathlib.Core.Path.{_≡_, refl, sym, ap, _∙_}
+use denote.Ref.{now}
+use lib.ListN.{take}
+use lib.IntN.{pos}
+use Rattle.actions.specs.Views.{pairsIs}
+use Rattle.lists.proofs.Writing.{step, done, room}
+use Rattle.writing.proofs.Parts.{starts-begun, modes-begun}
+use borrow.Author.Needs.{needs}
+use Rattle.writing.proofs.put_starts.Statement.{statement}
+use Rattle.writing.proofs.put_starts.Tie as tie
+use Rattle.writing.proofs.put_starts.Reads as reads
+use Rattle.writing.proofs.put_starts.Lts as lts
+use Rattle.writing.proofs.put_command.Reads as put-command-reads
+use Rattle.writing.proofs.put_declared_starts.Reads as put-declared-starts-reads
+
+put-declared-starts-requires : tie.Need-put-declared-starts-requires
+put-declared-starts-requires c κs = (c .before .before .pre .0, (c .before .before .pre .1 .0, room (c .before .before .pre .1 .1) (starts-begun _ _ (take (c .before .before .args .n) (now (c .before .before .args .starts))) (pos 0) (pos 0))))
+
+put-command-requires : tie.Need-put-command-requires
+put-command-requires c κs = room (c .before .before .before .before .before .before .pre .1 .1) (step (starts-begun _ _ (take (c .before .before .before .before .before .before .args .n) (now (c .before .before .before .before .before .before .args .starts))) (pos 0) (pos 0)) (c .before .before .before .put-declared-starts .ensures))
+
+put-command-requires-2 : tie.Need-put-command-requires-2
+put-command-requires-2 c κs = room (c .before .before .before .before .before .before .before .before .before .before .pre .1 .1) (step (step (starts-begun _ _ (take (c .before .before .before .before .before .before .before .before .before .before .args .n) (now (c .before .before .before .before .before .before .before .before .before .before .args .starts))) (pos 0) (pos 0)) (c .before .before .before .before .before .before .before .put-declared-starts .ensures)) (c .before .before .before .put-command .ensures))
+
+same-length : tie.Need-same-length
+same-length c = search needs
+
+returns : tie.Need-returns
+returns c = done (step (step (step (starts-begun _ _ (take (c .before .before .before .before .before .before .before .before .before .before .before .before .before .args .n) (now (c .before .before .before .before .before .before .before .before .before .before .before .before .before .args .starts))) (pos 0) (pos 0)) (c .before .before .before .before .before .before .before .before .before .before .put-declared-starts .ensures)) (c .before .before .before .before .before .before .put-command .ensures)) (c .before .before .put-command2 .ensures))
+
+pub put-starts-spec : {M : Type 1} → statement M
+put-starts-spec =
+    tie.close
+    (tie.spec
+    put-declared-starts-requires
+    put-command-requires
+    put-command-requires-2
+    same-length
+    returns)
