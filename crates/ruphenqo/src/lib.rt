@@ -7,7 +7,7 @@ ghost use Rattle.lists.specs.Written.{answerOf};
 ghost use Rattle.model.specs.Limits.{sourceLimits, restrictedLimits};
 ghost use Rattle.model.specs.Reading.{verdictOf};
 ghost use Rattle.model.specs.ActionBytes.{actionPlace};
-ghost use Rattle.model.specs.Judging.{judgeSource, judgeRestricted, stepRestrictedAlone, stepSourceAlone, priceStep, pricePlan, expandBytes, projectBytes};
+ghost use Rattle.model.specs.Judging.{judgeSource, judgeRestricted, stepRestrictedAlone, stepSourceAlone, priceStep, pricePlan, lowerBytes, expandBytes, projectBytes};
 ghost use Rattle.model.specs.Listing.{listing};
 ghost use Rattle.tasks.specs.Views.{verdictIs};
 ghost use Rattle.actions.specs.Places.{placedIs};
@@ -301,6 +301,20 @@ fn tell_written(written: lists::Written, length: &mut u64, place: &mut u64) -> u
             0
         }
     }
+}
+
+// The lowered task's file, written into lent output.
+#[no_mangle]
+pub extern "C" fn ruphenqo_lower(
+    task: &[u8],
+    out: &mut [u8],
+    length: &mut u64,
+    place: &mut u64,
+) -> u32
+    ensures { λ r. ⌜ Told (lent (now (out .entry)) (lowerBytes (now (task .entry))) .0) itself (now (length .entry)) r (now (place .exit)) (now (length .exit)) ⌝ }
+    ensures { λ _. ⌜ now (out .exit) ≡ lent (now (out .entry)) (lowerBytes (now (task .entry))) .1 ⌝ }
+{
+    tell_written(lowering::lower(task, out), length, place)
 }
 
 // The expansion of a source plan, written into lent output.
