@@ -32,7 +32,7 @@ pub fn is_between(lower: i64, value: i64, upper: i64) -> bool
 }
 
 // |z|, for every z, the least included.
-fn magnitude(z: i64) -> u64
+pub fn magnitude(z: i64) -> u64
     ensures { λ r. ⌜ r ≡ natAbs z ⌝ }
 {
     if 0 <= z {

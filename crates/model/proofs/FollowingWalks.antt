@@ -44,6 +44,15 @@ agreeing-few (k ∷ ks) (j ∷ q) = go (eqb k j) (agreeing-few ks q)
     go true h = omega arith
     go false h = omega arith
 
+pub agreeing-there : (ks q : List ℕ) → agreeing ks q ≤ length q
+agreeing-there [] q = omega arith
+agreeing-there (k ∷ ks) [] = omega arith
+agreeing-there (k ∷ ks) (j ∷ q) = go (eqb k j) (agreeing-there ks q)
+  where
+    go : (b : Bool) → agreeing ks q ≤ length q → cond b (suc (agreeing ks q)) zero ≤ suc (length q)
+    go true h = omega arith
+    go false h = omega arith
+
 -- two lists one behind the other: past the first, or short of its end
 pub agreeing-past : (ks ls q : List ℕ) → agreeing ks q ≡ length ks → agreeing (ks ++ ls) q ≡ length ks + agreeing ls (drop (length ks) q)
 agreeing-past [] ls q e = sym (zero-add (agreeing ls q))

@@ -1,19 +1,20 @@
--- The laws of a plan's agreement with a run, counted four numbers at a time and then one at a time; and with lists, part by part.
+-- The laws of a plan's agreement with a run, counted four numbers at a time and then one at a time.
 -- Assumes nothing.
-use mathlib.Core.Path.{_≡_, refl, sym, ap, _∙_}
+use mathlib.Core.Path.{_≡_, refl, ap, _∙_}
 use Prim.Native.Nat.{ℕ, zero, suc, min, _+_, _*_, _-_, _/_, _≤_, _<_}
 use native.Mathlib.Nat.{zero-add}
 use native.Mathlib.Numerals.{add-one}
 use native.Mathlib.Omega.{arith}
-use mathlib.Core.Bool.{Bool, true, false, cond}
-use mathlib.Core.List.{List, [], _∷_, _++_}
+use mathlib.Core.Bool.{cond}
+use mathlib.Core.List.{List, [], _∷_}
 use lib.Dec.{eqb}
 use lib.ListN.{length, getD, drop, replicate, length-drop}
 use lib.Seq.{getD-drop, drop-cons}
-use borrow.Author.Tests.{eqb-true, eq-eqb, ne-eqb}
+use borrow.Author.Tests.{eq-eqb, ne-eqb}
 use Rattle.lists.specs.Numbers.{halves}
 use Rattle.lists.proofs.Numbers.{length-halves}
-use Rattle.planbytes.specs.Agreeing.{agreeing, numberAt, Passed}
+use Rattle.model.specs.Following.{agreeing}
+use Rattle.planbytes.specs.Agreeing.{numberAt, Passed}
 use Rattle.planbytes.proofs.Halves.{half-at}
 
 -- ---- a plan's numbers from step `at` on
@@ -29,21 +30,18 @@ module _ {k : ℕ} {xs : List ℕ} {m : ℕ} where
   passed-start h = let e : m - 0 ≡ m = omega arith in record { room = h; bound = omega arith; same = rw (e, zero-add) }
 
   pub passed-next : {i : ℕ} → Passed k xs m i → i < m → getD xs i 0 ≡ k → Passed k xs m (i + 1)
-  unfolding agreeing
   passed-next {i} p l e =
       let f : m - i ≡ suc (m - (i + 1)) = omega arith in
       let g : agreeing (replicate (m - i) k) (drop i xs) ≡ suc (agreeing (replicate (m - (i + 1)) k) (drop (i + 1) xs)) = rw (f, drop-cons xs i 0 (omega (arith, p .room)), e, eq-eqb k k refl, add-one) in
       record { room = p .room; bound = omega arith; same = omega (arith, g, p .same) }
 
   pub passed-stop : {i : ℕ} → Passed k xs m i → i < m → (k ≡ getD xs i 0 → ⊥) → i ≡ agreeing (replicate m k) xs
-  unfolding agreeing
   passed-stop {i} p l n =
       let f : m - i ≡ suc (m - (i + 1)) = omega arith in
       let g : agreeing (replicate (m - i) k) (drop i xs) ≡ 0 = rw (f, drop-cons xs i 0 (omega (arith, p .room)), ne-eqb k (getD xs i 0) n) in
       omega (arith, g, p .same)
 
   pub passed-end : {i : ℕ} → Passed k xs m i → m ≤ i → i ≡ agreeing (replicate m k) xs
-  unfolding agreeing
   passed-end {i} p h =
       let f : m - i ≡ 0 = omega arith in
       let g : agreeing (replicate (m - i) k) (drop i xs) ≡ 0 = rw f in
@@ -51,7 +49,6 @@ module _ {k : ℕ} {xs : List ℕ} {m : ℕ} where
 
 -- a run that is longer than the plan agrees no further
 pub as-far-as-there-is : (k n : ℕ) (xs : List ℕ) → agreeing (replicate (min n (length xs)) k) xs ≡ agreeing (replicate n k) xs
-unfolding agreeing
 as-far-as-there-is k zero xs = let e : min 0 (length xs) ≡ 0 = omega arith in rw e
 as-far-as-there-is k (suc n) [] = let e : min (suc n) 0 ≡ 0 = omega arith in rw e
 as-far-as-there-is k (suc n) (x ∷ xs) =
@@ -90,66 +87,3 @@ passed-four {k} {xs} {m} {i} p l f =
     let p₂ = rw e₂ at (passed-next p₁ (omega arith) (f .second)) in
     let p₃ = rw e₃ at (passed-next p₂ (omega arith) (f .third)) in
     rw e₄ at (passed-next p₃ (omega arith) (f .fourth))
-
--- ---- agreement with a list of two parts
-pub agreeing-none : (ys : List ℕ) → agreeing [] ys ≡ 0
-unfolding agreeing
-agreeing-none ys = refl
-
-pub agreeing-few : (xs ys : List ℕ) → agreeing xs ys ≤ length xs
-unfolding agreeing
-agreeing-few [] ys = omega arith
-agreeing-few (a ∷ xs) [] = omega arith
-agreeing-few (a ∷ xs) (b ∷ ys) = go (eqb a b) (agreeing-few xs ys)
-  where
-    go : (t : Bool) → agreeing xs ys ≤ length xs → cond t (suc (agreeing xs ys)) 0 ≤ suc (length xs)
-    go true h = omega arith
-    go false h = omega arith
-
-pub agreeing-there : (xs ys : List ℕ) → agreeing xs ys ≤ length ys
-unfolding agreeing
-agreeing-there [] ys = omega arith
-agreeing-there (a ∷ xs) [] = omega arith
-agreeing-there (a ∷ xs) (b ∷ ys) = go (eqb a b) (agreeing-there xs ys)
-  where
-    go : (t : Bool) → agreeing xs ys ≤ length ys → cond t (suc (agreeing xs ys)) 0 ≤ suc (length ys)
-    go true h = omega arith
-    go false h = omega arith
-
--- where the first part does not agree whole, it decides
-pub agreeing-stops : (xs zs ys : List ℕ) → agreeing xs ys < length xs → agreeing (xs ++ zs) ys ≡ agreeing xs ys
-unfolding agreeing
-agreeing-stops [] zs ys h = absurd (omega arith)
-agreeing-stops (a ∷ xs) zs [] h = refl
-agreeing-stops (a ∷ xs) zs (b ∷ ys) h = go (eqb a b) h (agreeing-stops xs zs ys)
-  where
-    go : (t : Bool) → cond t (suc (agreeing xs ys)) 0 < suc (length xs) → (agreeing xs ys < length xs → agreeing (xs ++ zs) ys ≡ agreeing xs ys) → cond t (suc (agreeing (xs ++ zs) ys)) 0 ≡ cond t (suc (agreeing xs ys)) 0
-    go true l ih = ap suc (ih (omega arith))
-    go false l ih = refl
-
--- where it does, the second part goes on behind it
-pub agreeing-goes-on : (xs zs ys : List ℕ) → agreeing xs ys ≡ length xs → agreeing (xs ++ zs) ys ≡ length xs + agreeing zs (drop (length xs) ys)
-unfolding agreeing
-agreeing-goes-on [] zs ys h = omega arith
-agreeing-goes-on (a ∷ xs) zs [] h = absurd (omega arith)
-agreeing-goes-on (a ∷ xs) zs (b ∷ ys) h = go (eqb a b) h (agreeing-goes-on xs zs ys)
-  where
-    go : (t : Bool) → cond t (suc (agreeing xs ys)) 0 ≡ suc (length xs) → (agreeing xs ys ≡ length xs → agreeing (xs ++ zs) ys ≡ length xs + agreeing zs (drop (length xs) ys))
-        → cond t (suc (agreeing (xs ++ zs) ys)) 0 ≡ suc (length xs) + agreeing zs (drop (length xs) ys)
-    go true e ih = let g = ih (omega arith) in omega arith
-    go false e ih = absurd (omega arith)
-
--- a list that agrees whole with the front of another is that front
-pub agreed : (xs ys : List ℕ) → agreeing xs ys ≡ length xs → ys ≡ xs ++ drop (length xs) ys
-unfolding agreeing
-agreed [] ys h = refl
-agreed (a ∷ xs) [] h = absurd (omega arith)
-agreed (a ∷ xs) (b ∷ ys) h = go (eqb a b) refl (agreed xs ys)
-  where
-    go : (t : Bool) → eqb a b ≡ t → (agreeing xs ys ≡ length xs → ys ≡ xs ++ drop (length xs) ys) → b ∷ ys ≡ a ∷ (xs ++ drop (length xs) ys)
-    go true e ih =
-        let g : suc (agreeing xs ys) ≡ suc (length xs) = rw e at h in
-        let r = ih (omega arith) in
-        let q = sym (eqb-true a b e) in
-        λ i. q i ∷ r i
-    go false e ih = let g : 0 ≡ suc (length xs) = rw e at h in absurd (omega arith)

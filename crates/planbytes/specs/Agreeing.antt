@@ -1,17 +1,10 @@
--- How far two lists of numbers agree, and how far a plan agrees with a run of one number.
+-- How far a plan agrees with a run of one number.
 -- Assumes nothing.
 use mathlib.Core.Path.{_≡_}
-use Prim.Native.Nat.{ℕ, suc, _+_, _*_, _-_, _<_, _≤_}
-use mathlib.Core.Bool.{cond}
-use mathlib.Core.List.{List, [], _∷_}
-use lib.Dec.{eqb}
+use Prim.Native.Nat.{ℕ, _+_, _*_, _-_, _<_, _≤_}
+use mathlib.Core.List.{List}
 use lib.ListN.{length, getD, drop, replicate}
-
--- the length of the common front of two lists
-unfoldable pub agreeing : List ℕ → List ℕ → ℕ
-agreeing [] ys = 0
-agreeing (a ∷ xs) [] = 0
-agreeing (a ∷ xs) (b ∷ ys) = cond (eqb a b) (suc (agreeing xs ys)) 0
+use Rattle.model.specs.Following.{agreeing}
 
 -- the number in the two bytes from a place on; it has 16 bits
 abbrev pub numberAt : List ℕ → ℕ → ℕ

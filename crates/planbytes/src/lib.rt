@@ -4,7 +4,8 @@ ghost use mathlib.Core.Path.{_≡_};
 ghost use Prim.Native.Nat.{min, _+_, _*_, _<_, _≤_};
 ghost use lib.ListN.{length, getD, drop, replicate};
 ghost use Rattle.model.specs.Plans.{planNumbers};
-ghost use Rattle.planbytes.specs.Agreeing.{agreeing, numberAt, Small, fourAt, Passed};
+ghost use Rattle.model.specs.Following.{agreeing};
+ghost use Rattle.planbytes.specs.Agreeing.{numberAt, Small, fourAt, Passed};
 ghost use Rattle.planbytes.specs.Counted.{countedIs, countOf};
 
 // What the bytes of a plan are: so many steps, or the refusal 10 with their length.

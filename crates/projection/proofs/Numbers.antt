@@ -16,32 +16,15 @@ use Rattle.model.specs.Systems.{orEmpty}
 use Rattle.model.specs.Stages.{macro, macroSize, opening, lowerActions, stagesOf}
 use Rattle.model.specs.Lowering.{lowerTask}
 use Rattle.model.specs.Expansion.{openedValues, stageWalk, priceOfEffect}
-use Rattle.model.specs.Following.{agreeing, ifAny, makesMacro, macroNumbers, opens}
+use Rattle.model.specs.Following.{ifAny, makesMacro, macroNumbers, opens}
 use Rattle.model.proofs.MacroPlace.{macro-length}
 use Rattle.model.proofs.LoweredOk.{write-length}
-use Rattle.planbytes.specs.Agreeing.{agreeing as agreeingFront}
 use Rattle.actions.specs.declared.Effect.{Effect as DecodedEffect}
 use Rattle.actions.specs.declared.Effect.the-variants.{None, Add, Linear, Quotient, Residue}
 use Rattle.actions.specs.Views.{effectIs, fittingEffect}
 use Rattle.runs.specs.Strokes.{strokesOf, macroSteps, stepNumbers}
 use Rattle.runs.proofs.Walks.{walk-is, steps-length, price-is}
 use Rattle.projection.specs.Following.{opensIn}
-
--- ---- how far two lists agree
-pub front-is : (xs ys : List ℕ) → agreeingFront xs ys ≡ agreeing xs ys
-unfolding agreeingFront
-front-is [] ys = refl
-front-is (a ∷ xs) [] = refl
-front-is (a ∷ xs) (b ∷ ys) = ap (λ (n : ℕ). cond (eqb a b) (suc n) 0) (front-is xs ys)
-
-pub front-short : (xs ys : List ℕ) → agreeing xs ys ≤ length ys
-front-short [] ys = omega arith
-front-short (a ∷ xs) [] = omega arith
-front-short (a ∷ xs) (b ∷ ys) = go (eqb a b) (front-short xs ys)
-  where
-    go : (c : Bool) → agreeing xs ys ≤ length ys → cond c (suc (agreeing xs ys)) zero ≤ suc (length ys)
-    go true h = omega arith
-    go false h = omega arith
 
 -- ---- the numbers of a step
 pub numbers-length : (o : ℕ) (e : Effect) (v : ℕ → ℤ) → length (stepNumbers o (strokesOf e v)) ≡ priceOfEffect e v

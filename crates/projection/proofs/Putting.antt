@@ -28,7 +28,8 @@ use Rattle.source.specs.Step.{state, actionIs, Tried}
 use Rattle.projection.specs.Sources.{entryAt}
 use Rattle.projection.specs.Following.{opensIn, Lowered, Placed}
 use Rattle.projection.specs.Projecting.{projected, Projectable, SourcesPut}
-use Rattle.projection.proofs.Numbers.{front-short, numbers-length}
+use Rattle.model.proofs.FollowingWalks.{agreeing-there}
+use Rattle.projection.proofs.Numbers.{numbers-length}
 use Rattle.projection.proofs.Turn.{at-the-end, stays-sound, strays-here, fits-here, Behind, numbersHere, turns}
 
 -- ---- a plan that projects to numbers doesn't stray
@@ -99,7 +100,7 @@ module _ {t : SourceTask} {table : List DecodedSource} {n : ℕ} {lower upper : 
         let one : 1 ≤ size = omega (arith, long) in
         record {
           applied = f .0;
-          further = (omega arith, omega (arith, g .0, front-short ns (drop i q), length-drop i q));
+          further = (omega arith, omega (arith, g .0, agreeing-there ns (drop i q), length-drop i q));
           numbers = p;
           splits = s;
           projects =

@@ -10,8 +10,8 @@ use lib.Seq.{drop-drop}
 use lib.IntN.{ℤ, pos}
 use Rattle.lists.proofs.Loops.{There, there-all}
 use Rattle.model.specs.Expansion.{strokes}
-use Rattle.planbytes.specs.Agreeing.{agreeing}
-use Rattle.planbytes.proofs.Agreeing.{agreeing-none, agreeing-few, agreeing-there, agreeing-stops, agreeing-goes-on}
+use Rattle.model.specs.Following.{agreeing}
+use Rattle.model.proofs.FollowingWalks.{agreeing-few, agreeing-there, agreeing-short, agreeing-past}
 use Rattle.runs.specs.declared.Strokes.{Strokes}
 use Rattle.runs.specs.declared.Run.{Run}
 use Rattle.runs.specs.Strokes.{stageSteps, macroSteps, stepNumbers}
@@ -30,14 +30,14 @@ module _ {first : ℕ} {z : ℤ} {r : Run} (is : RunOf first z r) (xs : List ℕ
   run-there h = omega (arith, e, agreeing-there run (drop at xs), length-drop at xs)
 
   pub run-differs : m < r .count → m ≡ agreeing (stageSteps first z) (drop at xs)
-  run-differs h = e ∙ sym (as-run ∙ agreeing-stops run ((first + 2) ∷ []) (drop at xs) (omega (arith, e, length-replicate (r .count) (r .number))))
+  run-differs h = e ∙ sym (as-run ∙ agreeing-short run ((first + 2) ∷ []) (drop at xs) (omega (arith, e, length-replicate (r .count) (r .number))))
 
   pub run-whole : (k : ℕ) → r .count ≤ m → k ≡ agreeing ((first + 2) ∷ []) (drop (at + m) xs) → m + k ≡ agreeing (stageSteps first z) (drop at xs)
   run-whole k h f =
       let l : length run ≡ r .count = length-replicate (r .count) (r .number) in
       let n : agreeing run (drop at xs) ≡ length run = omega (arith, e, agreeing-few run (drop at xs)) in
       let q : length run ≡ m = sym (e ∙ n) in
-      sym (as-run ∙ agreeing-goes-on run ((first + 2) ∷ []) (drop at xs) n ∙ rw (q, drop-drop m at xs, ← f))
+      sym (as-run ∙ agreeing-past run ((first + 2) ∷ []) (drop at xs) n ∙ rw (q, drop-drop m at xs, ← f))
 
 -- ---- the stages, one after another
 pub record Matching (first : ℕ) (s : Strokes) (xs : List ℕ) (at matched number i : ℕ) : Type 0 where
@@ -59,7 +59,7 @@ matching-start first s xs at h l = record {
 module _ {first : ℕ} {s : Strokes} {xs : List ℕ} {at matched number i : ℕ} (g : Matching first s xs at matched number i) where
   pub matching-end : s .count ≤ i → matched ≡ agreeing (macroSteps first (strokesIs s)) (drop at xs)
   matching-end h =
-      let n : agreeing (macroSteps number (drop i (strokesIs s))) (drop (at + matched) xs) ≡ 0 = ap (λ (l : List ℕ). agreeing l (drop (at + matched) xs)) (steps-none (g .here) number (g .bound) h) ∙ agreeing-none (drop (at + matched) xs) in
+      let n : agreeing (macroSteps number (drop i (strokesIs s))) (drop (at + matched) xs) ≡ 0 = ap (λ (l : List ℕ). agreeing l (drop (at + matched) xs)) (steps-none (g .here) number (g .bound) h) in
       omega (arith, n, g .same)
 
   module _ (h : i < s .count) (r : Run) (is : RunOf number (getD (s .times) i (pos 0)) r) (k : ℕ) (e : k ≡ agreeing (stageSteps number (getD (s .times) i (pos 0))) (drop (at + matched) xs)) where
@@ -79,20 +79,20 @@ module _ {first : ℕ} {s : Strokes} {xs : List ℕ} {at matched number i : ℕ}
     matched-there = omega (arith, e, agreeing-there stage (drop (at + matched) xs), length-drop (at + matched) xs, g .there)
 
     pub matching-stop : k ≤ r .count → matched + k ≡ agreeing (macroSteps first (strokesIs s)) (drop at xs)
-    matching-stop l = ap (λ (n : ℕ). matched + n) (e ∙ sym (agreeing-stops stage rest (drop (at + matched) xs) (omega (arith, e, long)))) ∙ more
+    matching-stop l = ap (λ (n : ℕ). matched + n) (e ∙ sym (agreeing-short stage rest (drop (at + matched) xs) (omega (arith, e, long)))) ∙ more
 
     pub matching-next : r .count < k → Matching first s xs at (matched + k) (number + 3) (i + 1)
     matching-next l =
         let n : agreeing stage (drop (at + matched) xs) ≡ length stage = omega (arith, e, long, agreeing-few stage (drop (at + matched) xs)) in
         let q : length stage ≡ k = sym (e ∙ n) in
         let f : at + matched + k ≡ at + (matched + k) = omega arith in
-        let on : agreeing (stage ++ rest) (drop (at + matched) xs) ≡ k + agreeing rest (drop (at + (matched + k)) xs) = agreeing-goes-on stage rest (drop (at + matched) xs) n ∙ rw (q, drop-drop k (at + matched) xs, f) in
+        let on : agreeing (stage ++ rest) (drop (at + matched) xs) ≡ k + agreeing rest (drop (at + (matched + k)) xs) = agreeing-past stage rest (drop (at + matched) xs) n ∙ rw (q, drop-drop k (at + matched) xs, f) in
         record { here = g .here; bound = omega arith; numbered = omega (arith, g .numbered); there = matched-there; same = omega (arith, on, more) }
 
 -- ---- the opening, and the stages behind it
 module _ (opening : ℕ) (zs : List ℤ) (xs : List ℕ) (at m : ℕ) (e : m ≡ agreeing (opening ∷ []) (drop at xs)) where
   pub not-opened : m ≡ 0 → 0 ≡ agreeing (stepNumbers opening zs) (drop at xs)
-  not-opened h = sym h ∙ e ∙ sym (agreeing-stops (opening ∷ []) (macroSteps (opening + 1) zs) (drop at xs) (omega (arith, e)))
+  not-opened h = sym h ∙ e ∙ sym (agreeing-short (opening ∷ []) (macroSteps (opening + 1) zs) (drop at xs) (omega (arith, e)))
 
   pub opened-there : (m ≡ 0 → ⊥) → at + 1 ≤ length xs
   opened-there h = omega (arith, e, agreeing-there (opening ∷ []) (drop at xs), length-drop at xs)
@@ -100,4 +100,4 @@ module _ (opening : ℕ) (zs : List ℤ) (xs : List ℕ) (at m : ℕ) (e : m ≡
   pub opened : (m ≡ 0 → ⊥) → (k : ℕ) → k ≡ agreeing (macroSteps (opening + 1) zs) (drop (at + 1) xs) → 1 + k ≡ agreeing (stepNumbers opening zs) (drop at xs)
   opened h k f =
       let n : agreeing (opening ∷ []) (drop at xs) ≡ 1 = omega (arith, e, agreeing-few (opening ∷ []) (drop at xs)) in
-      sym (agreeing-goes-on (opening ∷ []) (macroSteps (opening + 1) zs) (drop at xs) n ∙ rw (drop-drop 1 at xs, ← f))
+      sym (agreeing-past (opening ∷ []) (macroSteps (opening + 1) zs) (drop at xs) n ∙ rw (drop-drop 1 at xs, ← f))

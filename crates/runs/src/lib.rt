@@ -20,7 +20,7 @@ ghost use Rattle.lists.specs.Writing.{Room, Wrote};
 ghost use Rattle.model.specs.Plans.{planBytes, planNumbers};
 ghost use Rattle.model.specs.Steps.{integerAt};
 ghost use Rattle.model.specs.Tasks.{linearEffect};
-ghost use Rattle.planbytes.specs.Agreeing.{agreeing};
+ghost use Rattle.model.specs.Following.{agreeing};
 ghost use Rattle.source.specs.Step.{actionIs};
 ghost use Rattle.source.specs.Parts.{termsIn, effectIn, small, divides, effectFits};
 ghost use Rattle.runs.specs.Strokes.{strokesOf, stageSteps, macroSteps, stepNumbers};

@@ -4,7 +4,6 @@
 ghost use mathlib.Core.Path.{_≡_};
 ghost use Prim.Native.Nat.{_+_, _≤_, _<_};
 ghost use lib.ListN.{length};
-ghost use lib.IntN.{natAbs};
 ghost use Rattle.lists.specs.Writing.{Room, Wrote};
 ghost use Rattle.model.specs.Listing.{decimal, decimalSigned};
 ghost use Rattle.text.specs.Places.{places};
@@ -93,23 +92,12 @@ pub fn put_natural(out: &mut [u8], at: usize, n: u64) -> usize
     put_six(out, behind, n % 1000000)
 }
 
-// |z|, for every z, the least included.
-fn magnitude(z: i64) -> u64
-    ensures { λ r. ⌜ r ≡ natAbs z ⌝ }
-{
-    if 0 <= z {
-        z as u64
-    } else {
-        ((-(z + 1)) as u64) + 1
-    }
-}
-
 // A whole number, with a minus before it where it is negative, stored from a place on, and the place behind it.
 pub fn put_integer(out: &mut [u8], at: usize, z: i64) -> usize
     requires { ⌜ Room (now out) at (decimalSigned z) ⌝ }
     ensures { λ r. ⌜ Wrote (now (out .entry)) at (decimalSigned z) (now (out .exit)) r ⌝ }
 {
-    let n = magnitude(z);
+    let n = integers::magnitude(z);
     if z < 0 {
         out[at] = 45;
         return put_natural(out, at + 1, n);
@@ -154,7 +142,7 @@ pub fn natural_length(n: u64) -> usize
 pub fn integer_length(z: i64) -> usize
     ensures { λ r. ⌜ (r ≡ length (decimalSigned z)) × (r ≤ 20) ⌝ }
 {
-    let digits = natural_length(magnitude(z));
+    let digits = natural_length(integers::magnitude(z));
     if z < 0 {
         return digits + 1;
     }

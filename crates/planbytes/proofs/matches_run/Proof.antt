@@ -6,7 +6,7 @@ use lib.ListN.{drop, replicate}
 use denote.Ref.{now}
 use Rattle.lists.proofs.Numbers.{length-halves}
 use Rattle.model.specs.Plans.{planNumbers}
-use Rattle.planbytes.specs.Agreeing.{agreeing}
+use Rattle.model.specs.Following.{agreeing}
 use Rattle.planbytes.proofs.Agreeing.{numbers-from, as-far-as-there-is}
 use borrow.Author.Needs.{needs}
 use Rattle.planbytes.proofs.matches_run.Statement.{statement}

@@ -11,11 +11,11 @@ use Rattle.model.specs.Tasks.{Effect}
 use Rattle.model.specs.Steps.{integerAt}
 use Rattle.model.specs.Plans.{planNumbers}
 use Rattle.model.specs.Following.{agreeing}
-use Rattle.planbytes.specs.Agreeing.{agreeing as agreeingFront}
+use Rattle.model.proofs.FollowingWalks.{agreeing-there}
 use Rattle.source.specs.Parts.{effectFits}
 use Rattle.source.specs.Step.{actionIs}
 use Rattle.runs.specs.Strokes.{strokesOf, stepNumbers}
-use Rattle.projection.proofs.Numbers.{front-is, front-short, numbers-length}
+use Rattle.projection.proofs.Numbers.{numbers-length}
 use Rattle.projection.proofs.Advancing.{effect-is, advanced-past, advanced-into, advanced-not}
 use borrow.Author.Needs.{needs}
 use Rattle.projection.proofs.advance.Statement.{statement}
@@ -37,8 +37,7 @@ matched-is : (p : tie.After-price-of) → p .before .before .matches-step .resul
 matched-is p = let s = startOf p in
     let rest = drop (s .args .at) (planOf s) in
     p .before .before .matches-step .ensures
-    ∙ ap (λ (l : List ℤ). agreeingFront (stepNumbers (s .args .opening) l) rest) (p .before .before .before .strokes-of .ensures .is ∙ ap (λ (e : Effect). strokesOf e (valuesOf s)) (sym (effect-is (s .args .action))))
-    ∙ front-is (numbersOf s) rest
+    ∙ ap (λ (l : List ℤ). agreeing (stepNumbers (s .args .opening) l) rest) (p .before .before .before .strokes-of .ensures .is ∙ ap (λ (e : Effect). strokesOf e (valuesOf s)) (sym (effect-is (s .args .action))))
 
 size-is : (p : tie.After-price-of) → p .price-of .result ≡ length (numbersOf (startOf p))
 size-is p = let s = startOf p in p .price-of .ensures .0 ∙ sym (numbers-length (s .args .opening) (actionIs (s .args .action) .effect) (valuesOf s))
@@ -60,7 +59,7 @@ past-macro-requires : tie.Need-past-macro-requires
 past-macro-requires c κs = let p = c .before .before .before .before in
     let s = startOf p in
     let rest = drop (s .args .at) (planOf s) in
-    (s .pre .1 .0, omega (arith, matched-is p, front-short (numbersOf s) rest, length-drop (s .args .at) (planOf s), s .pre .1), omega (arith, size-is p))
+    (s .pre .1 .0, omega (arith, matched-is p, agreeing-there (numbersOf s) rest, length-drop (s .args .at) (planOf s), s .pre .1), omega (arith, size-is p))
 
 returns : tie.Need-returns
 returns c = let t = c .before .before in
@@ -82,7 +81,7 @@ into-macro-requires : tie.Need-into-macro-requires
 into-macro-requires c κs = let p = c .before .before .before .before .before .before .before .before in
     let s = startOf p in
     let rest = drop (s .args .at) (planOf s) in
-    (s .pre .1 .0, omega (arith, matched-is p, front-short (numbersOf s) rest, length-drop (s .args .at) (planOf s), s .pre .1), omega (arith, size-is p))
+    (s .pre .1 .0, omega (arith, matched-is p, agreeing-there (numbersOf s) rest, length-drop (s .args .at) (planOf s), s .pre .1), omega (arith, size-is p))
 
 returns-3 : tie.Need-returns-3
 returns-3 c = let o = c .before .before in

@@ -7,7 +7,7 @@ use denote.Ref.{now}
 use mir.Facts.{toZ-ofZ}
 use Rattle.lists.proofs.Numbers.{length-halves}
 use Rattle.model.specs.Plans.{planNumbers}
-use Rattle.planbytes.proofs.Agreeing.{agreeing-few}
+use Rattle.model.proofs.FollowingWalks.{agreeing-few}
 use Rattle.runs.specs.Made.{RunOf}
 use Rattle.runs.proofs.Matching.{run-there, run-differs, run-whole}
 use borrow.Author.Needs.{needs}

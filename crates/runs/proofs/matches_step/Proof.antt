@@ -7,7 +7,7 @@ use lib.ListN.{length, drop, length-drop}
 use denote.Ref.{now}
 use Rattle.lists.proofs.Numbers.{length-halves}
 use Rattle.model.specs.Plans.{planNumbers}
-use Rattle.planbytes.proofs.Agreeing.{agreeing-there}
+use Rattle.model.proofs.FollowingWalks.{agreeing-there}
 use Rattle.runs.specs.Strokes.{macroSteps}
 use Rattle.runs.specs.Made.{strokesIs}
 use Rattle.runs.proofs.Matching.{not-opened, opened-there, opened}
