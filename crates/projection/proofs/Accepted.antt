@@ -1,15 +1,13 @@
 -- What is decoded of an accepted file is its task, and its tables are those of the task's lowering.
 -- Assumes nothing.
 use mathlib.Core.Path.{_≡_, refl, sym, ap, ap₂, _∙_, subst}
-use Prim.Native.Nat.{ℕ, zero, suc, _*_, _≤_, _<_}
+use Prim.Native.Nat.{ℕ, suc, _≤_, _<_}
 use native.Mathlib.Omega.{arith}
 use mathlib.Core.Bool.{true}
-use mathlib.Core.Option.{Option, none, some}
 use mathlib.Core.List.{List, [], _∷_}
 use lib.ListN.{length, getD, getElem?, take}
 use lib.Seq.{length-take-le}
 use lib.IntN.{ℤ}
-use Rattle.integers.specs.Numbers.{Bytes}
 use Rattle.lists.specs.Answer.{Answer, given, refused, then}
 use Rattle.lists.specs.declared.Written.{Written}
 use Rattle.lists.specs.declared.Written.the-variants.{Refused}
@@ -32,18 +30,16 @@ use Rattle.model.proofs.LoweredOk.{accepted}
 use Rattle.model.proofs.Following.{projecting-follows}
 use Rattle.actions.specs.declared.SourceAction.{SourceAction as DecodedSource}
 use Rattle.actions.specs.declared.Goal.{Goal}
-use Rattle.actions.specs.Places.{goalPart}
-use Rattle.actions.specs.Views.{GoalDecoded}
 use Rattle.declarations.specs.declared.Declared.{Declared}
 use Rattle.declarations.specs.Holding.{HoldsSource}
 use Rattle.source.specs.Step.{state, actionIs, Shaped}
-use Rattle.source.specs.Judged.{Decoded, Ready, AcceptedWith}
-use Rattle.source.proofs.Judging.{task-of, accepted-task, ready, goal-is}
+use Rattle.source.specs.Judged.{Ready, AcceptedWith}
+use Rattle.source.proofs.Judging.{task-of, accepted-task, ready}
 use Rattle.runs.specs.Openings.{actionsIn, Opened}
 use Rattle.runs.proofs.Sizes.{each-at}
 use Rattle.projection.specs.Sources.{Openable, Sourced}
-use Rattle.projection.specs.Following.{Lowered, Placed}
-use Rattle.projection.specs.Projecting.{asBytes, projected, Aims, Posed, Projected, FileProjected}
+use Rattle.projection.specs.Following.{Lowered}
+use Rattle.projection.specs.Projecting.{asBytes, Aims, Posed, Projected, FileProjected}
 use Rattle.projection.proofs.Filling.{there-below}
 use Rattle.projection.proofs.Numbers.{all-actions}
 

@@ -1,17 +1,15 @@
 -- One source step: what it answers, from how far the plan agrees with its numbers.
 -- Assumes nothing.
-use mathlib.Core.Path.{_≡_, refl, sym, ap, ap₂, _∙_, subst}
-use Prim.Native.Nat.{ℕ, zero, suc, min, _+_, _-_, _≤_, _<_}
-use native.Mathlib.Omega.{arith}
+use mathlib.Core.Path.{_≡_, sym, ap, ap₂, _∙_, subst}
+use Prim.Native.Nat.{ℕ, min, _+_, _-_, _≤_, _<_}
 use mathlib.Core.Bool.{Bool, true, false, cond, _&&_}
-use mathlib.Core.Option.{Option, none, some}
-use mathlib.Core.List.{List, [], _∷_}
+use mathlib.Core.List.{List, []}
 use lib.Dec.{eqb, ltb}
-use lib.ListN.{length, getD, take, drop, length-drop, drop-of-length-le}
+use lib.ListN.{length, getD, drop, drop-of-length-le}
 use lib.Seq.{drop-cons, drop-drop}
 use lib.IntN.{ℤ}
 use borrow.Author.Tests.{lt-ltb, le-ltb, eq-eqb, ne-eqb}
-use Rattle.lists.specs.Answer.{Answer, given, refused}
+use Rattle.lists.specs.Answer.{Answer, refused}
 use Rattle.model.specs.Tasks.{SourceAction, State}
 use Rattle.model.specs.Systems.{provided}
 use Rattle.model.specs.Steps.{integerAt, naturalAt, modesHold, conditionsHold}
@@ -20,7 +18,7 @@ use Rattle.model.specs.Following.{agreeing, strayed, makesMacro, pastMacro, int
 use Rattle.actions.specs.declared.SourceAction.{SourceAction as DecodedSource}
 use Rattle.actions.specs.Views.{effectIs, termsIs}
 use Rattle.source.specs.Parts.{effectIn}
-use Rattle.source.specs.Step.{state, actionIs, stepOf, handedBack, Tried}
+use Rattle.source.specs.Step.{state, actionIs, handedBack, Tried}
 use Rattle.source.proofs.Steps.{effect-in}
 use Rattle.projection.specs.declared.Next.{Next}
 use Rattle.projection.specs.declared.Next.the-variants.{At, Refused}

@@ -16,7 +16,7 @@ use Rattle.model.specs.Tasks.{SourceAction}
 use Rattle.model.specs.Stages.{later, macroSize, opening, sourceNumber}
 use Rattle.model.proofs.Pairing.{some-injective}
 use Rattle.model.proofs.MacroPlace.{opening-has-its-source}
-use Rattle.projection.specs.Sources.{entryAt, named, sourceIn, Openable, Sourced}
+use Rattle.projection.specs.Sources.{entryAt, named, Openable, Sourced}
 
 pub there-below : {A : Type 0} (l : List A) (k : ℕ) → k < length l → (a : A) × (getElem? l k ≡ some a)
 there-below [] k h = absurd (omega arith)

@@ -1,17 +1,16 @@
 -- In a state within its bounds every effect of an accepted task fits, whether its action applies or not.
 -- Assumes nothing.
-use mathlib.Core.Path.{_≡_, refl, sym, ap, _∙_}
+use mathlib.Core.Path.{_≡_, refl, ap}
 use Prim.Native.Nat.{ℕ, zero, suc, _≤_}
 use native.Mathlib.Omega.{arith}
 use mathlib.Core.Bool.{Bool, true, false, not, _&&_}
 use mathlib.Core.Option.{some}
 use mathlib.Core.List.{List, [], _∷_}
 use lib.ListN.{length, getElem?}
-use lib.IntN.{ℤ, pos, natAbs}
+use lib.IntN.{ℤ, natAbs}
 use lib.Signed.{leZ}
 use borrow.Author.Tests.{le-leb, lt-leb}
 use Rattle.integers.specs.All.{All}
-use Rattle.integers.specs.Relation.{withinLimit}
 use Rattle.integers.proofs.Parts.{ints, abs}
 use Rattle.lists.specs.Loops.{every}
 use Rattle.lists.proofs.Loops.{and-left, and-right}

@@ -19,7 +19,6 @@ use Rattle.source.specs.Step.{state, actionIs}
 use Rattle.runs.specs.Strokes.{strokesOf, stepNumbers}
 use Rattle.projection.specs.declared.Next.{Next}
 use Rattle.projection.specs.declared.Next.the-variants.{At, Refused}
-use Rattle.projection.specs.declared.Followed.{Followed}
 use Rattle.projection.specs.declared.Followed.the-variants.{Ended, Stopped}
 use Rattle.projection.specs.Sources.{entryAt}
 use Rattle.projection.specs.Following.{goesOn, Further, Advanced, Lowered, Placed, PlanFollowed}

@@ -4,16 +4,16 @@ use mathlib.Core.Path.{_≡_, refl, sym, ap, ap₂, _∙_}
 use Prim.Native.Nat.{ℕ, zero, suc, _+_, _≤_}
 use native.Mathlib.Omega.{arith}
 use native.Mathlib.Numerals.{add-one}
-use mathlib.Core.Bool.{Bool, true, false, cond, false≢true, _&&_}
-use mathlib.Core.Option.{Option, none, some}
-use mathlib.Core.List.{List, [], _∷_, _++_}
+use mathlib.Core.Bool.{Bool, true, false, cond, _&&_}
+use mathlib.Core.Option.{Option, some}
+use mathlib.Core.List.{List, [], _∷_}
 use lib.Dec.{eqb}
 use lib.ListN.{length, getElem?, length-append}
 use lib.IntN.{ℤ}
-use Rattle.model.specs.Tasks.{Effect, noEffect, addEffect, linearEffect, quotientEffect, residueEffect, SourceAction, SourceTask, State}
+use Rattle.model.specs.Tasks.{Effect, SourceAction, SourceTask, State}
 use Rattle.model.specs.Steps.{integerAt, naturalAt, modesHold, conditionsHold, lowerBounds, upperBounds}
 use Rattle.model.specs.Systems.{orEmpty}
-use Rattle.model.specs.Stages.{macro, macroSize, opening, lowerActions, stagesOf}
+use Rattle.model.specs.Stages.{macro, opening, lowerActions, stagesOf}
 use Rattle.model.specs.Lowering.{lowerTask}
 use Rattle.model.specs.Expansion.{openedValues, stageWalk, priceOfEffect}
 use Rattle.model.specs.Following.{ifAny, makesMacro, macroNumbers, opens}

@@ -7,11 +7,11 @@ use mathlib.Core.Bool.{Bool, true, false, cond}
 use mathlib.Core.List.{List}
 use lib.ListN.{length}
 use lib.IntN.{ℤ}
-use Rattle.lists.specs.Answer.{Answer, given, refused}
+use Rattle.lists.specs.Answer.{given, refused}
 use Rattle.lists.specs.declared.Written.the-variants.{Bytes, Refused}
 use Rattle.lists.proofs.Numbers.{length-numbers}
 use Rattle.lists.proofs.Lent.{refusal, too-short, written}
-use Rattle.model.specs.Tasks.{SourceTask, State}
+use Rattle.model.specs.Tasks.{SourceTask}
 use Rattle.model.specs.Steps.{goalHolds, sourceGoalHolds}
 use Rattle.model.specs.Plans.{planBytes}
 use Rattle.model.specs.Judging.{declaredPart}

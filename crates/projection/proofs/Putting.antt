@@ -6,7 +6,7 @@ use native.Mathlib.Omega.{arith}
 use mathlib.Core.Bool.{Bool, true, false, cond}
 use mathlib.Core.List.{List, [], _∷_, _++_, append-assoc, append-nil}
 use lib.Dec.{ltb, eqb}
-use lib.ListN.{length, getD, take, drop, length-drop, length-append, drop-of-length-le}
+use lib.ListN.{length, getD, take, drop, length-drop, drop-of-length-le}
 use lib.Seq.{drop-drop}
 use lib.IntN.{ℤ}
 use borrow.Author.Tests.{ltb-true, ltb-false, eqb-true}
@@ -14,7 +14,7 @@ use Rattle.integers.specs.Numbers.{bytesOf}
 use Rattle.lists.specs.Answer.{Answer, given, refused, then}
 use Rattle.lists.specs.Writing.{Room, Wrote}
 use Rattle.lists.proofs.Writing.{Left, start, step, done, recast, wrote-long, wrote-as, room-as}
-use Rattle.model.specs.Tasks.{SourceTask, State}
+use Rattle.model.specs.Tasks.{SourceTask}
 use Rattle.model.specs.Steps.{integerAt, sourceGoalHolds}
 use Rattle.model.specs.Expansion.{priceOfEffect}
 use Rattle.model.specs.Plans.{planBytes}

@@ -33,9 +33,12 @@ ghost use Rattle.projection.specs.Sources.{entryAt, Openable, Sourced};
 ghost use Rattle.projection.specs.Following.{opensIn, Answers, Further, Advanced, Placed, PlanFollowed};
 ghost use Rattle.projection.specs.Projecting.{Projectable, SourcesPut, Posed, Reached, Projected, FileProjected};
 
-// The restricted numbers that a table of source actions has room for, and what stands there for a number that opens none.
+// The most actions that a source task has, and the restricted numbers that a table of them has room for.
+const ACTIONS: usize = 32;
+
 const NUMBERS: usize = 1024;
 
+// What stands in the table for a number that opens no source action.
 const NONE: u8 = 32;
 
 // The source action that each restricted number opens, or NONE.
@@ -245,7 +248,7 @@ fn follow(
     while at < steps {
         let opening = planbytes::action_of(plan, at);
         let k = wide(source_of(sources, opening));
-        if 32 <= k {
+        if ACTIONS <= k {
             return Followed::Stopped(astray(plan, steps, total, at), at as u64);
         }
         let action = table.actions[k];

@@ -8,31 +8,22 @@ use Rattle.projection.proofs.Advancing.{ended, not-applying, no-such}
 use borrow.Author.Needs.{needs}
 use Rattle.projection.proofs.astray.Statement.{statement}
 use Rattle.projection.proofs.astray.Tie as tie
-use Rattle.projection.proofs.astray.Reads as reads
-use Rattle.projection.proofs.astray.Lts as lts
-use Rattle.planbytes.proofs.action_of.Reads as action-of-reads
-use Rattle.source.proofs.wide16.Reads as wide16-reads
 
--- src/lib.rt:88:9
 returns : tie.Need-returns
 returns c = let s = c .before .before in ended (s .args .total) (s .args .place) (planNumbers (now (s .args .plan))) (omega (arith, c .if1 .taken, s .pre))
 
--- src/lib.rt:90:28
 action-of-requires : tie.Need-action-of-requires
 action-of-requires c κs = let s = c .before .before in omega (arith, halves-long (now (s .args .plan)), c .if1 .left, s .pre)
 
--- src/lib.rt:90:9
 wide16-requires : tie.Need-wide16-requires
 wide16-requires c κs = search needs
 
--- src/lib.rt:92:9
 returns-2 : tie.Need-returns-2
 returns-2 c = let w = c .before in
     let f = w .before .before in
     let s = f .before .before in
     not-applying (s .args .total) (s .args .place) (planNumbers (now (s .args .plan))) (w .wide16 .result) (w .wide16 .ensures ∙ w .before .action-of .ensures) (omega (arith, f .if1 .left, s .pre)) (c .if2 .taken)
 
--- src/lib.rt:83:1
 returns-3 : tie.Need-returns-3
 returns-3 c = let w = c .before in
     let f = w .before .before in

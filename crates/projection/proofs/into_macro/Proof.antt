@@ -9,28 +9,19 @@ use Rattle.model.specs.Following.{strayed}
 use borrow.Author.Needs.{needs}
 use Rattle.projection.proofs.into_macro.Statement.{statement}
 use Rattle.projection.proofs.into_macro.Tie as tie
-use Rattle.projection.proofs.into_macro.Reads as reads
-use Rattle.projection.proofs.into_macro.Lts as lts
-use Rattle.projection.proofs.astray.Reads as astray-reads
-use Rattle.source.proofs.lesser.Reads as lesser-reads
 
--- src/lib.rt:134:46
 sub-lesser : tie.Need-sub-lesser
 sub-lesser c = search needs
 
--- src/lib.rt:134:22
 lesser-requires : tie.Need-lesser-requires
 lesser-requires c κs = search needs
 
--- src/lib.rt:134:17
 add-place : tie.Need-add-place
 add-place c = search needs
 
--- src/lib.rt:135:19
 astray-requires : tie.Need-astray-requires
 astray-requires c κs = search needs
 
--- src/lib.rt:123:1
 returns : tie.Need-returns
 returns c = let s = c .before .before .before in
     let q = planNumbers (now (s .args .plan)) in

@@ -8,37 +8,26 @@ use Rattle.projection.proofs.Advancing.{no-macro, modes-fail, modes-pas
 use borrow.Author.Needs.{needs}
 use Rattle.projection.proofs.opens.Statement.{statement}
 use Rattle.projection.proofs.opens.Tie as tie
-use Rattle.projection.proofs.opens.Reads as reads
-use Rattle.projection.proofs.opens.Lts as lts
-use Rattle.projection.proofs.makes_macro.Reads as makes-macro-reads
-use Rattle.source.proofs.conditions_hold.Reads as conditions-hold-reads
-use Rattle.source.proofs.modes_hold.Reads as modes-hold-reads
 
--- src/lib.rt:163:9
 makes-macro-requires : tie.Need-makes-macro-requires
 makes-macro-requires c κs = search needs
 
--- src/lib.rt:164:9
 returns : tie.Need-returns
 returns c = let s = c .before .before in
     no-macro (s .args .t5) (declaredPart (s .args .n) (s .args .m) (state (now (s .args .values)) (now (s .args .modes)))) (sym (c .before .makes-macro .ensures) ∙ not-true _ (c .if1 .taken))
 
--- src/lib.rt:166:9
 modes-hold-requires : tie.Need-modes-hold-requires
 modes-hold-requires c κs = search needs
 
--- src/lib.rt:173:9
 returns-2 : tie.Need-returns-2
 returns-2 c = let f = c .before .before .before .before .before in
     let s = f .before .before in
     modes-fail (s .args .t5) (declaredPart (s .args .n) (s .args .m) (state (now (s .args .values)) (now (s .args .modes)))) (sym (f .before .makes-macro .ensures) ∙ not-false _ (f .if1 .left))
     (sym (c .before .modes-hold .ensures) ∙ not-true _ (c .if2 .taken))
 
--- src/lib.rt:175:5
 conditions-hold-requires : tie.Need-conditions-hold-requires
 conditions-hold-requires c κs = search needs
 
--- src/lib.rt:152:1
 returns-3 : tie.Need-returns-3
 returns-3 c = let g = c .before .before .before .before .before in
     let f = g .before .before .before .before .before in

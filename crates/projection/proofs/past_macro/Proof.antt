@@ -7,24 +7,17 @@ use Rattle.projection.proofs.Advancing.{whole, part}
 use borrow.Author.Needs.{needs}
 use Rattle.projection.proofs.past_macro.Statement.{statement}
 use Rattle.projection.proofs.past_macro.Tie as tie
-use Rattle.projection.proofs.past_macro.Reads as reads
-use Rattle.projection.proofs.past_macro.Lts as lts
-use Rattle.projection.proofs.astray.Reads as astray-reads
 
--- src/lib.rt:115:17
 add-place : tie.Need-add-place
 add-place c = search needs
 
--- src/lib.rt:117:9
 returns : tie.Need-returns
 returns c = let s = c .before .before in
     (whole (s .args .total) (s .args .at) (s .args .matched) (s .args .size) (planNumbers (now (s .args .plan))) (c .if1 .taken), (refl, omega (arith, c .if1 .taken, s .pre), omega (arith, s .pre)))
 
--- src/lib.rt:119:19
 astray-requires : tie.Need-astray-requires
 astray-requires c κs = search needs
 
--- src/lib.rt:104:1
 returns-2 : tie.Need-returns-2
 returns-2 c = let s = c .before .before .before in
     (part (s .args .total) (s .args .at) (s .args .matched) (s .args .size) (planNumbers (now (s .args .plan))) (c .before .if1 .left) (c .astray .result) (c .astray .ensures), tt)

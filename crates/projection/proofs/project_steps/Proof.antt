@@ -1,5 +1,5 @@
 -- `projection::project_steps` meets its contract: what is decoded is the file's task, from whose start the plan is projected. Assumes nothing.
-use mathlib.Core.Path.{_≡_, _∙_}
+use mathlib.Core.Path.{_≡_}
 use mathlib.Core.List.{List}
 use Prim.Native.Nat.{ℕ, _≤_}
 use native.Mathlib.Omega.{arith}

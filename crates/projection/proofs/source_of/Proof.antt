@@ -4,25 +4,18 @@ use Rattle.projection.proofs.Filling.{entry-in, entry-out}
 use borrow.Author.Needs.{needs}
 use Rattle.projection.proofs.source_of.Statement.{statement}
 use Rattle.projection.proofs.source_of.Tie as tie
-use Rattle.projection.proofs.source_of.Reads as reads
-use Rattle.projection.proofs.source_of.Lts as lts
-use Rattle.source.proofs.wide16.Reads as wide16-reads
 
--- src/lib.rt:75:9
 wide16-requires : tie.Need-wide16-requires
 wide16-requires c κs = search needs
 
--- src/lib.rt:77:16
 element-copy-out-result : tie.Need-element-copy-out-result
 element-copy-out-result c = search needs
 
--- src/lib.rt:77:9
 returns : tie.Need-returns
 returns c = let w = c .before .before in
     let s = w .before in
     entry-in (now (s .args .sources)) (w .wide16 .result) (s .args .number) (w .wide16 .ensures) (c .before .if1 .taken)
 
--- src/lib.rt:72:1
 returns-2 : tie.Need-returns-2
 returns-2 c = let w = c .before in
     let s = w .before in

@@ -1,14 +1,10 @@
 -- `projection::sources_of` meets its contract. The loop's invariant is `Filling`: the actions passed have their entries, and there are no others. Assumes nothing.
-use mathlib.Core.Path.{_≡_}
 use Prim.Native.Nat.{_-_}
 use native.Mathlib.Omega.{arith}
 use Rattle.projection.proofs.Filling.{Filling, filling-start, filling-next, filling-end}
 use borrow.Author.Needs.{needs}
 use Rattle.projection.proofs.sources_of.Statement.{statement}
 use Rattle.projection.proofs.sources_of.Tie as tie
-use Rattle.projection.proofs.sources_of.Reads as reads
-use Rattle.projection.proofs.sources_of.Lts as lts
-use Rattle.source.proofs.wide16.Reads as wide16-reads
 
 abbrev Inv-loop : tie.InvT-loop
 Inv-loop count openings s₀ k₀ s k = Filling (openings .numbers) count (s .numbers) k
@@ -16,47 +12,37 @@ Inv-loop count openings s₀ k₀ s k = Filling (openings .numbers) count (s .nu
 abbrev μ-loop : tie.MeasureT-loop
 μ-loop count openings s₀ k₀ s k = count - k
 
--- src/lib.rt:57:5
 loop-holds : tie.Need-loop-holds Inv-loop μ-loop
 loop-holds c = filling-start _ _
 
--- src/lib.rt:58:38
 mul-wide16 : tie.Need-mul-wide16 Inv-loop μ-loop
 mul-wide16 c = search needs
 
--- src/lib.rt:58:38
 element-copy-out-wide16 : tie.Need-element-copy-out-wide16 Inv-loop μ-loop
 element-copy-out-wide16 c = search needs
 
--- src/lib.rt:58:13
 wide16-requires : tie.Need-wide16-requires Inv-loop μ-loop
 wide16-requires c κs = search needs
 
--- src/lib.rt:59:30
 cast-s : tie.Need-cast-s Inv-loop μ-loop
 cast-s c = search needs
 
--- src/lib.rt:59:9
 element-write-s : tie.Need-element-write-s Inv-loop μ-loop
 element-write-s c = let h = c .before .before in
     let l = h .before in
     omega (arith, c .wide16 .ensures, l .before .pre .small (l .loop .k) (h .loop-test .taken))
 
--- src/lib.rt:60:9
 add-k : tie.Need-add-k Inv-loop μ-loop
 add-k c = search needs
 
--- src/lib.rt:57:5
 loop-less : tie.Need-loop-less Inv-loop μ-loop
 loop-less c = search needs
 
--- src/lib.rt:57:5
 loop-again : tie.Need-loop-again Inv-loop μ-loop
 loop-again c = let h = c .before .before in
     let l = h .before in
     filling-next (l .before .pre) (l .loop .inv) (c .wide16 .ensures) (h .loop-test .taken)
 
--- src/lib.rt:49:1
 returns : tie.Need-returns Inv-loop μ-loop
 returns c = let l = c .before in filling-end (l .before .pre) (l .loop .inv) (c .loop-test .left)
 
