@@ -1,17 +1,13 @@
 -- `lowering::read_declarations` meets its contract, by what is read of an accepted file. Assumes nothing.
-use mathlib.Core.Path.{_≡_, refl, sym, ap, _∙_, subst}
 use native.Mathlib.Omega.{arith}
 use denote.Ref.{now}
 use Rattle.declarations.proofs.Accepted.{source-held}
 use Rattle.source.proofs.Judging.{bytes-of, accepted-task, zero-room}
 use Rattle.lowering.specs.Held.{taskOf}
-use Rattle.lowering.proofs.Declared.{declared, goal-read}
+use Rattle.lowering.proofs.Declared.{declared}
 use borrow.Author.Needs.{needs}
 use Rattle.lowering.proofs.read_declarations.Statement.{statement}
 use Rattle.lowering.proofs.read_declarations.Tie as tie
-use Rattle.lowering.proofs.read_declarations.Reads as reads
-use Rattle.lowering.proofs.read_declarations.Lts as lts
-use Rattle.declarations.proofs.read_source.Reads as read-source-reads
 
 read-source-requires : tie.Need-read-source-requires
 read-source-requires c κs = search needs

@@ -1,35 +1,18 @@
 -- `macros::opening_action` meets its contract: control is set where there is a stage. Assumes nothing.
-use mathlib.Core.Path.{_≡_, refl, sym, ap, _∙_, subst}
-use mathlib.Core.Bool.{Bool, true, false, cond}
-use mathlib.Core.Option.{some}
-use mathlib.Core.List.{List, [], _∷_, _++_}
-use Prim.Native.Nat.{ℕ, _+_, _*_, _/_, _<_, _≤_}
+use mathlib.Core.Path.{_≡_, sym, ap, _∙_, subst}
+use Prim.Native.Nat.{_<_}
 use native.Mathlib.Omega.{arith}
-use lib.ListN.{length, getD, length-append}
-use mir.Facts.{toZ-ofZ}
-use mir.Syntax.{w64}
-use mir.Val.{SFits, toZ}
+use lib.ListN.{length}
 use lib.Dec.{lit≤}
-use lib.IntN.{ℤ, pos}
-use Rattle.lists.proofs.Loops.{length-mapped}
 use Rattle.model.specs.Tasks.{RestrictedAction}
-use Rattle.model.specs.Stages.{helperA, clear, move, refill, drain}
-use Rattle.actions.specs.declared.Term.{Term}
-use Rattle.actions.specs.Views.{effectIs, termsIs, termIs, sourceActionIs, restrictedActionIs}
+use Rattle.actions.specs.Views.{termsIs, sourceActionIs, restrictedActionIs}
 use Rattle.macros.specs.Shapes.{lowerOf, upperOf}
 use Rattle.macros.specs.Actions.{withModeCondition, withModeEffect, sourcePart, withNumeric}
-use Rattle.macros.proofs.Stages.{moderate, drain-at, refill-at, past-terms, drained-length, terms-length, term-at}
+use Rattle.macros.proofs.Stages.{moderate}
 use Rattle.macros.proofs.Openings.{without-terms, single-is, macro-opens}
 use borrow.Author.Needs.{needs}
 use Rattle.macros.proofs.opening_action.Statement.{statement}
 use Rattle.macros.proofs.opening_action.Tie as tie
-use Rattle.macros.proofs.opening_action.Reads as reads
-use Rattle.macros.proofs.opening_action.Lts as lts
-use Rattle.macros.proofs.source_part.Reads as source-part-reads
-use Rattle.macros.proofs.stage_count.Reads as stage-count-reads
-use Rattle.macros.proofs.with_mode_condition.Reads as with-mode-condition-reads
-use Rattle.macros.proofs.with_mode_effect.Reads as with-mode-effect-reads
-use Rattle.macros.proofs.with_numeric.Reads as with-numeric-reads
 
 cast-control : tie.Need-cast-control
 cast-control c = search needs

@@ -1,17 +1,12 @@
 -- `macros::unit` meets its contract: in Divide it is |c|, else 1. Assumes nothing.
-use mathlib.Core.Path.{_≡_, refl, sym, ap, _∙_}
+use mathlib.Core.Path.{refl}
 use mir.Facts.{toZ-ofZ}
 use mir.Syntax.{w64}
-use mir.Val.{SFits, toZ}
+use mir.Val.{SFits}
 use lib.Dec.{lit≤}
-use lib.IntN.{ℤ, pos, _-ℤ_}
-use Rattle.macros.proofs.Numbers.{zero-minus, minus-fits, unit-positive, unit-negative, sign-negative, sign-positive}
 use borrow.Author.Needs.{needs}
 use Rattle.macros.proofs.unit.Statement.{statement}
 use Rattle.macros.proofs.unit.Tie as tie
-use Rattle.macros.proofs.unit.Reads as reads
-use Rattle.macros.proofs.unit.Lts as lts
-use Rattle.macros.proofs.unit_of.Reads as unit-of-reads
 
 enum-told : tie.Need-enum-told
 enum-told c = search needs

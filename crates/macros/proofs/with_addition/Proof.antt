@@ -1,15 +1,13 @@
 -- `macros::with_addition` meets its contract: the arrays have room for one more. Assumes nothing.
-use mathlib.Core.Path.{_≡_, refl, sym, ap, _∙_}
+use mathlib.Core.Path.{_≡_}
 use mir.Facts.{toZ-ofZ}
 use lib.ListN.{length}
 use lib.IntN.{pos}
-use Rattle.macros.proofs.Actions.{pair-more, condition-more, few-pairs, few-conditions}
+use Rattle.macros.proofs.Actions.{pair-more, few-pairs}
 use native.Mathlib.Omega.{arith}
 use borrow.Author.Needs.{needs}
 use Rattle.macros.proofs.with_addition.Statement.{statement}
 use Rattle.macros.proofs.with_addition.Tie as tie
-use Rattle.macros.proofs.with_addition.Reads as reads
-use Rattle.macros.proofs.with_addition.Lts as lts
 
 element-write-more : tie.Need-element-write-more
 element-write-more c = let a = c .args .action in let h = few-pairs (pos 0) (a .«addition_count») (a .«addition_variables») (a .«addition_amounts») (c .pre) in search (needs, arith)

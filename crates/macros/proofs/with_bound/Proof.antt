@@ -1,31 +1,17 @@
 -- `macros::with_bound` meets its contract, by the sign of c. Assumes nothing.
-use mathlib.Core.Path.{_≡_, refl, sym, ap, _∙_, subst}
+use mathlib.Core.Path.{_≡_, sym, ap, _∙_}
 use mathlib.Core.Bool.{Bool, true, false, cond}
-use mathlib.Core.List.{List, [], _∷_}
-use Prim.Native.Nat.{ℕ, _+_, _<_}
-use native.Mathlib.Omega.{arith}
-use lib.ListN.{length}
 use mir.Facts.{toZ-ofZ}
 use mir.Syntax.{w64}
-use mir.Val.{SFits, toZ, ofZ}
-use lib.Dec.{lit≤}
+use mir.Val.{SFits}
 use lib.IntN.{ℤ, pos, _-ℤ_}
 use lib.Signed.{ltZ}
-use Rattle.lists.specs.Each as each
-use Rattle.model.specs.Tasks.{RestrictedAction}
-use Rattle.actions.specs.Views.{effectIs, restrictedActionIs}
+use Rattle.actions.specs.Views.{restrictedActionIs}
 use Rattle.macros.specs.Shapes.{lowerOf, upperOf}
-use Rattle.macros.specs.Actions.{condition, withCondition, withAddition}
-use Rattle.macros.proofs.Openings.{difference-fits, nothing-more, add-more, linear-more}
+use Rattle.macros.specs.Actions.{condition, withCondition}
 use borrow.Author.Needs.{needs}
 use Rattle.macros.proofs.with_bound.Statement.{statement}
 use Rattle.macros.proofs.with_bound.Tie as tie
-use Rattle.macros.proofs.with_bound.Reads as reads
-use Rattle.macros.proofs.with_bound.Lts as lts
-use Rattle.macros.proofs.difference.Reads as difference-reads
-use Rattle.macros.proofs.lower_of.Reads as lower-of-reads
-use Rattle.macros.proofs.upper_of.Reads as upper-of-reads
-use Rattle.macros.proofs.with_condition.Reads as with-condition-reads
 
 upper-of-requires : tie.Need-upper-of-requires
 upper-of-requires c κs = c .before .pre .0 .variablesFew

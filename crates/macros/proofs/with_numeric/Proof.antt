@@ -1,29 +1,20 @@
 -- `macros::with_numeric` meets its contract, effect by effect. Assumes nothing.
-use mathlib.Core.Path.{_≡_, refl, sym, ap, _∙_, subst}
-use mathlib.Core.Bool.{Bool, true, false, cond}
-use mathlib.Core.List.{List, [], _∷_}
-use Prim.Native.Nat.{ℕ, _+_, _<_}
-use native.Mathlib.Omega.{arith}
+use mathlib.Core.Path.{_≡_, sym, ap, _∙_, subst}
+use mathlib.Core.List.{List, []}
+use Prim.Native.Nat.{ℕ, _<_}
 use lib.ListN.{length}
 use mir.Facts.{toZ-ofZ}
 use mir.Syntax.{w64}
 use mir.Val.{SFits, toZ, ofZ}
-use lib.Dec.{lit≤}
-use lib.IntN.{ℤ, pos, _-ℤ_}
-use lib.Signed.{ltZ}
-use Rattle.lists.specs.Each as each
+use lib.IntN.{ℤ, pos}
 use Rattle.model.specs.Tasks.{RestrictedAction}
 use Rattle.actions.specs.Views.{effectIs, restrictedActionIs}
 use Rattle.macros.specs.Shapes.{lowerOf, upperOf}
-use Rattle.macros.specs.Actions.{condition, withCondition, withAddition}
-use Rattle.macros.proofs.Openings.{difference-fits, nothing-more, add-more, linear-more}
+use Rattle.macros.specs.Actions.{withAddition}
+use Rattle.macros.proofs.Openings.{nothing-more, add-more, linear-more}
 use borrow.Author.Needs.{needs}
 use Rattle.macros.proofs.with_numeric.Statement.{statement}
 use Rattle.macros.proofs.with_numeric.Tie as tie
-use Rattle.macros.proofs.with_numeric.Reads as reads
-use Rattle.macros.proofs.with_numeric.Lts as lts
-use Rattle.macros.proofs.with_addition.Reads as with-addition-reads
-use Rattle.macros.proofs.with_bound.Reads as with-bound-reads
 
 enum-told : tie.Need-enum-told
 enum-told c = search needs

@@ -1,16 +1,15 @@
 -- `writing::put_declared_starts` meets its contract: the loop writes each U. Assumes nothing.
-use mathlib.Core.Path.{_≡_, refl, sym, ap, _∙_}
-use Prim.Native.Nat.{ℕ, _-_, _<_}
+use mathlib.Core.Path.{_≡_, sym, ap}
+use Prim.Native.Nat.{ℕ, _-_}
 use native.Mathlib.Omega.{arith}
 use denote.Ref.{now}
 use mir.Facts.{toZ-ofZ}
 use mir.Syntax.{w64}
-use mir.Val.{SFits, toZ}
-use lib.ListN.{length, getD}
+use mir.Val.{SFits}
+use lib.ListN.{getD}
 use lib.IntN.{pos}
 use Rattle.lists.proofs.Writing.{room-as, wrote-as}
-use Rattle.actions.specs.Views.{conditionAt, pairAt}
-use Rattle.writing.specs.Parts.{modeBytes, startBytes}
+use Rattle.writing.specs.Parts.{startBytes}
 use Rattle.lists.proofs.Loops.{there-all}
 use Rattle.lists.proofs.WritingLoops.{Going, going-start, going-room, going-next, going-end, going-long}
 use Rattle.commands.specs.Encoding.{encode}
@@ -18,10 +17,6 @@ use Rattle.commands.specs.declared.Command.the-variants.{Start}
 use borrow.Author.Needs.{needs}
 use Rattle.writing.proofs.put_declared_starts.Statement.{statement}
 use Rattle.writing.proofs.put_declared_starts.Tie as tie
-use Rattle.writing.proofs.put_declared_starts.Reads as reads
-use Rattle.writing.proofs.put_declared_starts.Lts as lts
-use Rattle.integers.proofs.bits.Reads as bits-reads
-use Rattle.writing.proofs.put_command.Reads as put-command-reads
 
 abbrev Inv-loop : tie.InvT-loop
 Inv-loop out₀ at n starts place₀ i₀ out place i = Going startBytes n starts n out₀ at out place i
