@@ -32,7 +32,9 @@ add-n : tie.Need-add-n Inv-loop μ-loop
 add-n c = omega (arith, c .stage-count .ensures .1)
 
 macro-action-requires : tie.Need-macro-action-requires Inv-loop μ-loop
-macro-action-requires c κs = let r = macro-ready (c .before .before .before .before .loop .inv .walk) (c .before .before .before .loop-test .taken) (c .before .before .decode-action .result) (c .before .before .decode-action .ensures) in (r .0, r .1, r .2, omega (arith, c .if1 .taken, c .before .stage-count .ensures .0 (lowerOf (c .before .before .before .before .before .before .args .shape)) (upperOf (c .before .before .before .before .before .before .args .shape))))
+macro-action-requires c κs =
+    let r = macro-ready (c .before .before .before .before .loop .inv .walk) (c .before .before .before .loop-test .taken) (c .before .before .decode-action .result) (c .before .before .decode-action .ensures) in
+    (r .0, r .1, r .2, omega (arith, c .if1 .taken, c .before .stage-count .ensures .0 (lowerOf (c .before .before .before .before .before .before .args .shape)) (upperOf (c .before .before .before .before .before .before .args .shape))))
 
 returns : tie.Need-returns Inv-loop μ-loop
 returns c = sym (ap (actionOr (c .before .before .before .before .before .before .before .args .i)) (found (c .before .before .before .before .loop-test .taken) (c .before .before .before .decode-action .result) (c .before .before .before .decode-action .ensures) (c .before .before .stage-count .result) (c .before .before .stage-count .ensures .0 (lowerOf (c .before .before .before .before .before .before .before .args .shape)) (upperOf (c .before .before .before .before .before .before .before .args .shape))) (c .before .before .before .before .before .loop .inv) (c .before .if1 .taken) ∙ c .macro-action .ensures))

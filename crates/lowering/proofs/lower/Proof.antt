@@ -25,7 +25,9 @@ lower-accepted-requires : tie.Need-lower-accepted-requires
 lower-accepted-requires c κs = (subst (λ (w : Verdict). AcceptedWith w (c .before .before .actions .given .0 .1 .1 .0)) (rw (c .before .before .actions .given .1) at (c .before .before .before .before .check-source .ensures)) refl)
 
 returns : tie.Need-returns
-returns c = let e = c .before .number .given in refusal (refused-lowers (now (c .before .before .before .before .before .before .args .file)) (e .0 .0) (e .0 .1 .0) (rw (e .1) at (c .before .before .before .check-source .ensures)))
+returns c =
+    let e = c .before .number .given in
+    refusal (refused-lowers (now (c .before .before .before .before .before .before .args .file)) (e .0 .0) (e .0 .1 .0) (rw (e .1) at (c .before .before .before .check-source .ensures)))
 
 same-length : tie.Need-same-length
 same-length c = search needs

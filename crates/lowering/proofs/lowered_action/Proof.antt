@@ -30,7 +30,9 @@ find-action-requires : tie.Need-find-action-requires
 find-action-requires c κs = c .before .read-declarations .ensures .held
 
 returns : tie.Need-returns
-returns c = let e = c .before .before .number .given in c .no-action .ensures ∙ sym (refused-actions (now (c .before .before .before .before .before .before .args .file)) (c .before .before .before .before .before .before .args .k) (e .0 .0) (e .0 .1 .0) (rw (e .1) at (c .before .before .before .before .check-source .ensures)))
+returns c =
+    let e = c .before .before .number .given in
+    c .no-action .ensures ∙ sym (refused-actions (now (c .before .before .before .before .before .before .args .file)) (c .before .before .before .before .before .before .args .k) (e .0 .0) (e .0 .1 .0) (rw (e .1) at (c .before .before .before .before .check-source .ensures)))
 
 returns-2 : tie.Need-returns-2
 returns-2 c = c .find-action .ensures ∙ sym (accepted-actions (now (c .before .before .before .before .before .before .before .before .args .file)) (c .before .before .before .before .before .before .before .before .args .k) (c .before .before .read-declarations .ensures .held .is))

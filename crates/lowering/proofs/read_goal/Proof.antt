@@ -14,7 +14,10 @@ decode-goal-requires : tie.Need-decode-goal-requires
 decode-goal-requires c κs = search needs
 
 returns : tie.Need-returns
-returns c = let file = now (c .before .before .before .args .file) in let bytes = bytes-of file (λ i. omega (arith, c .before .before .shared-slice-known .given i)) in goal-read file (c .before .before .before .args .count) bytes (c .before .before .before .pre) (c .decode-goal .result) (rw (c .before .goal-bytes .ensures) at (c .decode-goal .ensures))
+returns c =
+    let file = now (c .before .before .before .args .file) in
+    let bytes = bytes-of file (λ i. omega (arith, c .before .before .shared-slice-known .given i)) in
+    goal-read file (c .before .before .before .args .count) bytes (c .before .before .before .pre) (c .decode-goal .result) (rw (c .before .goal-bytes .ensures) at (c .decode-goal .ensures))
 
 pub read-goal-spec : {M : Type 1} → statement M
 read-goal-spec = tie.close (tie.spec goal-bytes-requires decode-goal-requires returns)

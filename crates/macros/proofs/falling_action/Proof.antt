@@ -22,7 +22,10 @@ stroke-requires : tie.Need-stroke-requires
 stroke-requires c κs = search needs
 
 returns : tie.Need-returns
-returns c = let s = c .before .before .before .before .args in let k : SFits w64 (c .before .before .unit .result) = search needs in (simp (toZ-ofZ, k) at (c .stroke .ensures)) ∙ falling-is (s .a) (s .control) (s .number) (stageIs (s .stage)) (c .before .before .before .counter-of .result) (c .before .before .before .counter-of .ensures) (c .before .before .unit .result) _ (c .before .before .unit .ensures .0) (c .before .falls .ensures)
+returns c =
+    let s = c .before .before .before .before .args in
+    let k : SFits w64 (c .before .before .unit .result) = search needs in
+    (simp (toZ-ofZ, k) at (c .stroke .ensures)) ∙ falling-is (s .a) (s .control) (s .number) (stageIs (s .stage)) (c .before .before .before .counter-of .result) (c .before .before .before .counter-of .ensures) (c .before .before .unit .result) _ (c .before .before .unit .ensures .0) (c .before .falls .ensures)
 
 pub falling-action-spec : {M : Type 1} → statement M
 falling-action-spec =

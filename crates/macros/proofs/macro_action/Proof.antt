@@ -26,7 +26,11 @@ sub-which : tie.Need-sub-which
 sub-which c = search needs
 
 stage-at-requires : tie.Need-stage-at-requires
-stage-at-requires c κs = let s = c .before .args in let ds = stagesIn (s .shape) (s .action) in let j = (s .i - 1) / 3 in (c .before .pre .0, omega (arith, c .before .pre .3, c .if1 .left))
+stage-at-requires c κs =
+    let s = c .before .args in
+    let ds = stagesIn (s .shape) (s .action) in
+    let j = (s .i - 1) / 3 in
+    (c .before .pre .0, omega (arith, c .before .pre .3, c .if1 .left))
 
 stage-count-requires : tie.Need-stage-count-requires
 stage-count-requires c κs = search needs
@@ -35,19 +39,44 @@ add-following : tie.Need-add-following
 add-following c = search needs
 
 sub-following : tie.Need-sub-following
-sub-following c = let s = c .before .before .before .args in let ds = stagesIn (s .shape) (s .action) in let j = (s .i - 1) / 3 in omega (arith, c .before .before .before .pre .3, c .before .before .if1 .left, c .stage-count .ensures .0 (lowerOf (s .shape)) (upperOf (s .shape)))
+sub-following c =
+    let s = c .before .before .before .args in
+    let ds = stagesIn (s .shape) (s .action) in
+    let j = (s .i - 1) / 3 in
+    omega (arith, c .before .before .before .pre .3, c .before .before .if1 .left, c .stage-count .ensures .0 (lowerOf (s .shape)) (upperOf (s .shape)))
 
 cast-stage-action : tie.Need-cast-stage-action
-cast-stage-action c = let s = c .before .before .before .args in let ds = stagesIn (s .shape) (s .action) in let j = (s .i - 1) / 3 in omega (arith, c .before .before .before .pre .3, c .before .before .if1 .left, c .stage-count .ensures .1, c .stage-count .ensures .0 (lowerOf (s .shape)) (upperOf (s .shape)))
+cast-stage-action c =
+    let s = c .before .before .before .args in
+    let ds = stagesIn (s .shape) (s .action) in
+    let j = (s .i - 1) / 3 in
+    omega (arith, c .before .before .before .pre .3, c .before .before .if1 .left, c .stage-count .ensures .1, c .stage-count .ensures .0 (lowerOf (s .shape)) (upperOf (s .shape)))
 
 add-stage-action : tie.Need-add-stage-action
-add-stage-action c = let s = c .before .before .before .args in let ds = stagesIn (s .shape) (s .action) in let j = (s .i - 1) / 3 in omega (arith, c .before .before .before .pre .2, c .before .before .before .pre .3, c .before .before .if1 .left, c .stage-count .ensures .1, c .stage-count .ensures .0 (lowerOf (s .shape)) (upperOf (s .shape)))
+add-stage-action c =
+    let s = c .before .before .before .args in
+    let ds = stagesIn (s .shape) (s .action) in
+    let j = (s .i - 1) / 3 in
+    omega (arith, c .before .before .before .pre .2, c .before .before .before .pre .3, c .before .before .if1 .left, c .stage-count .ensures .1, c .stage-count .ensures .0 (lowerOf (s .shape)) (upperOf (s .shape)))
 
 stage-action-requires : tie.Need-stage-action-requires
-stage-action-requires c κs = let s = c .before .before .before .args in let ds = stagesIn (s .shape) (s .action) in let j = (s .i - 1) / 3 in let b = c .before .before .before .pre .0 .bounded in let n = c .stage-count .ensures .0 (lowerOf (s .shape)) (upperOf (s .shape)) in (c .before .stage-at .ensures .1, b .variablesFew, b .modesFew, omega (arith, c .before .before .before .pre .1), omega (arith, c .before .before .before .pre .2, c .before .before .before .pre .3, c .stage-count .ensures .1), omega arith)
+stage-action-requires c κs =
+    let s = c .before .before .before .args in
+    let ds = stagesIn (s .shape) (s .action) in
+    let j = (s .i - 1) / 3 in
+    let b = c .before .before .before .pre .0 .bounded in
+    let n = c .stage-count .ensures .0 (lowerOf (s .shape)) (upperOf (s .shape)) in
+    (c .before .stage-at .ensures .1, b .variablesFew, b .modesFew, omega (arith, c .before .before .before .pre .1), omega (arith, c .before .before .before .pre .2, c .before .before .before .pre .3, c .stage-count .ensures .1), omega arith)
 
 returns-2 : tie.Need-returns-2
-returns-2 c = let s = c .before .before .before .before .args in let ds = stagesIn (s .shape) (s .action) in let j = (s .i - 1) / 3 in let which = (s .i - 1) % 3 in let n = s .shape .variables in let m = s .shape .modes in let r = restrictedActionIs (c .stage-action .result) in
+returns-2 c =
+    let s = c .before .before .before .before .args in
+    let ds = stagesIn (s .shape) (s .action) in
+    let j = (s .i - 1) / 3 in
+    let which = (s .i - 1) % 3 in
+    let n = s .shape .variables in
+    let m = s .shape .modes in
+    let r = restrictedActionIs (c .stage-action .result) in
     let count = c .before .stage-count .ensures .0 (lowerOf (s .shape)) (upperOf (s .shape)) in
     let w = subst (λ (k : ℕ). Of n m which r (s .from + j) (stageIs (c .before .before .stage-at .result)) (nextNumber (s .from + j) (k - (j + 1)))) count (c .stage-action .ensures) in
     let split : s .i - 1 ≡ 3 * j + which = omega arith in

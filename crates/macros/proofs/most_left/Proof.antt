@@ -16,7 +16,9 @@ sub-result : tie.Need-sub-result
 sub-result c = let k : SFits w64 (c .unit .result) = search needs in simp (toZ-ofZ, k) (one-less-fits (c .unit .result) (c .unit .ensures .1))
 
 returns : tie.Need-returns
-returns c = let k : SFits w64 (c .unit .result) = search needs in simp (toZ-ofZ, k, one-less-fits (c .unit .result) (c .unit .ensures .1)) (ap (λ z. z -ℤ pos 1) (c .unit .ensures .0) ∙ one-less _)
+returns c =
+    let k : SFits w64 (c .unit .result) = search needs in
+    simp (toZ-ofZ, k, one-less-fits (c .unit .result) (c .unit .ensures .1)) (ap (λ z. z -ℤ pos 1) (c .unit .ensures .0) ∙ one-less _)
 
 pub most-left-spec : {M : Type 1} → statement M
 most-left-spec = tie.close (tie.spec unit-requires sub-result returns)

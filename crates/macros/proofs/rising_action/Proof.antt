@@ -16,7 +16,9 @@ stroke-requires : tie.Need-stroke-requires
 stroke-requires c κs = search needs
 
 returns : tie.Need-returns
-returns c = let s = c .before .before .before .args in c .stroke .ensures ∙ rising-is (s .a) (s .control) (s .number) (stageIs (s .stage)) (c .before .before .counter-of .result) (c .before .before .counter-of .ensures) _ (c .before .rises .ensures)
+returns c =
+    let s = c .before .before .before .args in
+    c .stroke .ensures ∙ rising-is (s .a) (s .control) (s .number) (stageIs (s .stage)) (c .before .before .counter-of .result) (c .before .before .counter-of .ensures) _ (c .before .rises .ensures)
 
 pub rising-action-spec : {M : Type 1} → statement M
 rising-action-spec =

@@ -35,13 +35,29 @@ turn-action-requires : tie.Need-turn-action-requires
 turn-action-requires c κs = (add-one (c .before .before .before .before .args .shape .variables), c .before .before .before .before .pre .0, rw (c .next-stage .ensures) (turns-on (c .before .before .before .before .args .number) (c .before .before .before .before .args .following) (c .before .before .before .before .pre .3)))
 
 returns : tie.Need-returns
-returns c = let s = c .before .before .before .before .args in let n = s .shape .variables in let m = s .shape .modes in let nx = nextNumber (s .number) (s .following) in rw (c .before .match .keys1) (ap some (sym (c .falling-action .ensures)))
+returns c =
+    let s = c .before .before .before .before .args in
+    let n = s .shape .variables in
+    let m = s .shape .modes in
+    let nx = nextNumber (s .number) (s .following) in
+    rw (c .before .match .keys1) (ap some (sym (c .falling-action .ensures)))
 
 returns-2 : tie.Need-returns-2
-returns-2 c = let s = c .before .before .before .before .args in let n = s .shape .variables in let m = s .shape .modes in let nx = nextNumber (s .number) (s .following) in rw (c .before .match .keys2) (ap some (sym (c .rising-action .ensures)))
+returns-2 c =
+    let s = c .before .before .before .before .args in
+    let n = s .shape .variables in
+    let m = s .shape .modes in
+    let nx = nextNumber (s .number) (s .following) in
+    rw (c .before .match .keys2) (ap some (sym (c .rising-action .ensures)))
 
 returns-3 : tie.Need-returns-3
-returns-3 c = let s = c .before .before .before .before .before .args in let n = s .shape .variables in let m = s .shape .modes in let nx = nextNumber (s .number) (s .following) in let e : s .which ≡ 2 = omega (arith, c .before .before .before .before .before .pre .5) in rw e (ap some (sym (c .turn-action .ensures ∙ ap (λ (z : ℕ). numbered n m (turn (s .number) (stageIs (s .stage)) z)) (c .before .next-stage .ensures))))
+returns-3 c =
+    let s = c .before .before .before .before .before .args in
+    let n = s .shape .variables in
+    let m = s .shape .modes in
+    let nx = nextNumber (s .number) (s .following) in
+    let e : s .which ≡ 2 = omega (arith, c .before .before .before .before .before .pre .5) in
+    rw e (ap some (sym (c .turn-action .ensures ∙ ap (λ (z : ℕ). numbered n m (turn (s .number) (stageIs (s .stage)) z)) (c .before .next-stage .ensures))))
 
 pub stage-action-spec : {M : Type 1} → statement M
 stage-action-spec =

@@ -67,7 +67,10 @@ upper-of-requires-2 : tie.Need-upper-of-requires-2
 upper-of-requires-2 c κs = c .before .before .before .before .pre .0 .bounded .variablesFew
 
 quotient-stage-requires : tie.Need-quotient-stage-requires
-quotient-stage-requires c κs = let e = c .before .before .before .effect2 .given in let k : SFits w64 (e .0 .1 .1 .0) = search needs in rw (toZ-ofZ k) (rw (e .1) at (c .before .before .before .before .before .pre .1), (rw (e .1) at (c .before .before .before .before .before .pre .0 .effectOk)) .2)
+quotient-stage-requires c κs =
+    let e = c .before .before .before .effect2 .given in
+    let k : SFits w64 (e .0 .1 .1 .0) = search needs in
+    rw (toZ-ofZ k) (rw (e .1) at (c .before .before .before .before .before .pre .1), (rw (e .1) at (c .before .before .before .before .before .pre .0 .effectOk)) .2)
 
 enum-known-effect-3 : tie.Need-enum-known-effect-3
 enum-known-effect-3 c = search needs
@@ -79,7 +82,10 @@ upper-of-requires-3 : tie.Need-upper-of-requires-3
 upper-of-requires-3 c κs = c .before .before .before .before .pre .0 .bounded .variablesFew
 
 residue-stage-requires : tie.Need-residue-stage-requires
-residue-stage-requires c κs = let e = c .before .before .before .effect3 .given in let k : SFits w64 (e .0 .1 .1 .0) = search needs in rw (toZ-ofZ k) (rw (e .1) at (c .before .before .before .before .before .pre .1), (rw (e .1) at (c .before .before .before .before .before .pre .0 .effectOk)) .2)
+residue-stage-requires c κs =
+    let e = c .before .before .before .effect3 .given in
+    let k : SFits w64 (e .0 .1 .1 .0) = search needs in
+    rw (toZ-ofZ k) (rw (e .1) at (c .before .before .before .before .before .pre .1), (rw (e .1) at (c .before .before .before .before .before .pre .0 .effectOk)) .2)
 
 returns : tie.Need-returns
 returns c = let h = rw (c .enum-told .given .1) at (c .before .before .pre .1) in absurd (omega (arith, h))
@@ -98,10 +104,20 @@ returns-3 c = let e = c .before .before .before .before .before .before .effect 
     (rw (e .1) (subst (λ (ts : List (ℕ × ℤ)). getElem? (linearStages t ts (lowerOf (c .before .before .before .before .before .before .before .before .args .shape) t) (upperOf (c .before .before .before .before .before .before .before .before .args .shape) t)) (c .before .before .before .before .before .before .before .before .args .j) ≡ some (stageIs (c .linear-stage .result))) (room-of-terms 4 (a .«term_count») (c .before .before .before .before .lesser .result) (a .terms) len (c .before .before .before .before .lesser .ensures)) q), c .linear-stage .ensures .1)
 
 returns-4 : tie.Need-returns-4
-returns-4 c = let e = c .before .before .before .before .effect2 .given in let k : SFits w64 (e .0 .1 .1 .0) = search needs in let l : SFits w64 (c .before .before .lower-of2 .result) = search needs in let u : SFits w64 (c .before .upper-of2 .result) = search needs in (rw (e .1) (same-stages (quotientStages (e .0 .0) (e .0 .1 .0)) (c .before .before .before .before .before .before .args .j) (some (stageIs (c .quotient-stage .result))) (toZ-ofZ k) (toZ-ofZ l ∙ c .before .before .lower-of2 .ensures) (toZ-ofZ u ∙ c .before .upper-of2 .ensures) (c .quotient-stage .ensures .0)), c .quotient-stage .ensures .1)
+returns-4 c =
+    let e = c .before .before .before .before .effect2 .given in
+    let k : SFits w64 (e .0 .1 .1 .0) = search needs in
+    let l : SFits w64 (c .before .before .lower-of2 .result) = search needs in
+    let u : SFits w64 (c .before .upper-of2 .result) = search needs in
+    (rw (e .1) (same-stages (quotientStages (e .0 .0) (e .0 .1 .0)) (c .before .before .before .before .before .before .args .j) (some (stageIs (c .quotient-stage .result))) (toZ-ofZ k) (toZ-ofZ l ∙ c .before .before .lower-of2 .ensures) (toZ-ofZ u ∙ c .before .upper-of2 .ensures) (c .quotient-stage .ensures .0)), c .quotient-stage .ensures .1)
 
 returns-5 : tie.Need-returns-5
-returns-5 c = let e = c .before .before .before .before .effect3 .given in let k : SFits w64 (e .0 .1 .1 .0) = search needs in let l : SFits w64 (c .before .before .lower-of3 .result) = search needs in let u : SFits w64 (c .before .upper-of3 .result) = search needs in (rw (e .1) (same-stages (residueStages (e .0 .0) (e .0 .1 .0)) (c .before .before .before .before .before .before .args .j) (some (stageIs (c .residue-stage .result))) (toZ-ofZ k) (toZ-ofZ l ∙ c .before .before .lower-of3 .ensures) (toZ-ofZ u ∙ c .before .upper-of3 .ensures) (c .residue-stage .ensures .0)), c .residue-stage .ensures .1)
+returns-5 c =
+    let e = c .before .before .before .before .effect3 .given in
+    let k : SFits w64 (e .0 .1 .1 .0) = search needs in
+    let l : SFits w64 (c .before .before .lower-of3 .result) = search needs in
+    let u : SFits w64 (c .before .upper-of3 .result) = search needs in
+    (rw (e .1) (same-stages (residueStages (e .0 .0) (e .0 .1 .0)) (c .before .before .before .before .before .before .args .j) (some (stageIs (c .residue-stage .result))) (toZ-ofZ k) (toZ-ofZ l ∙ c .before .before .lower-of3 .ensures) (toZ-ofZ u ∙ c .before .upper-of3 .ensures) (c .residue-stage .ensures .0)), c .residue-stage .ensures .1)
 
 pub stage-at-spec : {M : Type 1} → statement M
 stage-at-spec =

@@ -9,19 +9,34 @@ use Rattle.macros.proofs.with_condition.Statement.{statement}
 use Rattle.macros.proofs.with_condition.Tie as tie
 
 element-write-more : tie.Need-element-write-more
-element-write-more c = let a = c .args .action in let h = few-conditions (a .«condition_count») (a .«condition_variables») (a .«condition_relations») (a .«condition_constants») (c .pre) in search (needs, arith)
+element-write-more c =
+    let a = c .args .action in
+    let h = few-conditions (a .«condition_count») (a .«condition_variables») (a .«condition_relations») (a .«condition_constants») (c .pre) in
+    search (needs, arith)
 
 element-write-more-2 : tie.Need-element-write-more-2
-element-write-more-2 c = let a = c .args .action in let h = few-conditions (a .«condition_count») (a .«condition_variables») (a .«condition_relations») (a .«condition_constants») (c .pre) in search (needs, arith)
+element-write-more-2 c =
+    let a = c .args .action in
+    let h = few-conditions (a .«condition_count») (a .«condition_variables») (a .«condition_relations») (a .«condition_constants») (c .pre) in
+    search (needs, arith)
 
 mul-constant : tie.Need-mul-constant
-mul-constant c = let a = c .args .action in let h = few-conditions (a .«condition_count») (a .«condition_variables») (a .«condition_relations») (a .«condition_constants») (c .pre) in search (needs, arith)
+mul-constant c =
+    let a = c .args .action in
+    let h = few-conditions (a .«condition_count») (a .«condition_variables») (a .«condition_relations») (a .«condition_constants») (c .pre) in
+    search (needs, arith)
 
 element-set-from-constant : tie.Need-element-set-from-constant
-element-set-from-constant c = let a = c .args .action in let h = few-conditions (a .«condition_count») (a .«condition_variables») (a .«condition_relations») (a .«condition_constants») (c .pre) in search (needs, arith)
+element-set-from-constant c =
+    let a = c .args .action in
+    let h = few-conditions (a .«condition_count») (a .«condition_variables») (a .«condition_relations») (a .«condition_constants») (c .pre) in
+    search (needs, arith)
 
 add-more : tie.Need-add-more
-add-more c = let a = c .args .action in let h = few-conditions (a .«condition_count») (a .«condition_variables») (a .«condition_relations») (a .«condition_constants») (c .pre) in search (needs, arith)
+add-more c =
+    let a = c .args .action in
+    let h = few-conditions (a .«condition_count») (a .«condition_variables») (a .«condition_relations») (a .«condition_constants») (c .pre) in
+    search (needs, arith)
 
 returns : tie.Need-returns
 returns c = let a = c .args .action in

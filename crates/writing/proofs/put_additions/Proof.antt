@@ -41,7 +41,9 @@ element-copy-out-bits : tie.Need-element-copy-out-bits Inv-loop μ-loop
 element-copy-out-bits c = search (needs, arith)
 
 bits-requires : tie.Need-bits-requires Inv-loop μ-loop
-bits-requires c κs = let b : SFits w64 (getD (now (c .before .before .before .before .args .amounts)) (c .before .before .loop .i) (pos 0)) = search needs in rw (toZ-ofZ b) (c .before .before .before .before .pre .1 .0 (c .before .before .loop .i) (c .before .loop-test .taken))
+bits-requires c κs =
+    let b : SFits w64 (getD (now (c .before .before .before .before .args .amounts)) (c .before .before .loop .i) (pos 0)) = search needs in
+    rw (toZ-ofZ b) (c .before .before .before .before .pre .1 .0 (c .before .before .loop .i) (c .before .loop-test .taken))
 
 element-copy-out-t18 : tie.Need-element-copy-out-t18 Inv-loop μ-loop
 element-copy-out-t18 c = search needs

@@ -40,7 +40,9 @@ element-copy-out-bits : tie.Need-element-copy-out-bits Inv-loop μ-loop
 element-copy-out-bits c = search (needs, arith)
 
 bits-requires : tie.Need-bits-requires Inv-loop μ-loop
-bits-requires c κs = let b : SFits w64 (getD (now (c .before .before .before .before .args .starts)) (c .before .before .loop .i) (pos 0)) = search needs in rw (toZ-ofZ b) (c .before .before .before .before .pre .1 .0 (c .before .before .loop .i) (c .before .loop-test .taken))
+bits-requires c κs =
+    let b : SFits w64 (getD (now (c .before .before .before .before .args .starts)) (c .before .before .loop .i) (pos 0)) = search needs in
+    rw (toZ-ofZ b) (c .before .before .before .before .pre .1 .0 (c .before .before .loop .i) (c .before .loop-test .taken))
 
 put-command-requires : tie.Need-put-command-requires Inv-loop μ-loop
 put-command-requires c κs = room-as (coded (c .before)) (going-room (pos 0) (c .before .before .before .before .loop .inv) (c .before .before .before .loop-test .taken) (c .before .before .before .before .before .before .pre .1 .1))
