@@ -2,7 +2,7 @@
 -- Assumes nothing.
 use mathlib.Core.Path.{_≡_, refl, sym, ap, ap₂, _∙_, subst}
 use mathlib.Core.List.{List, [], _∷_, _++_}
-use Prim.Native.Nat.{ℕ, zero, suc, _+_, _≤_, _<_}
+use Prim.Native.Nat.{ℕ, zero, suc, _≤_, _<_}
 use native.Mathlib.Omega.{arith}
 use lib.ListN.{length, take, getD}
 use lib.Seq.{getD-take, ext-getD}
@@ -11,13 +11,11 @@ use lib.IntN.{ℤ, pos, natAbs}
 use Rattle.integers.specs.All.{All}
 use Rattle.integers.specs.Numbers.{Bytes}
 use Rattle.lists.specs.Answer.{given}
-use Rattle.model.specs.Tasks.{SourceVariable, SourceTask, State}
-use Rattle.model.specs.Limits.{sourceLimits, restrictedLimits}
-use Rattle.model.specs.TaskOk.{InRange}
+use Rattle.model.specs.Tasks.{SourceVariable, State}
+use Rattle.model.specs.Limits.{sourceLimits}
 use Rattle.model.specs.Reading.{verdictOf}
 use Rattle.model.specs.Decoding.{each, readSource}
-use Rattle.model.specs.Steps.{integerAt, sizesOf, startModes, sourceStart}
-use Rattle.model.specs.Lowering.{lowerTask}
+use Rattle.model.specs.Steps.{integerAt, sizesOf, sourceStart}
 use Rattle.model.proofs.ReadingLaws.{length-each}
 use Rattle.model.proofs.AcceptedOk.{accepted-source-ok}
 use Rattle.model.proofs.LoweredOk.{lowered-task-ok}
@@ -31,7 +29,7 @@ use Rattle.source.specs.Judged.{AcceptedWith}
 use Rattle.source.proofs.Judging.{accepted-task, counted-task}
 use Rattle.writing.specs.Parts.{Constants}
 use Rattle.writing.proofs.Sizes.{goal-writable}
-use Rattle.lowering.specs.Held.{taskOf, Held, Declares, GoalOf}
+use Rattle.lowering.specs.Held.{taskOf, Declares, GoalOf}
 
 -- ---- lists
 front-small : (n : ℕ) (xs ys : List ℤ) (i : ℕ) → All (λ (z : ℤ). natAbs z ≤ n) (xs ++ ys) → i < length xs → natAbs (integerAt xs i) ≤ n

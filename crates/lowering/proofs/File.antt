@@ -1,8 +1,8 @@
 -- The lowered task's file by its parts, as they are written; how long it is; and what a file that is refused, or accepted, comes to.
 -- Assumes nothing.
-use mathlib.Core.Path.{_≡_, refl, sym, ap, _∙_, subst}
+use mathlib.Core.Path.{_≡_, sym, ap, _∙_, subst}
 use mathlib.Core.List.{List, [], _∷_, _++_}
-use Prim.Native.Nat.{ℕ, suc, _+_, _*_, _≤_, _<_}
+use Prim.Native.Nat.{ℕ, suc, _+_, _*_}
 use native.Mathlib.Omega.{arith}
 use lib.ListN.{length, take, getElem?, length-append}
 use lib.IntN.{ℤ, pos}
@@ -22,7 +22,7 @@ use Rattle.actions.specs.Views.{pairsIs, goalModesIs, goalConditionsIs}
 use Rattle.writing.specs.Parts.{startBytes, modeBytes, actionBytes, goalBytes}
 use Rattle.writing.proofs.Parts.{fileParts, file-begun, file-length}
 use Rattle.lowering.specs.declared.Declarations.{Declarations}
-use Rattle.lowering.specs.Held.{taskOf, Held, Declares, GoalOf, stagesOfTask}
+use Rattle.lowering.specs.Held.{taskOf, Declares, GoalOf, stagesOfTask}
 use Rattle.lowering.specs.Lowered.{actionOr, loweredActionAt}
 
 -- the parts that are written, from what is read

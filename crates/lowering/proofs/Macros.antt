@@ -1,23 +1,21 @@
 -- The actions of a macro, one by one: each can be written, and there are three a stage behind the first.
 -- Assumes nothing.
-use mathlib.Core.Path.{_≡_, refl, sym, ap, _∙_, subst}
-use mathlib.Core.Option.{Option, some, Option·none-ne-some}
-use mathlib.Core.List.{List, [], _∷_, _++_}
+use mathlib.Core.Path.{_≡_, refl, sym, ap, _∙_}
+use mathlib.Core.Option.{some, Option·none-ne-some}
+use mathlib.Core.List.{List, [], _∷_}
 use Prim.Native.Nat.{ℕ, zero, suc, _+_, _*_, _≤_, _<_}
 use native.Mathlib.Omega.{arith}
 use lib.ListN.{length, take, getD, getElem?}
 use lib.Seq.{take-all}
-use lib.IntN.{ℤ}
-use Rattle.integers.specs.All.{All}
 use Rattle.lists.specs.Each.{flat}
 use Rattle.lists.specs.Writing.{Room, Wrote}
 use Rattle.lists.proofs.Loops.{There, there-all}
 use Rattle.lists.proofs.Writing.{room-as, wrote-as}
-use Rattle.lists.proofs.WritingLoops.{Going, going-start, going-room, going-next, going-end, going-long, Counted, counted-start, counted-next, counted-end}
+use Rattle.lists.proofs.WritingLoops.{Going, going-start, going-room, going-next, going-end, Counted, counted-start, counted-next, counted-end}
 use Rattle.model.specs.Tasks.{RestrictedAction}
 use Rattle.model.specs.Limits.{restrictedLimits}
 use Rattle.model.specs.TaskOk.{RestrictedActionOk}
-use Rattle.model.specs.Stages.{NamedAction, StageKind, byOne, byUnit, Stage, turnPlace, stagesOf, countActions, macro}
+use Rattle.model.specs.Stages.{NamedAction, StageKind, byOne, byUnit, Stage, turnPlace, countActions, macro}
 use Rattle.model.specs.Lowering.{numberedAll}
 use Rattle.model.proofs.StageWalk.{all-get}
 use Rattle.model.proofs.MacroPlace.{macro-length}

@@ -1,17 +1,17 @@
 -- The walk over the source actions of an accepted file: at each, what is left of the lowered actions is its macro and what is left behind it.
 -- Assumes nothing.
 use mathlib.Core.Path.{_≡_, refl, sym, ap, _∙_, subst}
-use mathlib.Core.Option.{Option, some, Option·none-ne-some}
+use mathlib.Core.Option.{some, Option·none-ne-some}
 use mathlib.Core.List.{List, [], _∷_, _++_}
 use Prim.Native.Nat.{ℕ, zero, suc, _+_, _*_, _≤_, _<_}
 use native.Mathlib.Omega.{arith}
 use native.Mathlib.Numerals.{add-one}
-use lib.ListN.{length, take, drop, getElem?, length-append}
+use lib.ListN.{length, drop, getElem?}
 use lib.Seq.{drop-length}
 use lib.IntN.{ℤ, natAbs}
 use Rattle.integers.specs.All.{All}
 use Rattle.lists.proofs.Each.{length-tabulate}
-use Rattle.model.specs.Tasks.{SourceVariable, SourceAction, SourceTask, RestrictedAction}
+use Rattle.model.specs.Tasks.{SourceVariable, SourceAction, RestrictedAction}
 use Rattle.model.specs.Limits.{sourceLimits, restrictedLimits}
 use Rattle.model.specs.TaskOk.{EffectOk, SourceVariableOk, SourceActionOk, SourceTaskOk, RestrictedActionOk}
 use Rattle.model.specs.Decoding.{each, sourceActionOf}

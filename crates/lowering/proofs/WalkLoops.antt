@@ -2,7 +2,7 @@
 -- action among it.
 -- Assumes nothing.
 use mathlib.Core.Path.{_≡_, refl, sym, ap, _∙_}
-use mathlib.Core.Option.{Option, none, some}
+use mathlib.Core.Option.{none}
 use mathlib.Core.List.{List, [], _∷_, _++_, append-nil}
 use Prim.Native.Nat.{ℕ, zero, suc, _+_, _*_, _-_, _≤_, _<_}
 use native.Mathlib.Omega.{arith}
@@ -10,7 +10,7 @@ use lib.ListN.{length, getElem?, length-append}
 use Rattle.lists.specs.Each.{flat}
 use Rattle.lists.specs.Writing.{Room, Wrote}
 use Rattle.lists.proofs.Each.{flat-nil, flat-append}
-use Rattle.lists.proofs.Writing.{Left, start, step, done, recast, room, long}
+use Rattle.lists.proofs.Writing.{Left, start, step, done, recast, room}
 use Rattle.model.specs.Tasks.{RestrictedAction}
 use Rattle.model.specs.Decoding.{sourceActionOf}
 use Rattle.model.specs.ActionBytes.{actionPart, decodeAction}
@@ -19,7 +19,7 @@ use Rattle.actions.specs.Views.{sourceActionIs, fittingSource}
 use Rattle.source.specs.declared.Shape.{Shape}
 use Rattle.writing.specs.Parts.{actionBytes}
 use Rattle.macros.specs.Shapes.{stagesIn, macroIn}
-use Rattle.lowering.specs.Held.{Held, restAt, stagesOfTask}
+use Rattle.lowering.specs.Held.{Held, restAt}
 use Rattle.lowering.proofs.Macros.{macro-count}
 use Rattle.lowering.proofs.Walk.{Walk, walk-start, walk-split, walk-next, walk-end}
 

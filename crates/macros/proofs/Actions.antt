@@ -1,12 +1,12 @@
 -- Actions with one part more.
 -- Assumes nothing.
-use mathlib.Core.Path.{_≡_, refl, sym, ap, _∙_}
-use Prim.Native.Nat.{ℕ, _+_, _≤_, _<_}
+use mathlib.Core.Path.{_≡_, sym, _∙_}
+use Prim.Native.Nat.{ℕ, _+_, _<_}
 use native.Mathlib.Omega.{arith}
 use mathlib.Core.List.{List, [], _∷_, _++_}
 use lib.ListN.{length, length-append, take, set}
 use lib.Seq.{take-all}
-use lib.IntN.{ℤ, pos}
+use lib.IntN.{ℤ}
 use Rattle.lists.proofs.Each.{length-tabulate}
 use Rattle.actions.specs.Kept.{ConditionsKept, PairsKept}
 use Rattle.actions.specs.Views.{conditionAt, conditionsIs, pairAt, pairsIs}

@@ -2,18 +2,17 @@
 -- Assumes nothing.
 use mathlib.Core.Path.{_≡_, refl, sym, ap, _∙_, subst}
 use mathlib.Core.Bool.{Bool, true, false, cond}
-use mathlib.Core.Option.{Option, none, some, Option·none-ne-some}
-use mathlib.Core.List.{List, [], _∷_, _++_}
-use Prim.Native.Nat.{ℕ, zero, suc, _+_, _*_, _-_, _≤_, _<_}
+use mathlib.Core.Option.{some, Option·none-ne-some}
+use mathlib.Core.List.{List, [], _∷_}
+use Prim.Native.Nat.{ℕ, zero, suc, _+_, _*_, _-_, _<_}
 use native.Mathlib.Omega.{arith}
 use native.Mathlib.Numerals.{add-one}
 use native.Mathlib.Nat.{add-zero}
 use lib.Dec.{eqb}
-use borrow.Author.Tests.{eq-eqb, ne-eqb}
+use borrow.Author.Tests.{ne-eqb}
 use lib.ListN.{length, getElem?}
-use lib.IntN.{ℤ}
 use Rattle.model.specs.Tasks.{RestrictedAction}
-use Rattle.model.specs.Stages.{NamedAction, Stage, falling, rising, turn, stageActions, firstStage, stagesActions}
+use Rattle.model.specs.Stages.{NamedAction, Stage, stageActions, firstStage, stagesActions}
 use Rattle.model.specs.Lowering.{numbered, numberedAll}
 use Rattle.macros.specs.Shapes.{nextNumber}
 

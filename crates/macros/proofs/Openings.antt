@@ -3,7 +3,7 @@
 use mathlib.Core.Path.{_≡_, refl, sym, ap, _∙_}
 use mathlib.Core.Bool.{Bool, true, false, cond}
 use mathlib.Core.List.{List, [], _∷_, _++_, append-nil}
-use Prim.Native.Nat.{ℕ, zero, suc, _+_, _≤_, _<_}
+use Prim.Native.Nat.{ℕ, zero, suc, _≤_, _<_}
 use lib.ListN.{length}
 use borrow.Author.Tests.{ne-eqb}
 use native.Mathlib.Omega.{arith}
@@ -15,7 +15,7 @@ use mir.Val.{SFits}
 use Rattle.integers.proofs.Parts.{ints, abs}
 use Rattle.model.specs.Tasks.{Measured, variable, weightedSum, NumericCondition, Effect, addEffect, linearEffect, SourceAction, RestrictedAction}
 use Rattle.integers.specs.Relation.{atMost, atLeast}
-use Rattle.model.specs.Stages.{Name, Stage, source, helperA, when, onSource, onSourceTerms, onSourceVariables, addedBound, openingAdditions, openingAction, firstStage, stagesOf}
+use Rattle.model.specs.Stages.{Name, Stage, source, when, onSource, onSourceTerms, onSourceVariables, addedBound, openingAdditions, openingAction, firstStage, stagesOf}
 use Rattle.model.specs.Lowering.{numberedAdditions, numberedMeasure, numberedConditions, numbered}
 use Rattle.actions.specs.declared.Effect.{Effect as DecodedEffect}
 use Rattle.actions.specs.declared.Effect.the-variants.{None, Add, Linear, Quotient, Residue}

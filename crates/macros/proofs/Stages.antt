@@ -12,7 +12,7 @@ use Rattle.model.specs.Decoding.{each}
 use Rattle.model.proofs.ReadingLaws.{length-each}
 use Rattle.model.specs.Stages.{Stage, drain, refill, drainTerms}
 use Rattle.model.specs.Limits.{sourceLimits}
-use Rattle.model.specs.TaskOk.{InRange, AmountOk, EffectOk}
+use Rattle.model.specs.TaskOk.{AmountOk, EffectOk}
 use Rattle.integers.specs.All.{All}
 use Rattle.actions.specs.declared.Effect.{Effect as DecodedEffect}
 use Rattle.actions.specs.declared.Effect.the-variants.{None, Add, Linear, Quotient, Residue}

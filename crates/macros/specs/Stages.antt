@@ -1,9 +1,9 @@
 -- The stages of a macro by value, in the words of the model.
 -- Assumes nothing.
-use Prim.Native.Nat.{ℕ, _≤_, _<_}
+use Prim.Native.Nat.{ℕ, _<_}
 use mathlib.Core.List.{List, [], _∷_}
 use lib.ListN.{getD}
-use lib.IntN.{ℤ, pos, natAbs}
+use lib.IntN.{ℤ, pos}
 use Rattle.model.specs.Limits.{sourceLimits}
 use Rattle.model.specs.TaskOk.{InRange, Factor}
 use Rattle.model.specs.Stages.{Stage, helperA, helperB, drain, refill, divide, empty, clear, move, drainTerms}

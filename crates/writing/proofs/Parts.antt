@@ -15,7 +15,7 @@ use Rattle.commands.specs.declared.Command.the-variants.{Start, Mode, Action, C
 use Rattle.integers.specs.Numbers.{bitsOf}
 use Rattle.integers.specs.Relation.{relationNumber}
 use Rattle.model.specs.Tasks.{NumericCondition, RestrictedAction, RestrictedTask}
-use Rattle.model.specs.Lowering.{variableOf, startCommands, modeCommands, modeConditionCommands, conditionCommands, modeEffectCommands, additionCommands, actionCommands, actionsCommands, fileCommands, encodeFile}
+use Rattle.model.specs.Lowering.{variableOf, startCommands, modeCommands, modeConditionCommands, conditionCommands, modeEffectCommands, additionCommands, actionCommands, actionsCommands, encodeFile}
 use Rattle.writing.specs.Parts.{startBytes, modeBytes, modeConditionBytes, conditionBytes, modeEffectBytes, additionBytes, actionBytes, goalBytes}
 
 -- ---- commands in front of others, one for each element of a list

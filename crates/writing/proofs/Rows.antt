@@ -1,10 +1,10 @@
 -- Loops that write the bytes of n elements of which element i is g i, f of each.
 -- Assumes nothing.
-use mathlib.Core.Path.{_≡_, refl, sym, ap, _∙_}
+use mathlib.Core.Path.{_≡_, sym, ap}
 use Prim.Native.Nat.{ℕ, _+_, _≤_, _<_}
 use native.Mathlib.Omega.{arith}
 use mathlib.Core.List.{List}
-use lib.ListN.{length, getD}
+use lib.ListN.{length}
 use Rattle.lists.specs.Each.{flat, tabulate}
 use Rattle.lists.specs.Writing.{Room, Wrote}
 use Rattle.lists.proofs.Each.{length-tabulate, getD-tabulate, take-tabulate}

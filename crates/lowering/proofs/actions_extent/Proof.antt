@@ -1,21 +1,12 @@
 -- `lowering::actions_extent` meets its contract: the loop counts the bytes and the stages of each action. Assumes nothing.
-use mathlib.Core.Path.{_≡_, refl, sym, ap, _∙_, subst}
-use Prim.Native.Nat.{ℕ, suc, _+_, _-_, _*_, _<_, _≤_}
+use Prim.Native.Nat.{_-_}
 use native.Mathlib.Omega.{arith}
-use denote.Ref.{now}
-use lib.ListN.{length}
-use Rattle.macros.specs.Shapes.{lowerOf, upperOf, stagesIn, macroIn}
-use Rattle.lowering.specs.Lowered.{actionOr}
-use Rattle.lowering.proofs.Walk.{Walk, few-actions, macro-ready, stages-end}
-use Rattle.lowering.proofs.WalkLoops.{Putting, Summing, Finding, putting-start, putting-room, putting-next, putting-end, summing-start, summing-next, summing-end, finding-start, found, finding-next, finding-end}
+use Rattle.macros.specs.Shapes.{lowerOf, upperOf}
+use Rattle.lowering.proofs.Walk.{few-actions, macro-ready, stages-end}
+use Rattle.lowering.proofs.WalkLoops.{Summing, summing-start, summing-next, summing-end}
 use borrow.Author.Needs.{needs}
 use Rattle.lowering.proofs.actions_extent.Statement.{statement}
 use Rattle.lowering.proofs.actions_extent.Tie as tie
-use Rattle.lowering.proofs.actions_extent.Reads as reads
-use Rattle.lowering.proofs.actions_extent.Lts as lts
-use Rattle.lowering.proofs.macro_size.Reads as macro-size-reads
-use Rattle.macros.proofs.stage_count.Reads as stage-count-reads
-use Rattle.source.proofs.decode_action.Reads as decode-action-reads
 
 abbrev Inv-loop : tie.InvT-loop
 Inv-loop file count shape bytes₀ from₀ k₀ bytes from k = Summing file count shape bytes k from

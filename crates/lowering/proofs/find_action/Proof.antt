@@ -1,22 +1,14 @@
 -- `lowering::find_action` meets its contract: the loop passes the macros that end before action i. Assumes nothing.
-use mathlib.Core.Path.{_≡_, refl, sym, ap, _∙_, subst}
-use Prim.Native.Nat.{ℕ, suc, _+_, _-_, _*_, _<_, _≤_}
+use mathlib.Core.Path.{sym, ap, _∙_}
+use Prim.Native.Nat.{_-_}
 use native.Mathlib.Omega.{arith}
-use denote.Ref.{now}
-use lib.ListN.{length}
-use Rattle.macros.specs.Shapes.{lowerOf, upperOf, stagesIn, macroIn}
+use Rattle.macros.specs.Shapes.{lowerOf, upperOf}
 use Rattle.lowering.specs.Lowered.{actionOr}
-use Rattle.lowering.proofs.Walk.{Walk, few-actions, macro-ready, stages-end}
-use Rattle.lowering.proofs.WalkLoops.{Putting, Summing, Finding, putting-start, putting-room, putting-next, putting-end, summing-start, summing-next, summing-end, finding-start, found, finding-next, finding-end}
+use Rattle.lowering.proofs.Walk.{few-actions, macro-ready}
+use Rattle.lowering.proofs.WalkLoops.{Finding, finding-start, found, finding-next, finding-end}
 use borrow.Author.Needs.{needs}
 use Rattle.lowering.proofs.find_action.Statement.{statement}
 use Rattle.lowering.proofs.find_action.Tie as tie
-use Rattle.lowering.proofs.find_action.Reads as reads
-use Rattle.lowering.proofs.find_action.Lts as lts
-use Rattle.lowering.proofs.no_action.Reads as no-action-reads
-use Rattle.macros.proofs.macro_action.Reads as macro-action-reads
-use Rattle.macros.proofs.stage_count.Reads as stage-count-reads
-use Rattle.source.proofs.decode_action.Reads as decode-action-reads
 
 abbrev Inv-loop : tie.InvT-loop
 Inv-loop file count shape i left₀ from₀ k₀ left from k = Finding file count shape i left k from
@@ -40,7 +32,9 @@ add-n : tie.Need-add-n Inv-loop μ-loop
 add-n c = omega (arith, c .stage-count .ensures .1)
 
 macro-action-requires : tie.Need-macro-action-requires Inv-loop μ-loop
-macro-action-requires c κs = let r = macro-ready (c .before .before .before .before .loop .inv .walk) (c .before .before .before .loop-test .taken) (c .before .before .decode-action .result) (c .before .before .decode-action .ensures) in (r .0, r .1, r .2, omega (arith, c .if1 .taken, c .before .stage-count .ensures .0 (lowerOf (c .before .before .before .before .before .before .args .shape)) (upperOf (c .before .before .before .before .before .before .args .shape))))
+macro-action-requires c κs =
+    let r = macro-ready (c .before .before .before .before .loop .inv .walk) (c .before .before .before .loop-test .taken) (c .before .before .decode-action .result) (c .before .before .decode-action .ensures) in
+    (r .0, r .1, r .2, omega (arith, c .if1 .taken, c .before .stage-count .ensures .0 (lowerOf (c .before .before .before .before .before .before .args .shape)) (upperOf (c .before .before .before .before .before .before .args .shape))))
 
 returns : tie.Need-returns Inv-loop μ-loop
 returns c = sym (ap (actionOr (c .before .before .before .before .before .before .before .args .i)) (found (c .before .before .before .before .loop-test .taken) (c .before .before .before .decode-action .result) (c .before .before .before .decode-action .ensures) (c .before .before .stage-count .result) (c .before .before .stage-count .ensures .0 (lowerOf (c .before .before .before .before .before .before .before .args .shape)) (upperOf (c .before .before .before .before .before .before .before .args .shape))) (c .before .before .before .before .before .loop .inv) (c .before .if1 .taken) ∙ c .macro-action .ensures))

@@ -1,28 +1,12 @@
 -- `lowering::lower_accepted` meets its contract: it counts, refuses, or writes. Assumes nothing.
-use mathlib.Core.Path.{_≡_, refl, sym, ap, _∙_, subst}
-use Prim.Native.Nat.{ℕ, suc, _+_, _*_, _<_, _≤_}
 use native.Mathlib.Omega.{arith}
 use denote.Ref.{now}
-use lib.ListN.{length}
-use Rattle.lists.proofs.Lent.{refusal, too-short, written}
-use Rattle.lists.proofs.Writing.{step, done, room}
-use Rattle.model.specs.Limits.{sourceLimits}
-use Rattle.model.specs.Reading.{Verdict}
-use Rattle.model.specs.Lowering.{lowerFile}
-use Rattle.source.specs.Judged.{AcceptedWith}
-use Rattle.lowering.specs.Held.{taskOf}
+use Rattle.lists.proofs.Lent.{too-short, written}
 use Rattle.lowering.proofs.Walk.{bounded}
-use Rattle.lowering.proofs.File.{task-begun, task-length, refused-lowers, refused-actions, accepted-lowers, accepted-actions}
+use Rattle.lowering.proofs.File.{task-length, accepted-lowers}
 use borrow.Author.Needs.{needs}
 use Rattle.lowering.proofs.lower_accepted.Statement.{statement}
 use Rattle.lowering.proofs.lower_accepted.Tie as tie
-use Rattle.lowering.proofs.lower_accepted.Reads as reads
-use Rattle.lowering.proofs.lower_accepted.Lts as lts
-use Rattle.lowering.proofs.actions_extent.Reads as actions-extent-reads
-use Rattle.lowering.proofs.put_task.Reads as put-task-reads
-use Rattle.lowering.proofs.read_declarations.Reads as read-declarations-reads
-use Rattle.lowering.proofs.read_goal.Reads as read-goal-reads
-use Rattle.writing.proofs.goal_size.Reads as goal-size-reads
 
 read-declarations-requires : tie.Need-read-declarations-requires
 read-declarations-requires c κs = c .before .before .pre

@@ -1,27 +1,12 @@
 -- `lowering::lowered_action` meets its contract: a file is refused, or an action of its lowered task is looked for. Assumes nothing.
-use mathlib.Core.Path.{_≡_, refl, sym, ap, _∙_, subst}
-use Prim.Native.Nat.{ℕ, suc, _+_, _*_, _<_, _≤_}
-use native.Mathlib.Omega.{arith}
+use mathlib.Core.Path.{refl, sym, _∙_, subst}
 use denote.Ref.{now}
-use lib.ListN.{length}
-use Rattle.lists.proofs.Lent.{refusal, too-short, written}
-use Rattle.lists.proofs.Writing.{step, done, room}
-use Rattle.model.specs.Limits.{sourceLimits}
 use Rattle.model.specs.Reading.{Verdict}
-use Rattle.model.specs.Lowering.{lowerFile}
 use Rattle.source.specs.Judged.{AcceptedWith}
-use Rattle.lowering.specs.Held.{taskOf}
-use Rattle.lowering.proofs.Walk.{bounded}
-use Rattle.lowering.proofs.File.{task-begun, task-length, refused-lowers, refused-actions, accepted-lowers, accepted-actions}
+use Rattle.lowering.proofs.File.{refused-actions, accepted-actions}
 use borrow.Author.Needs.{needs}
 use Rattle.lowering.proofs.lowered_action.Statement.{statement}
 use Rattle.lowering.proofs.lowered_action.Tie as tie
-use Rattle.lowering.proofs.lowered_action.Reads as reads
-use Rattle.lowering.proofs.lowered_action.Lts as lts
-use Rattle.lowering.proofs.find_action.Reads as find-action-reads
-use Rattle.lowering.proofs.no_action.Reads as no-action-reads
-use Rattle.lowering.proofs.read_declarations.Reads as read-declarations-reads
-use Rattle.tasks.proofs.check_source.Reads as check-source-reads
 
 check-source-requires : tie.Need-check-source-requires
 check-source-requires c κs = search needs
@@ -45,7 +30,9 @@ find-action-requires : tie.Need-find-action-requires
 find-action-requires c κs = c .before .read-declarations .ensures .held
 
 returns : tie.Need-returns
-returns c = let e = c .before .before .number .given in c .no-action .ensures ∙ sym (refused-actions (now (c .before .before .before .before .before .before .args .file)) (c .before .before .before .before .before .before .args .k) (e .0 .0) (e .0 .1 .0) (rw (e .1) at (c .before .before .before .before .check-source .ensures)))
+returns c =
+    let e = c .before .before .number .given in
+    c .no-action .ensures ∙ sym (refused-actions (now (c .before .before .before .before .before .before .args .file)) (c .before .before .before .before .before .before .args .k) (e .0 .0) (e .0 .1 .0) (rw (e .1) at (c .before .before .before .before .check-source .ensures)))
 
 returns-2 : tie.Need-returns-2
 returns-2 c = c .find-action .ensures ∙ sym (accepted-actions (now (c .before .before .before .before .before .before .before .before .args .file)) (c .before .before .before .before .before .before .before .before .args .k) (c .before .before .read-declarations .ensures .held .is))

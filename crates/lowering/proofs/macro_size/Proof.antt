@@ -1,22 +1,15 @@
 -- `lowering::macro_size` meets its contract: the loop counts the bytes of each action. Assumes nothing.
-use mathlib.Core.Path.{_≡_, refl, sym, ap, _∙_, subst}
-use mathlib.Core.List.{List, [], _∷_, _++_}
-use Prim.Native.Nat.{ℕ, suc, _+_, _-_, _*_, _<_, _≤_}
+use mathlib.Core.Path.{_≡_, sym, ap, _∙_}
+use Prim.Native.Nat.{ℕ, _+_, _-_, _*_, _≤_}
 use native.Mathlib.Omega.{arith}
-use denote.Ref.{now}
 use lib.ListN.{length}
 use Rattle.writing.specs.Parts.{actionBytes}
-use Rattle.lists.proofs.WritingLoops.{Going, going-long, Counted}
-use Rattle.macros.specs.Shapes.{lowerOf, upperOf, stagesIn, macroIn}
-use Rattle.lowering.proofs.Macros.{macro-count, writable-in, begun, action-room, action-next, action-end, count-begun, count-next, count-end}
+use Rattle.lists.proofs.WritingLoops.{Counted}
+use Rattle.macros.specs.Shapes.{lowerOf, upperOf, macroIn}
+use Rattle.lowering.proofs.Macros.{macro-count, writable-in, count-begun, count-next, count-end}
 use borrow.Author.Needs.{needs}
 use Rattle.lowering.proofs.macro_size.Statement.{statement}
 use Rattle.lowering.proofs.macro_size.Tie as tie
-use Rattle.lowering.proofs.macro_size.Reads as reads
-use Rattle.lowering.proofs.macro_size.Lts as lts
-use Rattle.macros.proofs.macro_action.Reads as macro-action-reads
-use Rattle.macros.proofs.stage_count.Reads as stage-count-reads
-use Rattle.writing.proofs.action_size.Reads as action-size-reads
 
 abbrev Inv-loop : tie.InvT-loop
 Inv-loop action shape from n sum₀ i₀ sum i = (Counted actionBytes n (macroIn shape from action) n sum i) × (sum ≤ 361 * i)

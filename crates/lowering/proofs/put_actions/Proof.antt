@@ -1,22 +1,15 @@
 -- `lowering::put_actions` meets its contract: the loop writes what each action becomes. Assumes nothing.
-use mathlib.Core.Path.{_≡_, refl, sym, ap, _∙_, subst}
-use Prim.Native.Nat.{ℕ, suc, _+_, _-_, _*_, _<_, _≤_}
+use mathlib.Core.Path.{refl}
+use Prim.Native.Nat.{_-_}
 use native.Mathlib.Omega.{arith}
-use denote.Ref.{now}
 use lib.ListN.{length}
-use Rattle.macros.specs.Shapes.{lowerOf, upperOf, stagesIn, macroIn}
-use Rattle.lowering.specs.Lowered.{actionOr}
-use Rattle.lowering.proofs.Walk.{Walk, few-actions, macro-ready, stages-end}
-use Rattle.lowering.proofs.WalkLoops.{Putting, Summing, Finding, putting-start, putting-room, putting-next, putting-end, summing-start, summing-next, summing-end, finding-start, found, finding-next, finding-end}
+use Rattle.macros.specs.Shapes.{lowerOf, upperOf, stagesIn}
+use Rattle.lowering.proofs.Walk.{few-actions, macro-ready}
+use Rattle.lowering.proofs.WalkLoops.{Putting, putting-start, putting-room, putting-next, putting-end}
 use Rattle.lists.proofs.Writing.{long}
 use borrow.Author.Needs.{needs}
 use Rattle.lowering.proofs.put_actions.Statement.{statement}
 use Rattle.lowering.proofs.put_actions.Tie as tie
-use Rattle.lowering.proofs.put_actions.Reads as reads
-use Rattle.lowering.proofs.put_actions.Lts as lts
-use Rattle.lowering.proofs.put_macro.Reads as put-macro-reads
-use Rattle.macros.proofs.stage_count.Reads as stage-count-reads
-use Rattle.source.proofs.decode_action.Reads as decode-action-reads
 
 abbrev Inv-loop : tie.InvT-loop
 Inv-loop out₀ at file count shape place₀ from₀ k₀ out place from k = Putting file count shape out₀ at out place k from

@@ -1,22 +1,15 @@
 -- `lowering::put_macro` meets its contract: the loop writes each action. Assumes nothing.
-use mathlib.Core.Path.{_≡_, refl, sym, ap, _∙_, subst}
-use mathlib.Core.List.{List, [], _∷_, _++_}
-use Prim.Native.Nat.{ℕ, suc, _+_, _-_, _*_, _<_, _≤_}
+use mathlib.Core.Path.{_≡_, sym, ap, _∙_}
+use Prim.Native.Nat.{ℕ, _+_, _-_, _*_}
 use native.Mathlib.Omega.{arith}
-use denote.Ref.{now}
 use lib.ListN.{length}
 use Rattle.writing.specs.Parts.{actionBytes}
-use Rattle.lists.proofs.WritingLoops.{Going, going-long, Counted}
-use Rattle.macros.specs.Shapes.{lowerOf, upperOf, stagesIn, macroIn}
-use Rattle.lowering.proofs.Macros.{macro-count, writable-in, begun, action-room, action-next, action-end, count-begun, count-next, count-end}
+use Rattle.lists.proofs.WritingLoops.{Going, going-long}
+use Rattle.macros.specs.Shapes.{lowerOf, upperOf, macroIn}
+use Rattle.lowering.proofs.Macros.{macro-count, writable-in, begun, action-room, action-next, action-end}
 use borrow.Author.Needs.{needs}
 use Rattle.lowering.proofs.put_macro.Statement.{statement}
 use Rattle.lowering.proofs.put_macro.Tie as tie
-use Rattle.lowering.proofs.put_macro.Reads as reads
-use Rattle.lowering.proofs.put_macro.Lts as lts
-use Rattle.macros.proofs.macro_action.Reads as macro-action-reads
-use Rattle.macros.proofs.stage_count.Reads as stage-count-reads
-use Rattle.writing.proofs.put_action.Reads as put-action-reads
 
 abbrev Inv-loop : tie.InvT-loop
 Inv-loop out₀ at action shape from n place₀ i₀ out place i = Going actionBytes n (macroIn shape from action) n out₀ at out place i

@@ -1,27 +1,12 @@
 -- `lowering::put_task` meets its contract: its parts are written one after another. Assumes nothing.
-use mathlib.Core.Path.{_≡_, refl, sym, ap, _∙_, subst}
-use Prim.Native.Nat.{ℕ, suc, _+_, _*_, _<_, _≤_}
 use native.Mathlib.Omega.{arith}
 use denote.Ref.{now}
-use lib.ListN.{length}
-use Rattle.lists.proofs.Lent.{refusal, too-short, written}
 use Rattle.lists.proofs.Writing.{step, done, room}
-use Rattle.model.specs.Limits.{sourceLimits}
-use Rattle.model.specs.Reading.{Verdict}
-use Rattle.model.specs.Lowering.{lowerFile}
-use Rattle.source.specs.Judged.{AcceptedWith}
-use Rattle.lowering.specs.Held.{taskOf}
 use Rattle.lowering.proofs.Walk.{bounded}
-use Rattle.lowering.proofs.File.{task-begun, task-length, refused-lowers, refused-actions, accepted-lowers, accepted-actions}
+use Rattle.lowering.proofs.File.{task-begun}
 use borrow.Author.Needs.{needs}
 use Rattle.lowering.proofs.put_task.Statement.{statement}
 use Rattle.lowering.proofs.put_task.Tie as tie
-use Rattle.lowering.proofs.put_task.Reads as reads
-use Rattle.lowering.proofs.put_task.Lts as lts
-use Rattle.lowering.proofs.put_actions.Reads as put-actions-reads
-use Rattle.writing.proofs.put_goal.Reads as put-goal-reads
-use Rattle.writing.proofs.put_modes.Reads as put-modes-reads
-use Rattle.writing.proofs.put_starts.Reads as put-starts-reads
 
 put-starts-requires : tie.Need-put-starts-requires
 put-starts-requires c κs = ((bounded (c .before .before .before .before .before .before .before .before .pre .0 .0 .held) .variablesFew, c .before .before .before .before .before .before .before .before .pre .0 .0 .startsLong), (c .before .before .before .before .before .before .before .before .pre .0 .0 .startsIn, room (c .before .before .before .before .before .before .before .before .pre .1) (task-begun (now (c .before .before .before .before .before .before .before .before .args .file)) (c .before .before .before .before .before .before .before .before .args .count) (c .before .before .before .before .before .before .before .before .args .declared) (c .before .before .before .before .before .before .before .before .args .goal) (c .before .before .before .before .before .before .before .before .args .control) (c .before .before .before .before .before .before .before .before .pre .0 .0) (c .before .before .before .before .before .before .before .before .pre .0 .1) (c .before .before .before .before .before .before .before .before .pre .0 .2) (now (c .before .before .before .before .before .before .before .before .args .out)))))

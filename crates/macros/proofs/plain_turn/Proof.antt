@@ -1,30 +1,16 @@
 -- `macros::plain_turn` meets its contract: a stroke without additions, and what is put behind. Assumes nothing.
-use mathlib.Core.Path.{_≡_, refl, sym, ap, _∙_, subst}
+use mathlib.Core.Path.{sym, ap, _∙_, subst}
 use Prim.Native.Nat.{ℕ, _<_}
-use native.Mathlib.Omega.{arith}
 use lib.ListN.{length}
-use mathlib.Core.List.{List, [], _∷_}
+use mathlib.Core.List.{List}
 use mir.Facts.{toZ-ofZ}
-use mir.Syntax.{w64}
-use mir.Val.{SFits, toZ}
 use lib.Dec.{lit≤}
-use lib.IntN.{ℤ, pos, _-ℤ_}
 use Rattle.lists.specs.Each as each
-use Rattle.actions.specs.Views.{restrictedActionIs}
 use Rattle.model.specs.Tasks.{RestrictedAction}
-use Rattle.model.specs.Stages.{helperA, helperB, turn}
-use Rattle.model.specs.Lowering.{numbered}
-use Rattle.macros.specs.Stages.{stageIs}
 use Rattle.macros.specs.Actions.{condition, withCondition, withModeEffect}
-use Rattle.macros.proofs.Strokes.{one-less, one-less-fits, falling-is, rising-is, turnBase, turn-base, plain-turn-is, move-turn-is, one-more-condition}
 use borrow.Author.Needs.{needs}
 use Rattle.macros.proofs.plain_turn.Statement.{statement}
 use Rattle.macros.proofs.plain_turn.Tie as tie
-use Rattle.macros.proofs.plain_turn.Reads as reads
-use Rattle.macros.proofs.plain_turn.Lts as lts
-use Rattle.macros.proofs.stroke.Reads as stroke-reads
-use Rattle.macros.proofs.with_condition.Reads as with-condition-reads
-use Rattle.macros.proofs.with_mode_effect.Reads as with-mode-effect-reads
 
 stroke-requires : tie.Need-stroke-requires
 stroke-requires c κs = search needs

@@ -1,46 +1,17 @@
 -- `macros::stage_action` meets its contract: one arm an action. Assumes nothing.
-use mathlib.Core.Path.{_≡_, refl, sym, ap, _∙_, subst}
-use mathlib.Core.Bool.{Bool, true, false, cond}
+use mathlib.Core.Path.{_≡_, sym, ap, _∙_}
 use mathlib.Core.Option.{some}
-use mathlib.Core.List.{List, [], _∷_, _++_}
-use Prim.Native.Nat.{ℕ, _+_, _*_, _/_, _<_, _≤_}
+use Prim.Native.Nat.{ℕ}
 use native.Mathlib.Omega.{arith}
-use lib.ListN.{length, getD, length-append}
-use mir.Facts.{toZ-ofZ}
-use mir.Syntax.{w64}
-use mir.Val.{SFits, toZ}
-use lib.Dec.{lit≤}
-use lib.IntN.{ℤ, pos}
-use Rattle.lists.proofs.Loops.{length-mapped}
-use Rattle.model.specs.Tasks.{RestrictedAction}
-use Rattle.model.specs.Stages.{helperA, clear, move, refill, drain}
-use Rattle.actions.specs.declared.Term.{Term}
-use Rattle.actions.specs.Views.{effectIs, termsIs, termIs, sourceActionIs, restrictedActionIs}
-use Rattle.macros.specs.Shapes.{lowerOf, upperOf}
-use Rattle.macros.specs.Actions.{withModeCondition, withModeEffect, sourcePart, withNumeric}
-use Rattle.macros.proofs.Stages.{moderate, drain-at, refill-at, past-terms, drained-length, terms-length, term-at}
-use Rattle.macros.proofs.Openings.{without-terms, single-is, macro-opens}
 use native.Mathlib.Numerals.{add-one}
-use lib.ListN.{getElem?}
-use borrow.Author.Tests.{eq-eqb, ne-eqb}
-use Rattle.model.specs.Stages.{falling, rising, turn, stageActions, stagesOf}
-use Rattle.model.specs.Lowering.{numbered, numberedAll}
-use Rattle.macros.specs.Shapes.{nextNumber, stagesIn, macroIn}
-use Rattle.macros.specs.Stages.{stageIs, linearStages, quotientStages, residueStages, WeightsSmall}
-use Rattle.macros.proofs.Stages.{room-of-terms, weights-small, same-stages}
-use Rattle.integers.specs.All.{All}
-use Rattle.model.specs.Limits.{sourceLimits}
-use Rattle.model.specs.TaskOk.{AmountOk}
-use Rattle.macros.proofs.Macros.{numbered-at, turns-on, stage-at}
+use Rattle.model.specs.Stages.{turn}
+use Rattle.model.specs.Lowering.{numbered}
+use Rattle.macros.specs.Shapes.{nextNumber}
+use Rattle.macros.specs.Stages.{stageIs}
+use Rattle.macros.proofs.Macros.{turns-on}
 use borrow.Author.Needs.{needs}
 use Rattle.macros.proofs.stage_action.Statement.{statement}
 use Rattle.macros.proofs.stage_action.Tie as tie
-use Rattle.macros.proofs.stage_action.Reads as reads
-use Rattle.macros.proofs.stage_action.Lts as lts
-use Rattle.macros.proofs.falling_action.Reads as falling-action-reads
-use Rattle.macros.proofs.next_stage.Reads as next-stage-reads
-use Rattle.macros.proofs.rising_action.Reads as rising-action-reads
-use Rattle.macros.proofs.turn_action.Reads as turn-action-reads
 
 cast-a : tie.Need-cast-a
 cast-a c = search needs
@@ -64,13 +35,29 @@ turn-action-requires : tie.Need-turn-action-requires
 turn-action-requires c κs = (add-one (c .before .before .before .before .args .shape .variables), c .before .before .before .before .pre .0, rw (c .next-stage .ensures) (turns-on (c .before .before .before .before .args .number) (c .before .before .before .before .args .following) (c .before .before .before .before .pre .3)))
 
 returns : tie.Need-returns
-returns c = let s = c .before .before .before .before .args in let n = s .shape .variables in let m = s .shape .modes in let nx = nextNumber (s .number) (s .following) in rw (c .before .match .keys1) (ap some (sym (c .falling-action .ensures)))
+returns c =
+    let s = c .before .before .before .before .args in
+    let n = s .shape .variables in
+    let m = s .shape .modes in
+    let nx = nextNumber (s .number) (s .following) in
+    rw (c .before .match .keys1) (ap some (sym (c .falling-action .ensures)))
 
 returns-2 : tie.Need-returns-2
-returns-2 c = let s = c .before .before .before .before .args in let n = s .shape .variables in let m = s .shape .modes in let nx = nextNumber (s .number) (s .following) in rw (c .before .match .keys2) (ap some (sym (c .rising-action .ensures)))
+returns-2 c =
+    let s = c .before .before .before .before .args in
+    let n = s .shape .variables in
+    let m = s .shape .modes in
+    let nx = nextNumber (s .number) (s .following) in
+    rw (c .before .match .keys2) (ap some (sym (c .rising-action .ensures)))
 
 returns-3 : tie.Need-returns-3
-returns-3 c = let s = c .before .before .before .before .before .args in let n = s .shape .variables in let m = s .shape .modes in let nx = nextNumber (s .number) (s .following) in let e : s .which ≡ 2 = omega (arith, c .before .before .before .before .before .pre .5) in rw e (ap some (sym (c .turn-action .ensures ∙ ap (λ (z : ℕ). numbered n m (turn (s .number) (stageIs (s .stage)) z)) (c .before .next-stage .ensures))))
+returns-3 c =
+    let s = c .before .before .before .before .before .args in
+    let n = s .shape .variables in
+    let m = s .shape .modes in
+    let nx = nextNumber (s .number) (s .following) in
+    let e : s .which ≡ 2 = omega (arith, c .before .before .before .before .before .pre .5) in
+    rw e (ap some (sym (c .turn-action .ensures ∙ ap (λ (z : ℕ). numbered n m (turn (s .number) (stageIs (s .stage)) z)) (c .before .next-stage .ensures))))
 
 pub stage-action-spec : {M : Type 1} → statement M
 stage-action-spec =

@@ -1,48 +1,28 @@
 -- `macros::stage_at` meets its contract, effect by effect. Assumes nothing.
-use mathlib.Core.Path.{_≡_, refl, sym, ap, _∙_, subst}
-use mathlib.Core.Bool.{Bool, true, false, cond}
+use mathlib.Core.Path.{_≡_, refl, sym, _∙_, subst}
 use mathlib.Core.Option.{some}
-use mathlib.Core.List.{List, [], _∷_, _++_}
-use Prim.Native.Nat.{ℕ, _+_, _*_, _/_, _<_, _≤_}
+use mathlib.Core.List.{List, [], _∷_}
+use Prim.Native.Nat.{ℕ}
 use native.Mathlib.Omega.{arith}
-use lib.ListN.{length, getD, length-append}
+use lib.ListN.{length}
 use mir.Facts.{toZ-ofZ}
 use mir.Syntax.{w64}
-use mir.Val.{SFits, toZ}
-use lib.Dec.{lit≤}
+use mir.Val.{SFits}
 use lib.IntN.{ℤ, pos}
 use Rattle.lists.proofs.Loops.{length-mapped}
-use Rattle.model.specs.Tasks.{RestrictedAction}
-use Rattle.model.specs.Stages.{helperA, clear, move, refill, drain}
-use Rattle.actions.specs.declared.Term.{Term}
-use Rattle.actions.specs.Views.{effectIs, termsIs, termIs, sourceActionIs, restrictedActionIs}
+use Rattle.model.specs.Stages.{helperA, clear, move}
+use Rattle.actions.specs.Views.{termsIs}
 use Rattle.macros.specs.Shapes.{lowerOf, upperOf}
-use Rattle.macros.specs.Actions.{withModeCondition, withModeEffect, sourcePart, withNumeric}
-use Rattle.macros.proofs.Stages.{moderate, drain-at, refill-at, past-terms, drained-length, terms-length, term-at}
-use Rattle.macros.proofs.Openings.{without-terms, single-is, macro-opens}
-use native.Mathlib.Numerals.{add-one}
+use Rattle.macros.proofs.Stages.{drained-length, terms-length}
 use lib.ListN.{getElem?}
-use borrow.Author.Tests.{eq-eqb, ne-eqb}
-use Rattle.model.specs.Stages.{falling, rising, turn, stageActions, stagesOf}
-use Rattle.model.specs.Lowering.{numbered, numberedAll}
-use Rattle.macros.specs.Shapes.{nextNumber, stagesIn, macroIn}
-use Rattle.macros.specs.Stages.{stageIs, linearStages, quotientStages, residueStages, WeightsSmall}
+use Rattle.macros.specs.Stages.{stageIs, linearStages, quotientStages, residueStages}
 use Rattle.macros.proofs.Stages.{room-of-terms, weights-small, same-stages}
 use Rattle.integers.specs.All.{All}
 use Rattle.model.specs.Limits.{sourceLimits}
 use Rattle.model.specs.TaskOk.{AmountOk}
-use Rattle.macros.proofs.Macros.{numbered-at, turns-on, stage-at}
 use borrow.Author.Needs.{needs}
 use Rattle.macros.proofs.stage_at.Statement.{statement}
 use Rattle.macros.proofs.stage_at.Tie as tie
-use Rattle.macros.proofs.stage_at.Reads as reads
-use Rattle.macros.proofs.stage_at.Lts as lts
-use Rattle.macros.proofs.linear_stage.Reads as linear-stage-reads
-use Rattle.macros.proofs.lower_of.Reads as lower-of-reads
-use Rattle.macros.proofs.quotient_stage.Reads as quotient-stage-reads
-use Rattle.macros.proofs.residue_stage.Reads as residue-stage-reads
-use Rattle.macros.proofs.upper_of.Reads as upper-of-reads
-use Rattle.source.proofs.lesser.Reads as lesser-reads
 
 -- the array of terms
 long : (s : tie.Start) → length (s .args .action .terms) ≡ 4
@@ -87,7 +67,10 @@ upper-of-requires-2 : tie.Need-upper-of-requires-2
 upper-of-requires-2 c κs = c .before .before .before .before .pre .0 .bounded .variablesFew
 
 quotient-stage-requires : tie.Need-quotient-stage-requires
-quotient-stage-requires c κs = let e = c .before .before .before .effect2 .given in let k : SFits w64 (e .0 .1 .1 .0) = search needs in rw (toZ-ofZ k) (rw (e .1) at (c .before .before .before .before .before .pre .1), (rw (e .1) at (c .before .before .before .before .before .pre .0 .effectOk)) .2)
+quotient-stage-requires c κs =
+    let e = c .before .before .before .effect2 .given in
+    let k : SFits w64 (e .0 .1 .1 .0) = search needs in
+    rw (toZ-ofZ k) (rw (e .1) at (c .before .before .before .before .before .pre .1), (rw (e .1) at (c .before .before .before .before .before .pre .0 .effectOk)) .2)
 
 enum-known-effect-3 : tie.Need-enum-known-effect-3
 enum-known-effect-3 c = search needs
@@ -99,7 +82,10 @@ upper-of-requires-3 : tie.Need-upper-of-requires-3
 upper-of-requires-3 c κs = c .before .before .before .before .pre .0 .bounded .variablesFew
 
 residue-stage-requires : tie.Need-residue-stage-requires
-residue-stage-requires c κs = let e = c .before .before .before .effect3 .given in let k : SFits w64 (e .0 .1 .1 .0) = search needs in rw (toZ-ofZ k) (rw (e .1) at (c .before .before .before .before .before .pre .1), (rw (e .1) at (c .before .before .before .before .before .pre .0 .effectOk)) .2)
+residue-stage-requires c κs =
+    let e = c .before .before .before .effect3 .given in
+    let k : SFits w64 (e .0 .1 .1 .0) = search needs in
+    rw (toZ-ofZ k) (rw (e .1) at (c .before .before .before .before .before .pre .1), (rw (e .1) at (c .before .before .before .before .before .pre .0 .effectOk)) .2)
 
 returns : tie.Need-returns
 returns c = let h = rw (c .enum-told .given .1) at (c .before .before .pre .1) in absurd (omega (arith, h))
@@ -118,10 +104,20 @@ returns-3 c = let e = c .before .before .before .before .before .before .effect 
     (rw (e .1) (subst (λ (ts : List (ℕ × ℤ)). getElem? (linearStages t ts (lowerOf (c .before .before .before .before .before .before .before .before .args .shape) t) (upperOf (c .before .before .before .before .before .before .before .before .args .shape) t)) (c .before .before .before .before .before .before .before .before .args .j) ≡ some (stageIs (c .linear-stage .result))) (room-of-terms 4 (a .«term_count») (c .before .before .before .before .lesser .result) (a .terms) len (c .before .before .before .before .lesser .ensures)) q), c .linear-stage .ensures .1)
 
 returns-4 : tie.Need-returns-4
-returns-4 c = let e = c .before .before .before .before .effect2 .given in let k : SFits w64 (e .0 .1 .1 .0) = search needs in let l : SFits w64 (c .before .before .lower-of2 .result) = search needs in let u : SFits w64 (c .before .upper-of2 .result) = search needs in (rw (e .1) (same-stages (quotientStages (e .0 .0) (e .0 .1 .0)) (c .before .before .before .before .before .before .args .j) (some (stageIs (c .quotient-stage .result))) (toZ-ofZ k) (toZ-ofZ l ∙ c .before .before .lower-of2 .ensures) (toZ-ofZ u ∙ c .before .upper-of2 .ensures) (c .quotient-stage .ensures .0)), c .quotient-stage .ensures .1)
+returns-4 c =
+    let e = c .before .before .before .before .effect2 .given in
+    let k : SFits w64 (e .0 .1 .1 .0) = search needs in
+    let l : SFits w64 (c .before .before .lower-of2 .result) = search needs in
+    let u : SFits w64 (c .before .upper-of2 .result) = search needs in
+    (rw (e .1) (same-stages (quotientStages (e .0 .0) (e .0 .1 .0)) (c .before .before .before .before .before .before .args .j) (some (stageIs (c .quotient-stage .result))) (toZ-ofZ k) (toZ-ofZ l ∙ c .before .before .lower-of2 .ensures) (toZ-ofZ u ∙ c .before .upper-of2 .ensures) (c .quotient-stage .ensures .0)), c .quotient-stage .ensures .1)
 
 returns-5 : tie.Need-returns-5
-returns-5 c = let e = c .before .before .before .before .effect3 .given in let k : SFits w64 (e .0 .1 .1 .0) = search needs in let l : SFits w64 (c .before .before .lower-of3 .result) = search needs in let u : SFits w64 (c .before .upper-of3 .result) = search needs in (rw (e .1) (same-stages (residueStages (e .0 .0) (e .0 .1 .0)) (c .before .before .before .before .before .before .args .j) (some (stageIs (c .residue-stage .result))) (toZ-ofZ k) (toZ-ofZ l ∙ c .before .before .lower-of3 .ensures) (toZ-ofZ u ∙ c .before .upper-of3 .ensures) (c .residue-stage .ensures .0)), c .residue-stage .ensures .1)
+returns-5 c =
+    let e = c .before .before .before .before .effect3 .given in
+    let k : SFits w64 (e .0 .1 .1 .0) = search needs in
+    let l : SFits w64 (c .before .before .lower-of3 .result) = search needs in
+    let u : SFits w64 (c .before .upper-of3 .result) = search needs in
+    (rw (e .1) (same-stages (residueStages (e .0 .0) (e .0 .1 .0)) (c .before .before .before .before .before .before .args .j) (some (stageIs (c .residue-stage .result))) (toZ-ofZ k) (toZ-ofZ l ∙ c .before .before .lower-of3 .ensures) (toZ-ofZ u ∙ c .before .upper-of3 .ensures) (c .residue-stage .ensures .0)), c .residue-stage .ensures .1)
 
 pub stage-at-spec : {M : Type 1} → statement M
 stage-at-spec =

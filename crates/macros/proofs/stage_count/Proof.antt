@@ -1,31 +1,16 @@
 -- `macros::stage_count` meets its contract, effect by effect. Assumes nothing.
-use mathlib.Core.Path.{_≡_, refl, sym, ap, _∙_, subst}
-use mathlib.Core.Bool.{Bool, true, false, cond}
-use mathlib.Core.Option.{some}
-use mathlib.Core.List.{List, [], _∷_, _++_}
-use Prim.Native.Nat.{ℕ, _+_, _*_, _/_, _<_, _≤_}
+use mathlib.Core.Path.{_≡_}
+use mathlib.Core.List.{[], _∷_}
 use native.Mathlib.Omega.{arith}
-use lib.ListN.{length, getD, length-append}
-use mir.Facts.{toZ-ofZ}
-use mir.Syntax.{w64}
-use mir.Val.{SFits, toZ}
+use lib.ListN.{length}
 use lib.Dec.{lit≤}
-use lib.IntN.{ℤ, pos}
 use Rattle.lists.proofs.Loops.{length-mapped}
-use Rattle.model.specs.Tasks.{RestrictedAction}
-use Rattle.model.specs.Stages.{helperA, clear, move, refill, drain}
-use Rattle.actions.specs.declared.Term.{Term}
-use Rattle.actions.specs.Views.{effectIs, termsIs, termIs, sourceActionIs, restrictedActionIs}
-use Rattle.macros.specs.Shapes.{lowerOf, upperOf}
-use Rattle.macros.specs.Actions.{withModeCondition, withModeEffect, sourcePart, withNumeric}
-use Rattle.macros.proofs.Stages.{moderate, drain-at, refill-at, past-terms, drained-length, terms-length, term-at}
-use Rattle.macros.proofs.Openings.{without-terms, single-is, macro-opens}
+use Rattle.model.specs.Stages.{helperA, clear, move}
+use Rattle.actions.specs.Views.{termsIs}
+use Rattle.macros.proofs.Stages.{drained-length, terms-length}
 use borrow.Author.Needs.{needs}
 use Rattle.macros.proofs.stage_count.Statement.{statement}
 use Rattle.macros.proofs.stage_count.Tie as tie
-use Rattle.macros.proofs.stage_count.Reads as reads
-use Rattle.macros.proofs.stage_count.Lts as lts
-use Rattle.source.proofs.lesser.Reads as lesser-reads
 
 enum-told : tie.Need-enum-told
 enum-told c = search needs

@@ -1,17 +1,12 @@
 -- `macros::unit` meets its contract: in Divide it is |c|, else 1. Assumes nothing.
-use mathlib.Core.Path.{_≡_, refl, sym, ap, _∙_}
+use mathlib.Core.Path.{refl}
 use mir.Facts.{toZ-ofZ}
 use mir.Syntax.{w64}
-use mir.Val.{SFits, toZ}
+use mir.Val.{SFits}
 use lib.Dec.{lit≤}
-use lib.IntN.{ℤ, pos, _-ℤ_}
-use Rattle.macros.proofs.Numbers.{zero-minus, minus-fits, unit-positive, unit-negative, sign-negative, sign-positive}
 use borrow.Author.Needs.{needs}
 use Rattle.macros.proofs.unit.Statement.{statement}
 use Rattle.macros.proofs.unit.Tie as tie
-use Rattle.macros.proofs.unit.Reads as reads
-use Rattle.macros.proofs.unit.Lts as lts
-use Rattle.macros.proofs.unit_of.Reads as unit-of-reads
 
 enum-told : tie.Need-enum-told
 enum-told c = search needs
@@ -23,7 +18,10 @@ enum-known-stage : tie.Need-enum-known-stage
 enum-known-stage c = search needs
 
 unit-of-requires : tie.Need-unit-of-requires
-unit-of-requires c κs = let e = c .before .stage .given in let k : SFits w64 (e .0 .0) = search needs in rw (toZ-ofZ k) (rw (e .1) at (c .before .before .before .pre))
+unit-of-requires c κs =
+    let e = c .before .stage .given in
+    let k : SFits w64 (e .0 .0) = search needs in
+    rw (toZ-ofZ k) (rw (e .1) at (c .before .before .before .pre))
 
 enum-told-3 : tie.Need-enum-told-3
 enum-told-3 c = search needs
@@ -47,7 +45,11 @@ returns-2 : tie.Need-returns-2
 returns-2 c = rw (c .enum-told2 .given .1) (refl, lit≤ tt)
 
 returns-3 : tie.Need-returns-3
-returns-3 c = let r : SFits w64 (c .unit-of .result) = search needs in let e = c .before .before .stage .given in let k : SFits w64 (e .0 .0) = search needs in rw (e .1, toZ-ofZ r) (simp (toZ-ofZ, k) at (c .unit-of .ensures))
+returns-3 c =
+    let r : SFits w64 (c .unit-of .result) = search needs in
+    let e = c .before .before .stage .given in
+    let k : SFits w64 (e .0 .0) = search needs in
+    rw (e .1, toZ-ofZ r) (simp (toZ-ofZ, k) at (c .unit-of .ensures))
 
 returns-4 : tie.Need-returns-4
 returns-4 c = rw (c .enum-told3 .given .1) (refl, lit≤ tt)

@@ -1,30 +1,42 @@
 -- `macros::with_condition` meets its contract: the arrays have room for one more. Assumes nothing.
-use mathlib.Core.Path.{_≡_, refl, sym, ap, _∙_}
+use mathlib.Core.Path.{_≡_}
 use mir.Facts.{toZ-ofZ}
 use lib.ListN.{length}
-use lib.IntN.{pos}
-use Rattle.macros.proofs.Actions.{pair-more, condition-more, few-pairs, few-conditions}
+use Rattle.macros.proofs.Actions.{condition-more, few-conditions}
 use native.Mathlib.Omega.{arith}
 use borrow.Author.Needs.{needs}
 use Rattle.macros.proofs.with_condition.Statement.{statement}
 use Rattle.macros.proofs.with_condition.Tie as tie
-use Rattle.macros.proofs.with_condition.Reads as reads
-use Rattle.macros.proofs.with_condition.Lts as lts
 
 element-write-more : tie.Need-element-write-more
-element-write-more c = let a = c .args .action in let h = few-conditions (a .«condition_count») (a .«condition_variables») (a .«condition_relations») (a .«condition_constants») (c .pre) in search (needs, arith)
+element-write-more c =
+    let a = c .args .action in
+    let h = few-conditions (a .«condition_count») (a .«condition_variables») (a .«condition_relations») (a .«condition_constants») (c .pre) in
+    search (needs, arith)
 
 element-write-more-2 : tie.Need-element-write-more-2
-element-write-more-2 c = let a = c .args .action in let h = few-conditions (a .«condition_count») (a .«condition_variables») (a .«condition_relations») (a .«condition_constants») (c .pre) in search (needs, arith)
+element-write-more-2 c =
+    let a = c .args .action in
+    let h = few-conditions (a .«condition_count») (a .«condition_variables») (a .«condition_relations») (a .«condition_constants») (c .pre) in
+    search (needs, arith)
 
 mul-constant : tie.Need-mul-constant
-mul-constant c = let a = c .args .action in let h = few-conditions (a .«condition_count») (a .«condition_variables») (a .«condition_relations») (a .«condition_constants») (c .pre) in search (needs, arith)
+mul-constant c =
+    let a = c .args .action in
+    let h = few-conditions (a .«condition_count») (a .«condition_variables») (a .«condition_relations») (a .«condition_constants») (c .pre) in
+    search (needs, arith)
 
 element-set-from-constant : tie.Need-element-set-from-constant
-element-set-from-constant c = let a = c .args .action in let h = few-conditions (a .«condition_count») (a .«condition_variables») (a .«condition_relations») (a .«condition_constants») (c .pre) in search (needs, arith)
+element-set-from-constant c =
+    let a = c .args .action in
+    let h = few-conditions (a .«condition_count») (a .«condition_variables») (a .«condition_relations») (a .«condition_constants») (c .pre) in
+    search (needs, arith)
 
 add-more : tie.Need-add-more
-add-more c = let a = c .args .action in let h = few-conditions (a .«condition_count») (a .«condition_variables») (a .«condition_relations») (a .«condition_constants») (c .pre) in search (needs, arith)
+add-more c =
+    let a = c .args .action in
+    let h = few-conditions (a .«condition_count») (a .«condition_variables») (a .«condition_relations») (a .«condition_constants») (c .pre) in
+    search (needs, arith)
 
 returns : tie.Need-returns
 returns c = let a = c .args .action in

@@ -1,12 +1,10 @@
 -- `writing::action_size` meets its contract: every command of a kind is as long. Assumes nothing.
-use mathlib.Core.Path.{_≡_, refl, sym, ap, _∙_}
+use mathlib.Core.Path.{sym}
 use native.Mathlib.Omega.{arith}
-use Rattle.writing.proofs.Sizes.{action-size, goal-size}
+use Rattle.writing.proofs.Sizes.{action-size}
 use borrow.Author.Needs.{needs}
 use Rattle.writing.proofs.action_size.Statement.{statement}
 use Rattle.writing.proofs.action_size.Tie as tie
-use Rattle.writing.proofs.action_size.Reads as reads
-use Rattle.writing.proofs.action_size.Lts as lts
 
 mul-result : tie.Need-mul-result
 mul-result c = search needs

@@ -3,11 +3,8 @@ use mathlib.Core.Path.{_≡_, refl}
 use Prim.Native.Nat.{ℕ, zero, suc, _<_}
 use native.Mathlib.Omega.{arith}
 use Rattle.integers.specs.Relation.{relationOf, above}
-use borrow.Author.Needs.{needs}
 use Rattle.writing.proofs.known_relation.Statement.{statement}
 use Rattle.writing.proofs.known_relation.Tie as tie
-use Rattle.writing.proofs.known_relation.Reads as reads
-use Rattle.writing.proofs.known_relation.Lts as lts
 
 over-two : (n : ℕ) → 2 < n → relationOf n ≡ above
 over-two zero h = absurd (omega arith)

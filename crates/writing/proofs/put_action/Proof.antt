@@ -1,19 +1,10 @@
 -- `writing::put_action` meets its contract: its parts are written one after another. Assumes nothing.
-use mathlib.Core.Path.{_≡_, refl, sym, ap, _∙_}
-use denote.Ref.{now}
-use Rattle.actions.specs.Views.{restrictedActionIs, goalModesIs, goalConditionsIs}
+use Rattle.actions.specs.Views.{restrictedActionIs}
 use Rattle.lists.proofs.Writing.{step, done, room}
-use Rattle.writing.proofs.Parts.{action-begun, goal-begun}
+use Rattle.writing.proofs.Parts.{action-begun}
 use borrow.Author.Needs.{needs}
 use Rattle.writing.proofs.put_action.Statement.{statement}
 use Rattle.writing.proofs.put_action.Tie as tie
-use Rattle.writing.proofs.put_action.Reads as reads
-use Rattle.writing.proofs.put_action.Lts as lts
-use Rattle.writing.proofs.put_additions.Reads as put-additions-reads
-use Rattle.writing.proofs.put_command.Reads as put-command-reads
-use Rattle.writing.proofs.put_conditions.Reads as put-conditions-reads
-use Rattle.writing.proofs.put_mode_conditions.Reads as put-mode-conditions-reads
-use Rattle.writing.proofs.put_mode_effects.Reads as put-mode-effects-reads
 
 put-command-requires : tie.Need-put-command-requires
 put-command-requires c κs = room (c .before .before .pre .1) (action-begun _ _ (restrictedActionIs (c .before .before .args .t3)))

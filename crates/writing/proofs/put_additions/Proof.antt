@@ -1,26 +1,22 @@
 -- `writing::put_additions` meets its contract: the loop writes each +. Assumes nothing.
-use mathlib.Core.Path.{_≡_, refl, sym, ap, _∙_}
-use Prim.Native.Nat.{ℕ, _-_, _<_}
+use mathlib.Core.Path.{_≡_, sym, ap}
+use Prim.Native.Nat.{ℕ, _-_}
 use native.Mathlib.Omega.{arith}
 use denote.Ref.{now}
 use mir.Facts.{toZ-ofZ}
 use mir.Syntax.{w64}
-use mir.Val.{SFits, toZ}
-use lib.ListN.{length, getD}
+use mir.Val.{SFits}
+use lib.ListN.{getD}
 use lib.IntN.{pos}
 use Rattle.lists.proofs.Writing.{room-as, wrote-as}
-use Rattle.actions.specs.Views.{conditionAt, pairAt}
-use Rattle.writing.specs.Parts.{modeConditionBytes, conditionBytes, modeEffectBytes, additionBytes}
+use Rattle.actions.specs.Views.{pairAt}
+use Rattle.writing.specs.Parts.{additionBytes}
 use Rattle.writing.proofs.Rows.{Writing, writing-start, writing-room, writing-next, writing-end, writing-long}
 use Rattle.commands.specs.Encoding.{encode}
 use Rattle.commands.specs.declared.Command.the-variants.{Add}
 use borrow.Author.Needs.{needs}
 use Rattle.writing.proofs.put_additions.Statement.{statement}
 use Rattle.writing.proofs.put_additions.Tie as tie
-use Rattle.writing.proofs.put_additions.Reads as reads
-use Rattle.writing.proofs.put_additions.Lts as lts
-use Rattle.integers.proofs.bits.Reads as bits-reads
-use Rattle.writing.proofs.put_command.Reads as put-command-reads
 
 abbrev Inv-loop : tie.InvT-loop
 Inv-loop out₀ at count variables amounts place₀ i₀ out place i = Writing additionBytes (pairAt (pos 0) variables amounts) count out₀ at out place i
@@ -45,7 +41,9 @@ element-copy-out-bits : tie.Need-element-copy-out-bits Inv-loop μ-loop
 element-copy-out-bits c = search (needs, arith)
 
 bits-requires : tie.Need-bits-requires Inv-loop μ-loop
-bits-requires c κs = let b : SFits w64 (getD (now (c .before .before .before .before .args .amounts)) (c .before .before .loop .i) (pos 0)) = search needs in rw (toZ-ofZ b) (c .before .before .before .before .pre .1 .0 (c .before .before .loop .i) (c .before .loop-test .taken))
+bits-requires c κs =
+    let b : SFits w64 (getD (now (c .before .before .before .before .args .amounts)) (c .before .before .loop .i) (pos 0)) = search needs in
+    rw (toZ-ofZ b) (c .before .before .before .before .pre .1 .0 (c .before .before .loop .i) (c .before .loop-test .taken))
 
 element-copy-out-t18 : tie.Need-element-copy-out-t18 Inv-loop μ-loop
 element-copy-out-t18 c = search needs

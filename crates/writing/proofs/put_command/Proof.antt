@@ -1,13 +1,9 @@
 -- `writing::put_command` meets its contract: the bytes that are stored are the command's. Assumes nothing.
-use mathlib.Core.Path.{_≡_, refl, sym, ap, _∙_}
+use mathlib.Core.Path.{sym}
 use Rattle.lists.proofs.Writing.{room-as, wrote-as}
 use borrow.Author.Needs.{needs}
 use Rattle.writing.proofs.put_command.Statement.{statement}
 use Rattle.writing.proofs.put_command.Tie as tie
-use Rattle.writing.proofs.put_command.Reads as reads
-use Rattle.writing.proofs.put_command.Lts as lts
-use Rattle.commands.proofs.code_of.Reads as code-of-reads
-use Rattle.lists.proofs.put_bytes.Reads as put-bytes-reads
 
 code-of-requires : tie.Need-code-of-requires
 code-of-requires c κs = search needs

@@ -1,27 +1,22 @@
 -- `writing::put_conditions` meets its contract: the loop writes each C. Assumes nothing.
-use mathlib.Core.Path.{_≡_, refl, sym, ap, ap₂, _∙_}
-use Prim.Native.Nat.{ℕ, _-_, _<_}
+use mathlib.Core.Path.{_≡_, sym, ap₂}
+use Prim.Native.Nat.{ℕ, _-_}
 use native.Mathlib.Omega.{arith}
 use denote.Ref.{now}
 use mir.Facts.{toZ-ofZ}
 use mir.Syntax.{w64}
-use mir.Val.{SFits, toZ}
-use lib.ListN.{length, getD}
+use mir.Val.{SFits}
+use lib.ListN.{getD}
 use lib.IntN.{pos}
 use Rattle.lists.proofs.Writing.{room-as, wrote-as}
-use Rattle.actions.specs.Views.{conditionAt, pairAt}
-use Rattle.writing.specs.Parts.{modeConditionBytes, conditionBytes, modeEffectBytes, additionBytes}
+use Rattle.actions.specs.Views.{conditionAt}
+use Rattle.writing.specs.Parts.{conditionBytes}
 use Rattle.writing.proofs.Rows.{Writing, writing-start, writing-room, writing-next, writing-end, writing-long}
 use Rattle.commands.specs.Encoding.{encode}
 use Rattle.commands.specs.declared.Command.the-variants.{Condition}
 use borrow.Author.Needs.{needs}
 use Rattle.writing.proofs.put_conditions.Statement.{statement}
 use Rattle.writing.proofs.put_conditions.Tie as tie
-use Rattle.writing.proofs.put_conditions.Reads as reads
-use Rattle.writing.proofs.put_conditions.Lts as lts
-use Rattle.integers.proofs.bits.Reads as bits-reads
-use Rattle.writing.proofs.known_relation.Reads as known-relation-reads
-use Rattle.writing.proofs.put_command.Reads as put-command-reads
 
 abbrev Inv-loop : tie.InvT-loop
 Inv-loop out₀ at count variables relations constants place₀ i₀ out place i = Writing conditionBytes (conditionAt variables relations constants) count out₀ at out place i
@@ -52,7 +47,9 @@ element-copy-out-bits : tie.Need-element-copy-out-bits Inv-loop μ-loop
 element-copy-out-bits c = search (needs, arith)
 
 bits-requires : tie.Need-bits-requires Inv-loop μ-loop
-bits-requires c κs = let b : SFits w64 (getD (now (c .before .before .before .before .before .before .args .constants)) (c .before .before .before .before .loop .i) (pos 0)) = search needs in rw (toZ-ofZ b) (c .before .before .before .before .before .before .pre .1 .0 (c .before .before .before .before .loop .i) (c .before .before .before .loop-test .taken))
+bits-requires c κs =
+    let b : SFits w64 (getD (now (c .before .before .before .before .before .before .args .constants)) (c .before .before .before .before .loop .i) (pos 0)) = search needs in
+    rw (toZ-ofZ b) (c .before .before .before .before .before .before .pre .1 .0 (c .before .before .before .before .loop .i) (c .before .before .before .loop-test .taken))
 
 element-copy-out-t14 : tie.Need-element-copy-out-t14 Inv-loop μ-loop
 element-copy-out-t14 c = search needs

@@ -1,16 +1,15 @@
 -- `writing::put_declared_starts` meets its contract: the loop writes each U. Assumes nothing.
-use mathlib.Core.Path.{_≡_, refl, sym, ap, _∙_}
-use Prim.Native.Nat.{ℕ, _-_, _<_}
+use mathlib.Core.Path.{_≡_, sym, ap}
+use Prim.Native.Nat.{ℕ, _-_}
 use native.Mathlib.Omega.{arith}
 use denote.Ref.{now}
 use mir.Facts.{toZ-ofZ}
 use mir.Syntax.{w64}
-use mir.Val.{SFits, toZ}
-use lib.ListN.{length, getD}
+use mir.Val.{SFits}
+use lib.ListN.{getD}
 use lib.IntN.{pos}
 use Rattle.lists.proofs.Writing.{room-as, wrote-as}
-use Rattle.actions.specs.Views.{conditionAt, pairAt}
-use Rattle.writing.specs.Parts.{modeBytes, startBytes}
+use Rattle.writing.specs.Parts.{startBytes}
 use Rattle.lists.proofs.Loops.{there-all}
 use Rattle.lists.proofs.WritingLoops.{Going, going-start, going-room, going-next, going-end, going-long}
 use Rattle.commands.specs.Encoding.{encode}
@@ -18,10 +17,6 @@ use Rattle.commands.specs.declared.Command.the-variants.{Start}
 use borrow.Author.Needs.{needs}
 use Rattle.writing.proofs.put_declared_starts.Statement.{statement}
 use Rattle.writing.proofs.put_declared_starts.Tie as tie
-use Rattle.writing.proofs.put_declared_starts.Reads as reads
-use Rattle.writing.proofs.put_declared_starts.Lts as lts
-use Rattle.integers.proofs.bits.Reads as bits-reads
-use Rattle.writing.proofs.put_command.Reads as put-command-reads
 
 abbrev Inv-loop : tie.InvT-loop
 Inv-loop out₀ at n starts place₀ i₀ out place i = Going startBytes n starts n out₀ at out place i
@@ -45,7 +40,9 @@ element-copy-out-bits : tie.Need-element-copy-out-bits Inv-loop μ-loop
 element-copy-out-bits c = search (needs, arith)
 
 bits-requires : tie.Need-bits-requires Inv-loop μ-loop
-bits-requires c κs = let b : SFits w64 (getD (now (c .before .before .before .before .args .starts)) (c .before .before .loop .i) (pos 0)) = search needs in rw (toZ-ofZ b) (c .before .before .before .before .pre .1 .0 (c .before .before .loop .i) (c .before .loop-test .taken))
+bits-requires c κs =
+    let b : SFits w64 (getD (now (c .before .before .before .before .args .starts)) (c .before .before .loop .i) (pos 0)) = search needs in
+    rw (toZ-ofZ b) (c .before .before .before .before .pre .1 .0 (c .before .before .loop .i) (c .before .loop-test .taken))
 
 put-command-requires : tie.Need-put-command-requires Inv-loop μ-loop
 put-command-requires c κs = room-as (coded (c .before)) (going-room (pos 0) (c .before .before .before .before .loop .inv) (c .before .before .before .loop-test .taken) (c .before .before .before .before .before .before .pre .1 .1))

@@ -1,17 +1,10 @@
 -- `writing::put_goal` meets its contract: its parts are written one after another. Assumes nothing.
-use mathlib.Core.Path.{_≡_, refl, sym, ap, _∙_}
-use denote.Ref.{now}
-use Rattle.actions.specs.Views.{restrictedActionIs, goalModesIs, goalConditionsIs}
+use Rattle.actions.specs.Views.{goalModesIs, goalConditionsIs}
 use Rattle.lists.proofs.Writing.{step, done, room}
-use Rattle.writing.proofs.Parts.{action-begun, goal-begun}
+use Rattle.writing.proofs.Parts.{goal-begun}
 use borrow.Author.Needs.{needs}
 use Rattle.writing.proofs.put_goal.Statement.{statement}
 use Rattle.writing.proofs.put_goal.Tie as tie
-use Rattle.writing.proofs.put_goal.Reads as reads
-use Rattle.writing.proofs.put_goal.Lts as lts
-use Rattle.writing.proofs.put_command.Reads as put-command-reads
-use Rattle.writing.proofs.put_conditions.Reads as put-conditions-reads
-use Rattle.writing.proofs.put_mode_conditions.Reads as put-mode-conditions-reads
 
 put-command-requires : tie.Need-put-command-requires
 put-command-requires c κs = room (c .before .before .pre .1) (goal-begun _ _ (goalModesIs (c .before .before .args .t3)) (c .before .before .args .control, 0) (goalConditionsIs (c .before .before .args .t3)))

@@ -1,23 +1,11 @@
 -- `writing::put_mode_effects` meets its contract: the loop writes each E. Assumes nothing.
-use mathlib.Core.Path.{_≡_, refl, sym, ap, _∙_}
-use Prim.Native.Nat.{ℕ, _-_, _<_}
-use native.Mathlib.Omega.{arith}
-use denote.Ref.{now}
-use mir.Facts.{toZ-ofZ}
-use mir.Syntax.{w64}
-use mir.Val.{SFits, toZ}
-use lib.ListN.{length, getD}
-use lib.IntN.{pos}
-use Rattle.lists.proofs.Writing.{room-as, wrote-as}
-use Rattle.actions.specs.Views.{conditionAt, pairAt}
-use Rattle.writing.specs.Parts.{modeConditionBytes, conditionBytes, modeEffectBytes, additionBytes}
+use Prim.Native.Nat.{_-_}
+use Rattle.actions.specs.Views.{pairAt}
+use Rattle.writing.specs.Parts.{modeEffectBytes}
 use Rattle.writing.proofs.Rows.{Writing, writing-start, writing-room, writing-next, writing-end, writing-long}
 use borrow.Author.Needs.{needs}
 use Rattle.writing.proofs.put_mode_effects.Statement.{statement}
 use Rattle.writing.proofs.put_mode_effects.Tie as tie
-use Rattle.writing.proofs.put_mode_effects.Reads as reads
-use Rattle.writing.proofs.put_mode_effects.Lts as lts
-use Rattle.writing.proofs.put_command.Reads as put-command-reads
 
 abbrev Inv-loop : tie.InvT-loop
 Inv-loop out₀ at count modes values place₀ i₀ out place i = Writing modeEffectBytes (pairAt 0 modes values) count out₀ at out place i

@@ -1,18 +1,11 @@
 -- `writing::put_modes` meets its contract: its parts are written one after another. Assumes nothing.
-use mathlib.Core.Path.{_≡_, refl, sym, ap, _∙_}
 use denote.Ref.{now}
-use lib.ListN.{take}
-use lib.IntN.{pos}
 use Rattle.actions.specs.Views.{pairsIs}
 use Rattle.lists.proofs.Writing.{step, done, room}
-use Rattle.writing.proofs.Parts.{starts-begun, modes-begun}
+use Rattle.writing.proofs.Parts.{modes-begun}
 use borrow.Author.Needs.{needs}
 use Rattle.writing.proofs.put_modes.Statement.{statement}
 use Rattle.writing.proofs.put_modes.Tie as tie
-use Rattle.writing.proofs.put_modes.Reads as reads
-use Rattle.writing.proofs.put_modes.Lts as lts
-use Rattle.writing.proofs.put_command.Reads as put-command-reads
-use Rattle.writing.proofs.put_declared_modes.Reads as put-declared-modes-reads
 
 put-declared-modes-requires : tie.Need-put-declared-modes-requires
 put-declared-modes-requires c κs = (c .before .before .pre .0, room (c .before .before .pre .1) (modes-begun _ _ (pairsIs 0 (c .before .before .args .n) (now (c .before .before .args .sizes)) (now (c .before .before .args .values))) (c .before .before .args .control, 0)))

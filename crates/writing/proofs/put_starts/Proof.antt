@@ -1,18 +1,12 @@
 -- `writing::put_starts` meets its contract: its parts are written one after another. Assumes nothing.
-use mathlib.Core.Path.{_≡_, refl, sym, ap, _∙_}
 use denote.Ref.{now}
 use lib.ListN.{take}
 use lib.IntN.{pos}
-use Rattle.actions.specs.Views.{pairsIs}
 use Rattle.lists.proofs.Writing.{step, done, room}
-use Rattle.writing.proofs.Parts.{starts-begun, modes-begun}
+use Rattle.writing.proofs.Parts.{starts-begun}
 use borrow.Author.Needs.{needs}
 use Rattle.writing.proofs.put_starts.Statement.{statement}
 use Rattle.writing.proofs.put_starts.Tie as tie
-use Rattle.writing.proofs.put_starts.Reads as reads
-use Rattle.writing.proofs.put_starts.Lts as lts
-use Rattle.writing.proofs.put_command.Reads as put-command-reads
-use Rattle.writing.proofs.put_declared_starts.Reads as put-declared-starts-reads
 
 put-declared-starts-requires : tie.Need-put-declared-starts-requires
 put-declared-starts-requires c κs = (c .before .before .pre .0, (c .before .before .pre .1 .0, room (c .before .before .pre .1 .1) (starts-begun _ _ (take (c .before .before .args .n) (now (c .before .before .args .starts))) (pos 0) (pos 0))))
