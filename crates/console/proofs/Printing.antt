@@ -1,14 +1,14 @@
 -- A text that fits is printed whole; and which text the program prints.
 -- Assumes nothing.
 use mathlib.Core.Path.{_≡_, refl, sym, ap, _∙_, subst}
-use Prim.Native.Nat.{ℕ, _+_, _≤_, _<_}
+use Prim.Native.Nat.{ℕ, _+_, _≤_}
 use native.Mathlib.Omega.{arith}
-use mathlib.Core.Bool.{Bool, true, false, not, cond}
+use mathlib.Core.Bool.{Bool, true, false, not, cond, _||_}
 use mathlib.Core.Option.{Option, none, some}
 use mathlib.Core.List.{List, _++_}
-use lib.Dec.{leb}
+use lib.Dec.{leb, ltb}
 use lib.ListN.{length, take, drop, length-take}
-use borrow.Author.Tests.{le-leb, lt-ltb, le-ltb}
+use borrow.Author.Tests.{le-leb, ltb-false}
 use Rattle.lists.specs.Answer.{Answer, given, refused, lent}
 use Rattle.lists.specs.Writing.{Wrote}
 use Rattle.lists.specs.Written.{Lent}
@@ -57,31 +57,41 @@ pub printed-as : {text other old after : List ℕ} {r : ℕ} → text ≡ other 
 printed-as {old = old} {after} {r} e p = subst (λ (s : List ℕ). Printed s old after r) e p
 
 -- ---- which text: `no file` comes first
-there : (a : Bool) → not a ≡ false → a ≡ true
-there true e = refl
-there false e = absurd (clash e)
-
-pub no-task : (a : Bool) (task : List ℕ) (plan : Option (List ℕ)) → not a ≡ true → noFile ≡ listingProgram (provided a task) plan
-unfolding listingProgram
-no-task true task plan e = absurd (clash (sym e))
-no-task false task plan e = refl
-
-pub no-plan : (a b : Bool) (task plan : List ℕ) → not b ≡ true → noFile ≡ listingProgram (provided a task) (provided b plan)
-unfolding listingProgram
-no-plan a true task plan e = absurd (clash (sym e))
-no-plan true false task plan e = refl
-no-plan false false task plan e = refl
-
-module _ (a b : Bool) (task plan : List ℕ) (has-task : not a ≡ false) (has-plan : not b ≡ false) where
-  pub task-too-large : 16_384 < length task → tooLarge ≡ listingProgram (provided a task) (provided b plan)
+module _ (task plan : List ℕ) where
+  pub prints-no-file : (a b : Bool) → (not a || not b) ≡ true → noFile ≡ listingProgram (provided a task) (provided b plan)
   unfolding listingProgram
-  task-too-large h = rw (there a has-task, there b has-plan, lt-ltb 16_384 (length task) h)
+  prints-no-file true true e = absurd (clash (sym e))
+  prints-no-file true false e = refl
+  prints-no-file false b e = refl
 
-  module _ (fits : length task ≤ 16_384) where
-    pub plan-too-large : 32_768 < length plan → tooLarge ≡ listingProgram (provided a task) (provided b plan)
-    unfolding listingProgram
-    plan-too-large h = rw (there a has-task, there b has-plan, le-ltb 16_384 (length task) fits, lt-ltb 32_768 (length plan) h)
+  -- both files could be opened
+  opened : (a b : Bool) → (not a || not b) ≡ false → listingProgram (provided a task) (provided b plan) ≡ listingProgram (some task) (some plan)
+  opened true true e = refl
+  opened true false e = absurd (clash e)
+  opened false b e = absurd (clash e)
 
-    pub neither-too-large : length plan ≤ 32_768 → listing task plan ≡ listingProgram (provided a task) (provided b plan)
-    unfolding listingProgram
-    neither-too-large h = rw (there a has-task, there b has-plan, le-ltb 16_384 (length task) fits, le-ltb 32_768 (length plan) h)
+  pub prints-too-large : (a b : Bool) → (not a || not b) ≡ false → (ltb 16_384 (length task) || ltb 32_768 (length plan)) ≡ true → tooLarge ≡ listingProgram (provided a task) (provided b plan)
+  unfolding listingProgram
+  prints-too-large a b e h = sym (opened a b e ∙ go (ltb 16_384 (length task)) (ltb 32_768 (length plan)) h)
+    where
+      go : (c d : Bool) → (c || d) ≡ true → cond c tooLarge (cond d tooLarge (listing task plan)) ≡ tooLarge
+      go true d h = refl
+      go false true h = refl
+      go false false h = absurd (clash (sym h))
+
+  pub prints-listing : (a b : Bool) → (not a || not b) ≡ false → (ltb 16_384 (length task) || ltb 32_768 (length plan)) ≡ false → listing task plan ≡ listingProgram (provided a task) (provided b plan)
+  unfolding listingProgram
+  prints-listing a b e h = sym (opened a b e ∙ go (ltb 16_384 (length task)) (ltb 32_768 (length plan)) h)
+    where
+      go : (c d : Bool) → (c || d) ≡ false → cond c tooLarge (cond d tooLarge (listing task plan)) ≡ listing task plan
+      go true d h = absurd (clash h)
+      go false true h = absurd (clash h)
+      go false false h = refl
+
+  pub neither-too-large : (ltb 16_384 (length task) || ltb 32_768 (length plan)) ≡ false → (length task ≤ 16_384) × (length plan ≤ 32_768)
+  neither-too-large h = go (ltb 16_384 (length task)) (ltb 32_768 (length plan)) refl refl h
+    where
+      go : (c d : Bool) → ltb 16_384 (length task) ≡ c → ltb 32_768 (length plan) ≡ d → (c || d) ≡ false → (length task ≤ 16_384) × (length plan ≤ 32_768)
+      go true d e f h = absurd (clash h)
+      go false true e f h = absurd (clash h)
+      go false false e f h = (ltb-false 16_384 (length task) e, ltb-false 32_768 (length plan) f)

@@ -5,10 +5,10 @@
 use libc::STDOUT_FILENO;
 ghost use mathlib.Core.Path.{_≡_};
 ghost use Prim.Native.Nat.{_≤_};
-ghost use lib.ListN.{length};
+ghost use lib.ListN.{length, take};
 ghost use Rattle.io.specs.Counts.{Counts};
 ghost use Rattle.model.specs.Systems.{provided};
-ghost use Rattle.model.specs.Listing.{noFile, tooLarge, listing, listingProgram};
+ghost use Rattle.model.specs.Listing.{listing, listingProgram};
 ghost use Rattle.console.specs.Printed.{Printed};
 
 // How many bytes the program takes of each file.
@@ -16,20 +16,12 @@ const TASK_LIMIT: usize = 16384;
 
 const PLAN_LIMIT: usize = 32768;
 
-// The line for a file that can't be opened.
-fn print_no_file(out: &mut [u8]) -> usize
-    requires { ⌜ 1_200_000 ≤ length (now out) ⌝ }
-    ensures { λ r. ⌜ Printed noFile (now (out .entry)) (now (out .exit)) r ⌝ }
+// The first n bytes of a line, at the front of the output.
+fn print_line(out: &mut [u8], line: [u8; 16], n: usize) -> usize
+    requires { ⌜ (n ≤ 16) × (1_200_000 ≤ length (now out)) ⌝ }
+    ensures { λ r. ⌜ Printed (take n line) (now (out .entry)) (now (out .exit)) r ⌝ }
 {
-    lists::put_bytes(out, 0, *b"no file\n        ", 8)
-}
-
-// The line for a file that is longer than the program takes.
-fn print_too_large(out: &mut [u8]) -> usize
-    requires { ⌜ 1_200_000 ≤ length (now out) ⌝ }
-    ensures { λ r. ⌜ Printed tooLarge (now (out .entry)) (now (out .exit)) r ⌝ }
-{
-    lists::put_bytes(out, 0, *b"too large\n      ", 10)
+    lists::put_bytes(out, 0, line, n)
 }
 
 // The listing of files that are not too large. It always fits: refusal 8 does not come.
@@ -55,17 +47,11 @@ pub fn program_text(
     requires { ⌜ 1_200_000 ≤ length (now out) ⌝ }
     ensures { λ r. ⌜ Printed (listingProgram (provided «has_task» (now (task .entry))) (provided «has_plan» (now (plan .entry)))) (now (out .entry)) (now (out .exit)) r ⌝ }
 {
-    if !has_task {
-        return print_no_file(out);
+    if !has_task | !has_plan {
+        return print_line(out, *b"no file\n        ", 8);
     }
-    if !has_plan {
-        return print_no_file(out);
-    }
-    if TASK_LIMIT < task.len() {
-        return print_too_large(out);
-    }
-    if PLAN_LIMIT < plan.len() {
-        return print_too_large(out);
+    if (TASK_LIMIT < task.len()) | (PLAN_LIMIT < plan.len()) {
+        return print_line(out, *b"too large\n      ", 10);
     }
     print_listing(task, plan, out)
 }
