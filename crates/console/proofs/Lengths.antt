@@ -4,7 +4,7 @@
 use mathlib.Core.Path.{_≡_, refl, sym, ap, _∙_}
 use Prim.Native.Nat.{ℕ, zero, suc, _+_, _*_, _≤_, _<_}
 use native.Mathlib.Omega.{arith}
-use mathlib.Core.Bool.{Bool, true, false, _&&_}
+use mathlib.Core.Bool.{Bool, false, _&&_}
 use mathlib.Core.Option.{Option, none, some}
 use mathlib.Core.List.{List, [], _∷_, _++_}
 use lib.ListN.{length, length-append, getElem?}
@@ -24,8 +24,8 @@ use Rattle.model.specs.Decoding.{each, readSource}
 use Rattle.model.specs.Plans.{readPlan}
 use Rattle.model.specs.Steps.{integerAt, naturalAt, modesHold, conditionsHold, result, withinBounds, putResult, setAll, trySource, sourceStep, soundSource, lowerBounds, upperBounds, sizesOf, sourceStart, stepSource, sourceGoalHolds}
 use Rattle.model.specs.Expansion.{magnitudes, priceOfEffect, priceFrom}
-use Rattle.model.specs.Judging.{judge, judgeSourceTask, priceTask}
-use Rattle.model.specs.Listing.{decimal, decimalSigned, refusedLine, goalLine, stepLine, orNoLines, stepLines, textOf, listing}
+use Rattle.model.specs.Judging.{judgeSourceTask, priceTask}
+use Rattle.model.specs.Listing.{decimalSigned, refusedLine, stepLine, orNoLines, stepLines, textOf, listing}
 use Rattle.model.proofs.Pairing.{bind-gives}
 use Rattle.model.proofs.StageWalk.{and-parts, provided-gives, all-get, found-below-length}
 use Rattle.model.proofs.StepBounds.{true-of}

@@ -1,14 +1,15 @@
 -- A text that fits is printed whole; and which text the program prints.
 -- Assumes nothing.
 use mathlib.Core.Path.{_≡_, refl, sym, ap, _∙_, subst}
-use Prim.Native.Nat.{ℕ, _+_, _≤_}
+use Prim.Native.Nat.{ℕ, suc, _≤_}
 use native.Mathlib.Omega.{arith}
 use mathlib.Core.Bool.{Bool, true, false, not, cond, _||_}
-use mathlib.Core.Option.{Option, none, some}
+use mathlib.Core.Option.{some}
 use mathlib.Core.List.{List, _++_}
 use lib.Dec.{leb, ltb}
 use lib.ListN.{length, take, drop, length-take}
-use borrow.Author.Tests.{le-leb, ltb-false}
+use lib.Seq.{take-all}
+use borrow.Author.Tests.{le-leb, lt-ltb, ltb-true, ltb-false}
 use Rattle.lists.specs.Answer.{Answer, given, refused, lent}
 use Rattle.lists.specs.Writing.{Wrote}
 use Rattle.lists.specs.Written.{Lent}
@@ -95,3 +96,20 @@ module _ (task plan : List ℕ) where
       go true d e f h = absurd (clash h)
       go false true e f h = absurd (clash h)
       go false false e f h = (ltb-false 16_384 (length task) e, ltb-false 32_768 (length plan) f)
+
+-- ---- one byte more than the program takes is enough of a file
+more : (n : ℕ) (s : List ℕ) → ltb n (length s) ≡ true → ltb n (length (take (suc n) s)) ≡ true
+more n s e = lt-ltb n (length (take (suc n) s)) (omega (arith, length-take (suc n) s, ltb-true n (length s) e))
+
+whole : (n : ℕ) (s : List ℕ) → ltb n (length s) ≡ false → take (suc n) s ≡ s
+whole n s e = take-all (suc n) s (omega (arith, ltb-false n (length s) e))
+
+pub first-bytes-suffice : (task plan : List ℕ) → listingProgram (some (take 16_385 task)) (some (take 32_769 plan)) ≡ listingProgram (some task) (some plan)
+unfolding listingProgram
+first-bytes-suffice task plan = go (ltb 16_384 (length task)) refl (ltb 32_768 (length plan)) refl
+  where
+    go : (c : Bool) → ltb 16_384 (length task) ≡ c → (d : Bool) → ltb 32_768 (length plan) ≡ d
+        → cond (ltb 16_384 (length (take 16_385 task))) tooLarge (cond (ltb 32_768 (length (take 32_769 plan))) tooLarge (listing (take 16_385 task) (take 32_769 plan))) ≡ cond c tooLarge (cond d tooLarge (listing task plan))
+    go true e d f = rw (more 16_384 task e)
+    go false e true f = rw (whole 16_384 task e, e, more 32_768 plan f)
+    go false e false f = rw (whole 16_384 task e, e, whole 32_768 plan f, f)

@@ -24,7 +24,7 @@ fn print_line(out: &mut [u8], line: [u8; 16], n: usize) -> usize
     lists::put_bytes(out, 0, line, n)
 }
 
-// The listing of files that are not too large. It always fits: refusal 8 does not come.
+// The listing of files that are not too large. It always fits, so the answer 8 does not come.
 fn print_listing(task: &[u8], plan: &[u8], out: &mut [u8]) -> usize
     requires { ⌜ (length (now task) ≤ 16_384) × (length (now plan) ≤ 32_768) × (1_200_000 ≤ length (now out)) ⌝ }
     ensures { λ r. ⌜ Printed (listing (now (task .entry)) (now (plan .entry))) (now (out .entry)) (now (out .exit)) r ⌝ }
@@ -35,8 +35,8 @@ fn print_listing(task: &[u8], plan: &[u8], out: &mut [u8]) -> usize
     }
 }
 
-// The program's whole output for what the two files hold, at the front of lent output: how many bytes. A file that can't be opened has
-// none.
+// The program's whole output for what the two files hold, at the front of lent output: how many bytes. What is handed in for a file that
+// can't be opened is not looked at. 1,200,000 bytes hold the longest output.
 pub fn program_text(
     has_task: bool,
     task: &[u8],

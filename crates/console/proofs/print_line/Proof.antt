@@ -1,7 +1,6 @@
 -- `console::print_line` meets its contract. Assumes nothing.
 use native.Mathlib.Omega.{arith}
 use lib.ListN.{length-take}
-use Rattle.lists.specs.Writing.{Room}
 use Rattle.console.proofs.Printing.{wrote-printed}
 use borrow.Author.Needs.{needs}
 use Rattle.console.proofs.print_line.Statement.{statement}
