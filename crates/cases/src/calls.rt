@@ -150,7 +150,7 @@ fn run_prices(number: u64, entry: u8, task: &[u8], second: &[u8], k: usize) {
 }
 
 // Runs a call and prints its line.
-pub fn run(number: u64, entry: u8, task: &[u8], second: &[u8], k: usize, lent: u32) {
+pub(crate) fn run(number: u64, entry: u8, task: &[u8], second: &[u8], k: usize, lent: u32) {
     match entry {
         1..=4 => run_file(number, entry, task, k),
         5..=8 => run_steps(number, entry, task, second, k),

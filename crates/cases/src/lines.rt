@@ -1,12 +1,12 @@
 // The fields of a line, each behind a space, and its start and end.
 use libc::STDOUT_FILENO;
 
-pub fn start(number: u64, entry: &[u8]) {
+pub(crate) fn start(number: u64, entry: &[u8]) {
     io::print_decimal(STDOUT_FILENO, number);
     word(entry);
 }
 
-pub fn end() {
+pub(crate) fn end() {
     io::write_all(STDOUT_FILENO, b"\n");
 }
 
@@ -14,30 +14,30 @@ fn space() {
     io::write_all(STDOUT_FILENO, b" ");
 }
 
-pub fn word(text: &[u8]) {
+pub(crate) fn word(text: &[u8]) {
     space();
     io::write_all(STDOUT_FILENO, text);
 }
 
-pub fn natural(n: u64) {
+pub(crate) fn natural(n: u64) {
     space();
     io::print_decimal(STDOUT_FILENO, n);
 }
 
-pub fn integer(z: i64) {
+pub(crate) fn integer(z: i64) {
     space();
     let mut digits = [0u8; 20];
     let size = text::put_integer(&mut digits, 0, z);
     io::write_all(STDOUT_FILENO, actions::part(&digits, 0, size));
 }
 
-pub fn refusal(number: u8, place: u64) {
+pub(crate) fn refusal(number: u8, place: u64) {
     word(b"refused");
     natural(number as u64);
     natural(place);
 }
 
-pub fn integers(values: &[i64]) {
+pub(crate) fn integers(values: &[i64]) {
     let mut i = 0;
     while i < values.len() {
         integer(values[i]);
@@ -49,7 +49,7 @@ fn mode(value: u16) {
     natural(value as u64);
 }
 
-pub fn modes(values: &[u16]) {
+pub(crate) fn modes(values: &[u16]) {
     let mut i = 0;
     while i < values.len() {
         mode(values[i]);
@@ -62,7 +62,7 @@ fn byte(value: u8) {
 }
 
 // Two digits a byte.
-pub fn bytes(all: &[u8]) {
+pub(crate) fn bytes(all: &[u8]) {
     space();
     let mut i = 0;
     while i < all.len() {

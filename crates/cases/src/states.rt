@@ -57,7 +57,7 @@ fn read_modes(record: &[u8], start: usize, modes: &mut [u16])
     }
 }
 
-pub fn source(record: &[u8]) -> source::State {
+pub(crate) fn source(record: &[u8]) -> source::State {
     let mut values = [0i64; 8];
     let mut modes = [0u16; 4];
     read_values(record, &mut values);
@@ -65,7 +65,7 @@ pub fn source(record: &[u8]) -> source::State {
     source::State { values, modes }
 }
 
-pub fn restricted(record: &[u8]) -> restricted::State {
+pub(crate) fn restricted(record: &[u8]) -> restricted::State {
     let mut values = [0i64; 64];
     let mut modes = [0u16; 8];
     read_values(record, &mut values);

@@ -69,7 +69,7 @@ fn write(number: u64, entry: u8, task: &[u8], plan: &[u8], out: &mut [u8]) -> Wr
 }
 
 // Makes the call with so many bytes lent, at most those of the buffer.
-pub fn run(number: u64, entry: u8, task: &[u8], plan: &[u8], lent: u32) {
+pub(crate) fn run(number: u64, entry: u8, task: &[u8], plan: &[u8], lent: u32) {
     let mut room = io::large_buffer();
     let size = io::count(lent as isize, &room);
     let out = &mut room[..size];
