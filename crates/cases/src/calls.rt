@@ -1,0 +1,161 @@
+// A function for each entry, which makes the call and prints its line; calls that write are made in `writing`.
+use crate::lines;
+use crate::states;
+use crate::writing;
+
+// What reading a file answered: its counts.
+fn tell_counts(verdict: tasks::Verdict) {
+    match verdict {
+        tasks::Verdict::Rejected(number, place) => lines::refusal(number, place),
+        tasks::Verdict::Accepted(variables, modes, actions) => {
+            lines::natural(variables as u64);
+            lines::natural(modes as u64);
+            lines::natural(actions as u64);
+        }
+    }
+}
+
+// What finding an action answered: the start and end of its bytes.
+fn tell_place(placed: actions::Placed) {
+    match placed {
+        actions::Placed::Refused(number, place) => lines::refusal(number, place),
+        actions::Placed::At(start, end) => {
+            lines::natural(start as u64);
+            lines::natural(end as u64);
+        }
+    }
+}
+
+fn tell_price(priced: prices::Priced) {
+    match priced {
+        prices::Priced::Refused(number, place) => lines::refusal(number, place),
+        prices::Priced::Price(price) => lines::natural(price),
+    }
+}
+
+fn tell_source_state(state: source::State) {
+    let values = state.values;
+    let modes = state.modes;
+    lines::integers(&values);
+    lines::modes(&modes);
+}
+
+fn tell_restricted_state(state: restricted::State) {
+    let values = state.values;
+    let modes = state.modes;
+    lines::integers(&values);
+    lines::modes(&modes);
+}
+
+fn judge_source(task: &[u8], plan: &[u8]) {
+    let judgement = source::judge(task, plan);
+    let verdict = judgement.verdict;
+    match verdict {
+        source::Verdict::Refused(number, place) => lines::refusal(number, place),
+        source::Verdict::Valid(steps) => {
+            lines::natural(steps);
+            tell_source_state(judgement.state);
+        }
+    }
+}
+
+fn judge_restricted(task: &[u8], plan: &[u8]) {
+    let judgement = restricted::judge(task, plan);
+    let verdict = judgement.verdict;
+    match verdict {
+        restricted::Verdict::Refused(number, place) => lines::refusal(number, place),
+        restricted::Verdict::Valid(steps) => {
+            lines::natural(steps);
+            tell_restricted_state(judgement.state);
+        }
+    }
+}
+
+// The state stands in the line of a refusal too: it comes back as it was handed in.
+fn step_source(task: &[u8], record: &[u8], k: usize) {
+    let answer = source::step_alone(task, states::source(record), k);
+    let verdict = answer.verdict;
+    match verdict {
+        source::StepVerdict::Refused(number, place) => lines::refusal(number, place),
+        source::StepVerdict::Applied => {}
+    }
+    tell_source_state(answer.state);
+}
+
+fn step_restricted(task: &[u8], record: &[u8], k: usize) {
+    let answer = restricted::step_alone(task, states::restricted(record), k);
+    let verdict = answer.verdict;
+    match verdict {
+        restricted::StepVerdict::Refused(number, place) => lines::refusal(number, place),
+        restricted::StepVerdict::Applied => {}
+    }
+    tell_restricted_state(answer.state);
+}
+
+// The entries that read a file.
+fn run_file(number: u64, entry: u8, task: &[u8], k: usize) {
+    match entry {
+        1 => {
+            lines::start(number, b"check_source");
+            tell_counts(tasks::check_source(task));
+        }
+        2 => {
+            lines::start(number, b"check_restricted");
+            tell_counts(tasks::check_restricted(task));
+        }
+        3 => {
+            lines::start(number, b"place_source_action");
+            tell_place(actions::place_source_action(task, k));
+        }
+        _ => {
+            lines::start(number, b"place_restricted_action");
+            tell_place(actions::place_restricted_action(task, k));
+        }
+    }
+}
+
+// The entries that judge a plan or take a step.
+fn run_steps(number: u64, entry: u8, task: &[u8], second: &[u8], k: usize) {
+    match entry {
+        5 => {
+            lines::start(number, b"judge_source");
+            judge_source(task, second);
+        }
+        6 => {
+            lines::start(number, b"judge_restricted");
+            judge_restricted(task, second);
+        }
+        7 => {
+            lines::start(number, b"step_source");
+            step_source(task, second, k);
+        }
+        _ => {
+            lines::start(number, b"step_restricted");
+            step_restricted(task, second, k);
+        }
+    }
+}
+
+fn run_prices(number: u64, entry: u8, task: &[u8], second: &[u8], k: usize) {
+    match entry {
+        12 => {
+            lines::start(number, b"price_plan");
+            tell_price(prices::price_plan(task, second));
+        }
+        _ => {
+            lines::start(number, b"price_step");
+            tell_price(prices::price_step(task, states::source(second), k));
+        }
+    }
+}
+
+// Runs a call and prints its line.
+pub(crate) fn run(number: u64, entry: u8, task: &[u8], second: &[u8], k: usize, lent: u32) {
+    match entry {
+        1..=4 => run_file(number, entry, task, k),
+        5..=8 => run_steps(number, entry, task, second, k),
+        12..=13 => run_prices(number, entry, task, second, k),
+        _ => writing::run(number, entry, task, second, lent),
+    }
+    lines::end();
+}
