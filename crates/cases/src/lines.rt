@@ -1,9 +1,9 @@
 // The fields of a line, each behind a space, and its start and end.
 use libc::STDOUT_FILENO;
 
-pub(crate) fn start(number: u64, entry: &[u8]) {
+pub(crate) fn start(number: u64, name: &[u8]) {
     io::print_decimal(STDOUT_FILENO, number);
-    word(entry);
+    word(name);
 }
 
 pub(crate) fn end() {

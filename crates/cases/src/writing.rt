@@ -51,29 +51,20 @@ fn tell(written: Written, out: &[u8]) {
     lines::natural(checksum(out));
 }
 
-fn write(number: u64, entry: u8, task: &[u8], plan: &[u8], out: &mut [u8]) -> Written {
+fn write(entry: u8, task: &[u8], plan: &[u8], out: &mut [u8]) -> Written {
     match entry {
-        10 => {
-            lines::start(number, b"expand");
-            plans::expand(task, plan, out)
-        }
-        11 => {
-            lines::start(number, b"project");
-            projection::project(task, plan, out)
-        }
-        _ => {
-            lines::start(number, b"list");
-            listing::list(task, plan, out)
-        }
+        10 => plans::expand(task, plan, out),
+        11 => projection::project(task, plan, out),
+        _ => listing::list(task, plan, out),
     }
 }
 
 // Makes the call with so many bytes lent, at most those of the buffer.
-pub(crate) fn run(number: u64, entry: u8, task: &[u8], plan: &[u8], lent: u32) {
+pub(crate) fn run(entry: u8, task: &[u8], plan: &[u8], lent: u32) {
     let mut room = io::large_buffer();
     let size = io::count(lent as isize, &room);
     let out = &mut room[..size];
     fill(out);
-    let written = write(number, entry, task, plan, out);
+    let written = write(entry, task, plan, out);
     tell(written, out);
 }
