@@ -14,7 +14,7 @@ fn space() {
     io::write_all(STDOUT_FILENO, b" ");
 }
 
-pub(crate) fn word(text: &[u8]) {
+fn word(text: &[u8]) {
     space();
     io::write_all(STDOUT_FILENO, text);
 }
@@ -24,7 +24,7 @@ pub(crate) fn natural(n: u64) {
     io::print_decimal(STDOUT_FILENO, n);
 }
 
-pub(crate) fn integer(z: i64) {
+fn integer(z: i64) {
     space();
     let mut digits = [0u8; 20];
     let size = text::put_integer(&mut digits, 0, z);

@@ -12,11 +12,6 @@ ghost use lib.ListN.{length};
 // The bytes in front of a record's name.
 const HEAD: usize = 16;
 
-// The number of which these are the lower and the upper 32 bits.
-fn whole(low: u32, high: u32) -> usize {
-    low as usize + 4294967296 * high as usize
-}
-
 // Runs the record at the start of s, and answers how many bytes it has: 0 where no whole record is left.
 fn run_record(s: &[u8], number: u64) -> usize
     ensures { λ r. ⌜ r ≤ length (now (s .entry)) ⌝ }
@@ -29,7 +24,7 @@ fn run_record(s: &[u8], number: u64) -> usize
     let task_end = name_end + integers::number_at(s, 2, 2) as usize;
     let end = task_end + integers::number_at(s, 4, 2) as usize;
     let lent = integers::number_at(s, 6, 2);
-    let k = whole(integers::number_at(s, 8, 4), integers::number_at(s, 12, 4));
+    let k = states::whole(integers::number_at(s, 8, 4), integers::number_at(s, 12, 4)) as usize;
     if s.len() < end {
         return 0;
     }
@@ -39,6 +34,7 @@ fn run_record(s: &[u8], number: u64) -> usize
     end
 }
 
+// Runs the records of the file, in their order.
 fn run_all(s: &[u8]) {
     let mut at = 0;
     let mut number = 0;

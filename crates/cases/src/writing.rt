@@ -7,6 +7,7 @@ ghost use Prim.Native.Nat.{_<_};
 // The longest result whose bytes are printed.
 const SHOWN: usize = 32;
 
+// The pattern that the output has before the call.
 fn fill(out: &mut [u8]) {
     let mut i = 0;
     while i < out.len() {
@@ -40,6 +41,7 @@ fn show(out: &[u8], count: usize) {
     }
 }
 
+// The length of the result or the refusal, then the checksum of all that was lent.
 fn tell(written: Written, out: &[u8]) {
     match written {
         Written::Refused(number, place) => lines::refusal(number, place),
@@ -51,6 +53,7 @@ fn tell(written: Written, out: &[u8]) {
     lines::natural(checksum(out));
 }
 
+// The entries that write, by their numbers in tests/make-cases, where 9 is lowering's.
 fn write(entry: u8, task: &[u8], plan: &[u8], out: &mut [u8]) -> Written {
     match entry {
         10 => plans::expand(task, plan, out),
