@@ -1,4 +1,4 @@
-// A function for each entry, which makes the call and prints its line; calls that write are made in `writing`.
+// Makes the call of each entry and prints what it answered; calls that write are made in `writing`.
 use crate::lines;
 use crate::states;
 use crate::writing;
@@ -93,69 +93,38 @@ fn step_restricted(task: &[u8], record: &[u8], k: usize) {
 }
 
 // The entries that read a file.
-fn run_file(number: u64, entry: u8, task: &[u8], k: usize) {
+fn run_file(entry: u8, task: &[u8], k: usize) {
     match entry {
-        1 => {
-            lines::start(number, b"check_source");
-            tell_counts(tasks::check_source(task));
-        }
-        2 => {
-            lines::start(number, b"check_restricted");
-            tell_counts(tasks::check_restricted(task));
-        }
-        3 => {
-            lines::start(number, b"place_source_action");
-            tell_place(actions::place_source_action(task, k));
-        }
-        _ => {
-            lines::start(number, b"place_restricted_action");
-            tell_place(actions::place_restricted_action(task, k));
-        }
+        1 => tell_counts(tasks::check_source(task)),
+        2 => tell_counts(tasks::check_restricted(task)),
+        3 => tell_place(actions::place_source_action(task, k)),
+        _ => tell_place(actions::place_restricted_action(task, k)),
     }
 }
 
 // The entries that judge a plan or take a step.
-fn run_steps(number: u64, entry: u8, task: &[u8], second: &[u8], k: usize) {
+fn run_steps(entry: u8, task: &[u8], second: &[u8], k: usize) {
     match entry {
-        5 => {
-            lines::start(number, b"judge_source");
-            judge_source(task, second);
-        }
-        6 => {
-            lines::start(number, b"judge_restricted");
-            judge_restricted(task, second);
-        }
-        7 => {
-            lines::start(number, b"step_source");
-            step_source(task, second, k);
-        }
-        _ => {
-            lines::start(number, b"step_restricted");
-            step_restricted(task, second, k);
-        }
+        5 => judge_source(task, second),
+        6 => judge_restricted(task, second),
+        7 => step_source(task, second, k),
+        _ => step_restricted(task, second, k),
     }
 }
 
-fn run_prices(number: u64, entry: u8, task: &[u8], second: &[u8], k: usize) {
+fn run_prices(entry: u8, task: &[u8], second: &[u8], k: usize) {
     match entry {
-        12 => {
-            lines::start(number, b"price_plan");
-            tell_price(prices::price_plan(task, second));
-        }
-        _ => {
-            lines::start(number, b"price_step");
-            tell_price(prices::price_step(task, states::source(second), k));
-        }
+        12 => tell_price(prices::price_plan(task, second)),
+        _ => tell_price(prices::price_step(task, states::source(second), k)),
     }
 }
 
-// Runs a call and prints its line.
-pub(crate) fn run(number: u64, entry: u8, task: &[u8], second: &[u8], k: usize, lent: u32) {
+// Makes the call of an entry, by its number in tests/make-cases, and prints what it answered.
+pub(crate) fn run(entry: u8, task: &[u8], second: &[u8], k: usize, lent: u32) {
     match entry {
-        1..=4 => run_file(number, entry, task, k),
-        5..=8 => run_steps(number, entry, task, second, k),
-        12..=13 => run_prices(number, entry, task, second, k),
-        _ => writing::run(number, entry, task, second, lent),
+        1..=4 => run_file(entry, task, k),
+        5..=8 => run_steps(entry, task, second, k),
+        12..=13 => run_prices(entry, task, second, k),
+        _ => writing::run(entry, task, second, lent),
     }
-    lines::end();
 }

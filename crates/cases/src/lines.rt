@@ -1,9 +1,9 @@
 // The fields of a line, each behind a space, and its start and end.
 use libc::STDOUT_FILENO;
 
-pub(crate) fn start(number: u64, entry: &[u8]) {
+pub(crate) fn start(number: u64, name: &[u8]) {
     io::print_decimal(STDOUT_FILENO, number);
-    word(entry);
+    word(name);
 }
 
 pub(crate) fn end() {
@@ -14,7 +14,7 @@ fn space() {
     io::write_all(STDOUT_FILENO, b" ");
 }
 
-pub(crate) fn word(text: &[u8]) {
+fn word(text: &[u8]) {
     space();
     io::write_all(STDOUT_FILENO, text);
 }
@@ -24,7 +24,7 @@ pub(crate) fn natural(n: u64) {
     io::print_decimal(STDOUT_FILENO, n);
 }
 
-pub(crate) fn integer(z: i64) {
+fn integer(z: i64) {
     space();
     let mut digits = [0u8; 20];
     let size = text::put_integer(&mut digits, 0, z);

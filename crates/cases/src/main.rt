@@ -1,4 +1,4 @@
-// Runs each call of cases.bin and prints a line for each: its number, its entry, and what it answered. The file `stdout` has what another
+// Runs each call of cases.bin and prints a line for each: its number, its name, and what it answered. The file `stdout` has what another
 // implementation answers; tests/make-cases writes both, and its head says how a record is laid out.
 mod calls;
 mod lines;
@@ -9,7 +9,7 @@ ghost use Prim.Native.Nat.{_≤_};
 ghost use mathlib.Core.Path.{_≡_};
 ghost use lib.ListN.{length};
 
-// The bytes in front of a record's task.
+// The bytes in front of a record's name.
 const HEAD: usize = 16;
 
 // Runs the record at the start of s, and answers how many bytes it has: 0 where no whole record is left.
@@ -20,25 +20,21 @@ fn run_record(s: &[u8], number: u64) -> usize
         return 0;
     }
     let entry = s[0];
-    let task_end = HEAD + integers::number_at(s, 2, 2) as usize;
+    let name_end = HEAD + integers::number_at(s, 1, 1) as usize;
+    let task_end = name_end + integers::number_at(s, 2, 2) as usize;
     let end = task_end + integers::number_at(s, 4, 2) as usize;
     let lent = integers::number_at(s, 6, 2);
-    let k = integers::number_at(s, 8, 4) as usize
-        + 4294967296 * integers::number_at(s, 12, 4) as usize;
+    let k = states::whole(integers::number_at(s, 8, 4), integers::number_at(s, 12, 4)) as usize;
     if s.len() < end {
         return 0;
     }
-    calls::run(
-        number,
-        entry,
-        &s[HEAD..task_end],
-        &s[task_end..end],
-        k,
-        lent,
-    );
+    lines::start(number, &s[HEAD..name_end]);
+    calls::run(entry, &s[name_end..task_end], &s[task_end..end], k, lent);
+    lines::end();
     end
 }
 
+// Runs the records of the file, in their order.
 fn run_all(s: &[u8]) {
     let mut at = 0;
     let mut number = 0;

@@ -1,8 +1,12 @@
-// The state of a record: values of 64 bits in two's complement, then modes of 16, least byte first. What the record lacks is 0.
-ghost use Prim.Native.Nat.{_+_, _≤_};
-ghost use lib.ListN.{length};
+// The numbers of a record. A state is values of 64 bits in two's complement, then modes of 16, least byte first; what the record lacks is 0.
+ghost use Prim.Native.Nat.{_≤_};
 
-// The number of which these are the 64 bits.
+// The number of which these are the lower and the upper 32 bits.
+pub(crate) fn whole(low: u32, high: u32) -> u64 {
+    low as u64 + 4294967296 * high as u64
+}
+
+// The number of which these are the 64 bits in two's complement.
 fn signed(bits: u64) -> i64 {
     if bits < 9223372036854775808 {
         return bits as i64;
@@ -20,7 +24,7 @@ fn value_at(record: &[u8], place: usize) -> i64 {
     }
     let low = integers::number_at(record, place, 4);
     let high = integers::number_at(record, place + 4, 4);
-    signed(low as u64 + 4294967296 * high as u64)
+    signed(whole(low, high))
 }
 
 fn mode_at(record: &[u8], place: usize) -> u16 {
@@ -57,6 +61,7 @@ fn read_modes(record: &[u8], start: usize, modes: &mut [u16])
     }
 }
 
+// The state of a step in a source task.
 pub(crate) fn source(record: &[u8]) -> source::State {
     let mut values = [0i64; 8];
     let mut modes = [0u16; 4];
@@ -65,6 +70,7 @@ pub(crate) fn source(record: &[u8]) -> source::State {
     source::State { values, modes }
 }
 
+// The same in a restricted task.
 pub(crate) fn restricted(record: &[u8]) -> restricted::State {
     let mut values = [0i64; 64];
     let mut modes = [0u16; 8];

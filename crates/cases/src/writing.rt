@@ -7,6 +7,7 @@ ghost use Prim.Native.Nat.{_<_};
 // The longest result whose bytes are printed.
 const SHOWN: usize = 32;
 
+// The pattern that the output has before the call.
 fn fill(out: &mut [u8]) {
     let mut i = 0;
     while i < out.len() {
@@ -40,6 +41,7 @@ fn show(out: &[u8], count: usize) {
     }
 }
 
+// The length of the result or the refusal, then the checksum of all that was lent.
 fn tell(written: Written, out: &[u8]) {
     match written {
         Written::Refused(number, place) => lines::refusal(number, place),
@@ -51,29 +53,21 @@ fn tell(written: Written, out: &[u8]) {
     lines::natural(checksum(out));
 }
 
-fn write(number: u64, entry: u8, task: &[u8], plan: &[u8], out: &mut [u8]) -> Written {
+// The entries that write, by their numbers in tests/make-cases, where 9 is lowering's.
+fn write(entry: u8, task: &[u8], plan: &[u8], out: &mut [u8]) -> Written {
     match entry {
-        10 => {
-            lines::start(number, b"expand");
-            plans::expand(task, plan, out)
-        }
-        11 => {
-            lines::start(number, b"project");
-            projection::project(task, plan, out)
-        }
-        _ => {
-            lines::start(number, b"list");
-            listing::list(task, plan, out)
-        }
+        10 => plans::expand(task, plan, out),
+        11 => projection::project(task, plan, out),
+        _ => listing::list(task, plan, out),
     }
 }
 
 // Makes the call with so many bytes lent, at most those of the buffer.
-pub(crate) fn run(number: u64, entry: u8, task: &[u8], plan: &[u8], lent: u32) {
+pub(crate) fn run(entry: u8, task: &[u8], plan: &[u8], lent: u32) {
     let mut room = io::large_buffer();
     let size = io::count(lent as isize, &room);
     let out = &mut room[..size];
     fill(out);
-    let written = write(number, entry, task, plan, out);
+    let written = write(entry, task, plan, out);
     tell(written, out);
 }

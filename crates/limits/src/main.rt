@@ -86,6 +86,7 @@ fn judge_plans() {
     judge(b"plan 1000001", 2000002);
 }
 
+// The pattern that the output has before the call.
 fn fill(out: &mut [u8]) {
     let mut i = 0;
     while i < out.len() {
