@@ -1,7 +1,7 @@
-// Makes the call of each entry and prints what it answered; calls that write are made in `writing`.
+// Makes the call of each entry and prints what it answered; calls that write are made in `outputs`.
 use crate::lines;
+use crate::outputs;
 use crate::states;
-use crate::writing;
 
 // What reading a file answered: its counts.
 fn tell_counts(verdict: tasks::Verdict) {
@@ -125,6 +125,6 @@ pub(crate) fn run(entry: u8, task: &[u8], second: &[u8], k: usize, lent: u32) {
         1..=4 => run_file(entry, task, k),
         5..=8 => run_steps(entry, task, second, k),
         12..=13 => run_prices(entry, task, second, k),
-        _ => writing::run(entry, task, second, lent),
+        _ => outputs::run(entry, task, second, lent),
     }
 }

@@ -2,8 +2,8 @@
 // implementation answers; tests/make-cases writes both, and its head says how a record is laid out.
 mod calls;
 mod lines;
+mod outputs;
 mod states;
-mod writing;
 
 ghost use Prim.Native.Nat.{_≤_};
 ghost use mathlib.Core.Path.{_≡_};

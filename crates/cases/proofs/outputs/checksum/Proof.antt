@@ -1,9 +1,9 @@
--- `cases::writing::checksum` is safe and ends: the sum stays below the prime. Assumes nothing.
+-- `cases::outputs::checksum` is safe and ends: the sum stays below the prime. Assumes nothing.
 use Prim.Native.Nat.{_-_, _<_, _≤_}
 use lib.ListN.{length}
 use borrow.Author.Needs.{needs}
-use Rattle.cases.proofs.writing.checksum.Statement.{statement}
-use Rattle.cases.proofs.writing.checksum.Tie as tie
+use Rattle.cases.proofs.outputs.checksum.Statement.{statement}
+use Rattle.cases.proofs.outputs.checksum.Tie as tie
 
 abbrev Inv-loop : tie.InvT-loop
 Inv-loop bytes sum₀ i₀ sum i = (i ≤ length bytes) × (sum < 1000000007)

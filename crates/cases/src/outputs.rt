@@ -53,9 +53,10 @@ fn tell(written: Written, out: &[u8]) {
     lines::natural(checksum(out));
 }
 
-// The entries that write, by their numbers in tests/make-cases, where 9 is lowering's.
+// The entries that write, by their numbers in tests/make-cases.
 fn write(entry: u8, task: &[u8], plan: &[u8], out: &mut [u8]) -> Written {
     match entry {
+        9 => lowering::lower(task, out),
         10 => plans::expand(task, plan, out),
         11 => projection::project(task, plan, out),
         _ => listing::list(task, plan, out),

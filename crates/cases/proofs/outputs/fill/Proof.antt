@@ -1,11 +1,11 @@
--- `cases::writing::fill` is safe and ends: a store keeps the length. Assumes nothing.
+-- `cases::outputs::fill` is safe and ends: a store keeps the length. Assumes nothing.
 use Prim.Native.Nat.{_-_, _≤_}
 use mathlib.Core.Path.{_≡_}
 use native.Mathlib.Omega.{arith}
 use lib.ListN.{length, length-set}
 use borrow.Author.Needs.{needs}
-use Rattle.cases.proofs.writing.fill.Statement.{statement}
-use Rattle.cases.proofs.writing.fill.Tie as tie
+use Rattle.cases.proofs.outputs.fill.Statement.{statement}
+use Rattle.cases.proofs.outputs.fill.Tie as tie
 
 abbrev Inv-loop : tie.InvT-loop
 Inv-loop out₀ i₀ out i = (i ≤ length out) × (length out ≡ length out₀)
