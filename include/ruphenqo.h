@@ -25,6 +25,17 @@
  * DUTIES OF THE CALLER. A pointer that comes with a length is valid for that many bytes; the others point to one element, or to as many as
  * the array has. What a function writes overlaps nothing else that it is handed. An empty slice still has a pointer that is not null.
  *
+ * EXAMPLE. To lower a task into a buffer of one's own (examples/console.c asks for the length first):
+ *
+ *     uint64_t length, place;
+ *     uint32_t number = ruphenqo_lower(task, task_length, out, out_length, &length, &place);
+ *     if (number == 8)
+ *         ..  out is too short: place bytes are needed, and out is as it was
+ *     else if (number)
+ *         ..  the task is refused: number, at place
+ *     else
+ *         ..  the first length bytes of out are the restricted file
+ *
  * BYTES. A task is a file of document 01. A plan is action numbers of 16 bits, least byte first. A state is the values of the variables and
  * of the modes, in the order of their declarations; entries past the declared ones are not read.
  */
