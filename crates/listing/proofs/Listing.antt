@@ -26,7 +26,8 @@ use Rattle.source.specs.declared.State.{State as StateByValue}
 use Rattle.source.specs.Step.{Shaped}
 use Rattle.source.specs.Judged.{Decoded, AcceptedWith}
 use Rattle.source.proofs.Judging.{task-of, accepted-task, counted-task, ready, steps-of}
-use Rattle.listing.specs.Listed.{ReadyIn, ListableIn, textFrom, SettingIs, actionsOf}
+use Rattle.source.specs.Setting.{SettingIs}
+use Rattle.listing.specs.Listed.{ReadyIn, ListableIn, textFrom, actionsOf}
 
 -- ---- the text
 pub lent-as : {old : List ℕ} {a b : Answer (List ℕ)} {after : List ℕ} {r : Written} → a ≡ b → Lent old a after r → Lent old b after r

@@ -12,13 +12,11 @@ use Rattle.lists.specs.Written.{Lent}
 use Rattle.lists.specs.declared.Written.{Written}
 use Rattle.model.specs.Tasks.{SourceAction, SourceTask, State}
 use Rattle.model.specs.Reading.{Verdict, Accepted, Rejected}
-use Rattle.model.specs.Decoding.{readSource}
 use Rattle.model.specs.Steps.{integerAt}
 use Rattle.model.specs.Expansion.{priceOfEffect}
 use Rattle.model.specs.Judging.{declaredPart}
 use Rattle.model.specs.Listing.{header, stepLines, goalLine}
 use Rattle.actions.specs.declared.SourceAction.{SourceAction as DecodedSource}
-use Rattle.declarations.specs.Holding.{HoldsSource}
 use Rattle.source.specs.declared.Table.{Table}
 use Rattle.source.specs.declared.Shape.{Shape}
 use Rattle.source.specs.declared.State.{State as StateByValue}
@@ -83,10 +81,6 @@ pub record ListingWritten (p : List ℕ) (count : ℕ) (table : Table) (h : Shap
   pub written : (t : SourceTask) → ReadyIn t count table h → Lent old (given (textFrom t p total (declaredIn h x))) after r
 
 -- ---- of an accepted file
--- the shape and the start are those of its task
-pub record SettingIs (file : List ℕ) (h : Shape) (x : StateByValue) : Type 0 where
-  pub holds : (t : SourceTask) → readSource file ≡ given t → HoldsSource t (record { variables = h .variables; modes = h .modes }) (h .lower) (h .upper) (x .values) (h .sizes) (x .modes)
-
 -- how many actions it has
 abbrev pub actionsOf : Verdict → ℕ
 actionsOf (Accepted variables modes actions) = actions

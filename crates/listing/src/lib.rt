@@ -23,7 +23,7 @@ ghost use Rattle.model.specs.Plans.{planNumbers};
 ghost use Rattle.model.specs.Reading.{verdictOf};
 ghost use Rattle.source.specs.Step.{actionIs, Shaped};
 ghost use Rattle.listing.specs.Lines.{field, lineOf};
-ghost use Rattle.listing.specs.Listed.{Turned, Listable, LinesLong, LinesRoom, LinesPut, ListableIn, ListingRoom, ListingPut, ListingWritten, SettingIs, actionsOf};
+ghost use Rattle.listing.specs.Listed.{Turned, Listable, LinesLong, LinesRoom, LinesPut, ListableIn, ListingRoom, ListingPut, ListingWritten, actionsOf};
 
 // A text, byte for byte.
 fn put_text(out: &mut [u8], at: usize, text: &[u8]) -> usize
@@ -351,41 +351,6 @@ fn write_listing(
     lists::Written::Bytes(need)
 }
 
-// A task's variables and modes, and its start.
-struct Setting {
-    shape: Shape,
-    start: State,
-}
-
-// Those of an accepted file.
-fn read_setting(file: &[u8]) -> Setting
-    ensures { λ r. ⌜ SettingIs (now (file .entry)) (r .shape) (r .start) ⌝ }
-{
-    let mut lower = [0i64; VARIABLES];
-    let mut upper = [0i64; VARIABLES];
-    let mut values = [0i64; VARIABLES];
-    let mut sizes = [0u16; MODES];
-    let mut modes = [0u16; MODES];
-    let declared = declarations::read_source(
-        file,
-        &mut lower,
-        &mut upper,
-        &mut values,
-        &mut sizes,
-        &mut modes,
-    );
-    Setting {
-        shape: Shape {
-            variables: declared.variables,
-            lower,
-            upper,
-            modes: declared.modes,
-            sizes,
-        },
-        start: State { values, modes },
-    }
-}
-
 // How many actions an accepted file has.
 fn count_actions(file: &[u8]) -> usize
     ensures { λ r. ⌜ r ≡ actionsOf (verdictOf sourceLimits (now (file .entry))) ⌝ }
@@ -402,7 +367,7 @@ fn list_valid(file: &[u8], plan: &[u8], total: u64, out: &mut [u8]) -> lists::Wr
     ensures { λ r. ⌜ Lent (now (out .entry)) (given (listing (now (file .entry)) (now (plan .entry)))) (now (out .exit)) r ⌝ }
 {
     let count = count_actions(file);
-    let setting = read_setting(file);
+    let setting = source::read_setting(file);
     let shape = setting.shape;
     let start = setting.start;
     let table = source::decode_actions(file, count);

@@ -23,7 +23,6 @@ use Rattle.model.specs.Expansion.{stageStepsFrom, expandTask}
 use Rattle.model.specs.Judging.{declaredPart, judgeSourceTask, priceTask}
 use Rattle.actions.specs.declared.Goal.{Goal}
 use Rattle.actions.specs.declared.SourceAction.{SourceAction as DecodedSource}
-use Rattle.declarations.specs.Holding.{HoldsSource}
 use Rattle.source.specs.declared.Progress.{Progress}
 use Rattle.source.specs.declared.Progress.the-variants.{Through, Stopped}
 use Rattle.source.specs.declared.Shape.{Shape}
@@ -33,12 +32,6 @@ use Rattle.source.specs.Judged.{Ready, goalModesIn, goalConditionsIn}
 use Rattle.runs.specs.declared.Strokes.{Strokes}
 use Rattle.runs.specs.Made.{Listed}
 use Rattle.runs.specs.Strokes.{strokesOf}
-use Rattle.plans.specs.declared.Setting.{Setting}
-
--- ---- what a file declares, by value
-pub record Declares (file : List ℕ) (r : Setting) : Type 0 where
-  pub holds : (t : SourceTask) → readSource file ≡ given t
-      → HoldsSource t (record { variables = r .shape .variables; modes = r .shape .modes }) (r .shape .lower) (r .shape .upper) (r .start .values) (r .shape .sizes) (r .start .modes)
 
 -- the table and the shape are those of a task; the state is of that shape; and the model's state that it stands for
 abbrev pub ReadyFor : SourceTask → ℕ → List DecodedSource → Shape → Type 0

@@ -24,42 +24,7 @@ ghost use Rattle.model.specs.Steps.{integerAt};
 ghost use Rattle.source.specs.Parts.{effectFits};
 ghost use Rattle.source.specs.Step.{actionIs, Shaped};
 ghost use Rattle.source.specs.Judged.{AcceptedWith};
-ghost use Rattle.plans.specs.Expanding.{Declares, ShapedFor, lastLength, Counted, WritableFor, ExpandedFor, StepTaken, StepsExpanded};
-
-// What a file declares, by value: the shape of its states, and its start.
-struct Setting {
-    shape: Shape,
-    start: State,
-}
-
-// The declarations of a file.
-fn read_setting(file: &[u8]) -> Setting
-    ensures { λ r. ⌜ Declares (now (file .entry)) r ⌝ }
-{
-    let mut lower = [0i64; VARIABLES];
-    let mut upper = [0i64; VARIABLES];
-    let mut values = [0i64; VARIABLES];
-    let mut sizes = [0u16; MODES];
-    let mut modes = [0u16; MODES];
-    let declared = declarations::read_source(
-        file,
-        &mut lower,
-        &mut upper,
-        &mut values,
-        &mut sizes,
-        &mut modes,
-    );
-    Setting {
-        shape: Shape {
-            variables: declared.variables,
-            lower,
-            upper,
-            modes: declared.modes,
-            sizes,
-        },
-        start: State { values, modes },
-    }
-}
+ghost use Rattle.plans.specs.Expanding.{ShapedFor, lastLength, Counted, WritableFor, ExpandedFor, StepTaken, StepsExpanded};
 
 // How many bytes the expansion of a plan has that goes so far and has such a price, or its refusal.
 fn last_length(progress: Progress, met: bool, steps: usize, price: u64, passing: u64) -> Written
@@ -170,7 +135,7 @@ fn expand_steps(file: &[u8], count: usize, plan: &[u8], steps: usize, out: &mut 
     requires { ⌜ AcceptedWith (verdictOf sourceLimits (now file)) count × (steps ≡ length (planNumbers (now plan))) × (steps ≤ 1000000) ⌝ }
     ensures { λ r. ⌜ StepsExpanded (now (file .entry)) (planNumbers (now (plan .entry))) (now (out .entry)) (now (out .exit)) r ⌝ }
 {
-    let setting = read_setting(file);
+    let setting = source::read_setting(file);
     let shape = setting.shape;
     let start = setting.start;
     let table = source::decode_actions(file, count);

@@ -2,3 +2,4 @@ pub mod Alone
 pub mod Judged
 pub mod Parts
 pub mod Step
+pub mod Setting

@@ -22,6 +22,7 @@ ghost use Rattle.lists.specs.Loops.{every};
 ghost use Rattle.model.specs.Steps.{integerAt, naturalAt, conditionsHold, modesHold, setAll, linear, result, withinBounds, goalHolds};
 ghost use Rattle.source.specs.Parts.{conditionsIn, modeConditionsIn, modeEffectsIn, termsIn, effectIn, small, divides, termFits, effectFits, outcomeIs, valuesBetween, modesBelow};
 ghost use Rattle.source.specs.Step.{state, setAt, settled, Shaped, appliesBefore, Tried, actionIs, wholeIs, steppedIs, stepped};
+ghost use Rattle.source.specs.Setting.{SettingIs};
 ghost use Rattle.source.specs.Judged.{Decoded, Ran, goalModesIn, goalConditionsIn, AcceptedWith, lastVerdict, judgementIs, judgementOf, withState, StepsJudged};
 ghost use Rattle.source.specs.Alone.{stepVerdict, stepAnswerIs, returned, StepTaken};
 ghost use Rattle.model.specs.Limits.{sourceLimits};
@@ -518,6 +519,41 @@ impl State {
     {
         let stepped = self.step(shape, action);
         stepped.state
+    }
+}
+
+// What a file declares, by value: the shape of its states, and its start.
+pub struct Setting {
+    pub shape: Shape,
+    pub start: State,
+}
+
+// The declarations of a file.
+pub fn read_setting(file: &[u8]) -> Setting
+    ensures { λ r. ⌜ SettingIs (now (file .entry)) (r .shape) (r .start) ⌝ }
+{
+    let mut lower = [0i64; VARIABLES];
+    let mut upper = [0i64; VARIABLES];
+    let mut values = [0i64; VARIABLES];
+    let mut sizes = [0u16; MODES];
+    let mut modes = [0u16; MODES];
+    let declared = declarations::read_source(
+        file,
+        &mut lower,
+        &mut upper,
+        &mut values,
+        &mut sizes,
+        &mut modes,
+    );
+    Setting {
+        shape: Shape {
+            variables: declared.variables,
+            lower,
+            upper,
+            modes: declared.modes,
+            sizes,
+        },
+        start: State { values, modes },
     }
 }
 

@@ -14,7 +14,7 @@ use Rattle.model.specs.Decoding.{readSource}
 use Rattle.model.specs.Plans.{planNumbers}
 use Rattle.declarations.specs.Holding.{HoldsSource}
 use Rattle.source.proofs.Judging.{bytes-of, task-of, accepted-task, counted-task, few-actions, ready, goal-is}
-use Rattle.plans.specs.declared.Setting.{Setting}
+use Rattle.source.specs.declared.Setting.{Setting}
 use Rattle.plans.specs.Expanding.{ReadyFor, ShapedFor, lengthAnswer}
 use Rattle.plans.proofs.Lengths.{Expands, expands, no-expansion}
 use borrow.Author.Needs.{needs}

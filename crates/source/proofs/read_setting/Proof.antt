@@ -1,9 +1,9 @@
--- `plans::read_setting` meets its contract. Assumes nothing.
+-- `source::read_setting` meets its contract. Assumes nothing.
 use Rattle.declarations.proofs.Accepted.{source-held}
 use Rattle.source.proofs.Judging.{zero-room}
 use borrow.Author.Needs.{needs}
-use Rattle.plans.proofs.read_setting.Statement.{statement}
-use Rattle.plans.proofs.read_setting.Tie as tie
+use Rattle.source.proofs.read_setting.Statement.{statement}
+use Rattle.source.proofs.read_setting.Tie as tie
 
 read-source-requires : tie.Need-read-source-requires
 read-source-requires c κs = search needs
