@@ -1,7 +1,6 @@
 pub mod Accepted
 pub mod Advancing
 pub mod Filling
-pub mod Fits
 pub mod Going
 pub mod Numbers
 pub mod Projecting

@@ -25,12 +25,11 @@ use Rattle.actions.specs.declared.SourceAction.{SourceAction as DecodedSource}
 use Rattle.source.specs.Parts.{effectFits}
 use Rattle.source.specs.Step.{state, actionIs, stepOf, Tried}
 use Rattle.source.specs.Judged.{Ready}
-use Rattle.source.proofs.Steps.{step-of-task}
+use Rattle.source.proofs.Steps.{step-of-task, effect-of-task-fits}
 use Rattle.runs.specs.Strokes.{strokesOf, stepNumbers}
 use Rattle.projection.specs.Sources.{entryAt, named}
 use Rattle.projection.specs.Following.{opensIn, Lowered}
 use Rattle.projection.proofs.Filling.{number-opens}
-use Rattle.projection.proofs.Fits.{effect-of-task-fits}
 use Rattle.projection.proofs.Numbers.{macro-numbers, opens-is}
 
 -- ---- the definition, unfolded once

@@ -153,6 +153,12 @@ module _ (t : SourceTask) (ok : SourceTaskOk t) where
       (within-all (λ (b : SourceVariable). b .upper) (t .variables) (all-map (SourceVariableOk sourceLimits) (λ (b : SourceVariable). natAbs (b .upper) ≤ 10_000) (λ b h. h .1) (t .variables) (ok .variablesIn)))
       (x .values) (and-left (valuesWithinBounds (lowerBounds t) (upperBounds t) (x .values)) (modesBelowSizes (sizesOf (t .modes)) (x .modes)) s)
 
+  -- in a state within its bounds every effect of the task fits, whether its action applies or not
+  pub effect-of-task-fits : (x : State) → soundSource (lowerBounds t) (upperBounds t) (sizesOf (t .modes)) x ≡ true
+      → (k : ℕ) (a : SourceAction) → getElem? (t .actions) k ≡ some a → effectFits (a .effect) (integerAt (x .values)) ≡ true
+  effect-of-task-fits x s k a e =
+      effect-near (length (t .variables)) (integerAt (x .values)) (values-near x s) (a .effect) (all-get (SourceActionOk sourceLimits (length (t .variables)) (sizesOf (t .modes))) (t .actions) k a (ok .actionsOk) e .effectOk)
+
   -- THE LAW
   pub step-of-task : (x : State) (k : ℕ) (a : SourceAction) → getElem? (t .actions) k ≡ some a
       → stepOf (each (λ (b : SourceVariable). b .lower) (t .variables)) (each (λ (b : SourceVariable). b .upper) (t .variables)) (sizesOf (t .modes)) x a ≡ stepSource t x k
@@ -162,6 +168,6 @@ module _ (t : SourceTask) (ok : SourceTaskOk t) where
       let after-try : Option State → Option State = λ (o : Option State). bind o (λ (y : State). cond (sound x) (cond (sound y) (some y) none) none) in
       let same : after-try (trySource (lowerBounds t) (upperBounds t) x a) ≡ stepSource t x k = ap (λ (o : Option SourceAction). after-try (bind o (trySource (lowerBounds t) (upperBounds t) x))) (sym e) in
       chosen (effectFits (a .effect) (integerAt (x .values))) (sound x) (after-try (trySource (lowerBounds t) (upperBounds t) x a)) (stepSource t x k)
-      (λ s. effect-near (length (t .variables)) (integerAt (x .values)) (values-near x s) (a .effect) (all-get (SourceActionOk sourceLimits (length (t .variables)) (sizesOf (t .modes))) (t .actions) k a (ok .actionsOk) e .effectOk))
+      (λ s. effect-of-task-fits x s k a e)
       (λ s. sym same ∙ ap (λ (b : Bool). bind (trySource (lowerBounds t) (upperBounds t) x a) (λ (y : State). cond b (cond (sound y) (some y) none) none)) s ∙ unsound (trySource (lowerBounds t) (upperBounds t) x a) sound)
       same
