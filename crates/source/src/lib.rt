@@ -534,14 +534,14 @@ pub fn read_setting(file: &[u8]) -> Setting
 {
     let mut lower = [0i64; VARIABLES];
     let mut upper = [0i64; VARIABLES];
-    let mut values = [0i64; VARIABLES];
+    let mut start = [0i64; VARIABLES];
     let mut sizes = [0u16; MODES];
     let mut modes = [0u16; MODES];
     let declared = declarations::read_source(
         file,
         &mut lower,
         &mut upper,
-        &mut values,
+        &mut start,
         &mut sizes,
         &mut modes,
     );
@@ -553,7 +553,10 @@ pub fn read_setting(file: &[u8]) -> Setting
             modes: declared.modes,
             sizes,
         },
-        start: State { values, modes },
+        start: State {
+            values: start,
+            modes,
+        },
     }
 }
 
