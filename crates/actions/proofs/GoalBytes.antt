@@ -29,7 +29,8 @@ use Rattle.model.proofs.ReadingLaws.{clash, holds, rule-none}
 use Rattle.model.proofs.AcceptedTrail.{Is, accepted-trail}
 use Rattle.model.proofs.FileBytes.{file-is-its-commands}
 use Rattle.actions.specs.Places.{edgesOf, goalPart}
-use Rattle.actions.proofs.Edges.{EdgesLeft, all-left, at-goal, at-action, at-other}
+use Rattle.actions.specs.Places.{EdgesLeft}
+use Rattle.actions.proofs.Edges.{all-left, at-goal, at-action, at-other}
 use Rattle.actions.proofs.Gathering.{size-positive}
 
 -- ---- what matters of a command here: a command but A, G and Z changes neither the section, nor the actions, nor the goal

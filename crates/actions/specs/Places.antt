@@ -1,8 +1,9 @@
 -- Where the actions of a file stand: the answers of the code in the words of the definitions.
 -- Assumes nothing.
-use Prim.Native.Nat.{ℕ, suc, _-_}
+use mathlib.Core.Path.{_≡_}
+use Prim.Native.Nat.{ℕ, suc, _+_, _-_, _<_}
 use mathlib.Core.List.{List, [], _∷_}
-use lib.ListN.{length, take, drop}
+use lib.ListN.{length, getD, take, drop}
 use Rattle.lists.specs.Answer.{Answer, given, refused}
 use Rattle.commands.specs.Table.{sizeOfByte}
 use Rattle.model.specs.ActionBytes.{edges, edgeOf}
@@ -12,6 +13,22 @@ use Rattle.actions.specs.declared.Placed.the-variants.{At, Refused}
 -- the offsets of the commands A of a file, and last that of G
 abbrev pub edgesOf : List ℕ → List ℕ
 edgesOf file = edges (suc (length file)) 0 file
+
+-- `left` are the offsets of the A's and of G from an offset on
+pub record EdgesLeft (file : List ℕ) (at : ℕ) (left : List ℕ) : Type 0 where
+  pub most : ℕ
+  pub enough : length file < most + at
+  pub are : left ≡ edges most at (drop at file)
+
+-- from an offset on, number `number` of them is the k-th of the file's, the one behind it the next, and so on
+pub record Sought (file : List ℕ) (k at number : ℕ) : Type 0 where
+  pub left : List ℕ
+  pub there : EdgesLeft file at left
+  pub sought : (j : ℕ) → edgeOf file (j + k) ≡ getD left (j + number) (length file)
+
+-- it was found at r: whichever it is, and the next is number 1 from there
+pub record Found (file : List ℕ) (from number r : ℕ) : Type 0 where
+  pub is : (k : ℕ) → Sought file k from number → (r ≡ edgeOf file k) × Sought file (suc k) r 1
 
 -- the bytes from a start up to an end
 abbrev pub partOf : List ℕ → ℕ → ℕ → List ℕ

@@ -18,7 +18,7 @@ ghost use Rattle.lists.specs.Answer.{given, then};
 ghost use Rattle.model.specs.ActionBytes.{edgeOf, ofVerdict, actionPlace, partAt, actionBytes, decodeAction};
 ghost use Rattle.model.specs.Limits.{sourceLimits, restrictedLimits};
 ghost use Rattle.tasks.specs.Views.{verdictIs};
-ghost use Rattle.actions.specs.Places.{edgesOf, bodyStart, partOf, placedIs, bytesGiven, goalPart};
+ghost use Rattle.actions.specs.Places.{edgesOf, Found, bodyStart, partOf, placedIs, bytesGiven, goalPart};
 ghost use Rattle.actions.specs.Kept.{givenBy, KeepsConditions, KeepsPairs, FillsConditions, FillsPairs};
 ghost use Rattle.actions.specs.Numeric.{nothing, withEffect, withTerm, effectWith, EffectTaken};
 ghost use Rattle.actions.specs.Views.{conditionRoom, modeConditionRoom, modeEffectRoom, additionRoom, termRoom};
@@ -98,12 +98,13 @@ pub struct SourceAction {
     pub terms: [Term; TERMS],
 }
 
-// The offset of the k-th of the commands A and, last, G; the file's length where there are not so many.
-pub fn find_edge(file: &[u8], k: usize) -> usize
-    ensures { λ r. ⌜ r ≡ edgeOf (now (file .entry)) k ⌝ }
+// From an offset on, the offset of the one of the commands A and, last, G before which so many of them stand; the file's length where there
+// are not so many. It is the one that `Sought` speaks of, and from there the next is number 1.
+pub fn edge_from(file: &[u8], from: usize, number: usize) -> usize
+    ensures { λ r. ⌜ Found (now (file .entry)) from number r ⌝ }
 {
-    let mut at: usize = 0;
-    let mut left = k;
+    let mut at = from;
+    let mut left = number;
     while at < file.len() {
         let byte = file[at];
         let size = commands::size_of(byte);
@@ -124,6 +125,13 @@ pub fn find_edge(file: &[u8], k: usize) -> usize
         }
     }
     file.len()
+}
+
+// The offset of the k-th of the commands A and, last, G; the file's length where there are not so many.
+pub fn find_edge(file: &[u8], k: usize) -> usize
+    ensures { λ r. ⌜ r ≡ edgeOf (now (file .entry)) k ⌝ }
+{
+    edge_from(file, 0, k)
 }
 
 // The offsets of all A's and last of G, stored one behind another from the front of the table as far as they fit.
@@ -165,8 +173,8 @@ fn place_action(file: &[u8], verdict: Verdict, k: usize) -> Placed
     match verdict {
         Verdict::Accepted(_, _, actions) => {
             if k < actions as usize {
-                let start = find_edge(file, k);
-                let end = find_edge(file, k + 1);
+                let start = edge_from(file, 0, k);
+                let end = edge_from(file, start, 1);
                 return Placed::At(start, end);
             }
             Placed::Refused(11, k as u64)

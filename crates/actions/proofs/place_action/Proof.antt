@@ -1,7 +1,7 @@
 -- `actions::place_action` meets its contract, case by case of the verdict. Assumes nothing.
-use native.Mathlib.Numerals.{add-one}
 use borrow.Author.Tests.{lt-ltb, le-ltb}
 use borrow.Author.Needs.{needs}
+use Rattle.actions.proofs.Edges.{sought-first}
 use Rattle.actions.proofs.place_action.Statement.{statement}
 use Rattle.actions.proofs.place_action.Tie as tie
 
@@ -11,19 +11,17 @@ enum-known-verdict c = search needs
 cast-if1 : tie.Need-cast-if1
 cast-if1 c = search needs
 
-find-edge-requires : tie.Need-find-edge-requires
-find-edge-requires c κs = search needs
+edge-from-requires : tie.Need-edge-from-requires
+edge-from-requires c κs = search needs
 
-add-find-edge : tie.Need-add-find-edge
-add-find-edge c = search needs
-
-find-edge-requires-2 : tie.Need-find-edge-requires-2
-find-edge-requires-2 c κs = search needs
+edge-from-requires-2 : tie.Need-edge-from-requires-2
+edge-from-requires-2 c κs = search needs
 
 returns : tie.Need-returns
 returns c =
     let t = c .before .before in
-    rw (t .before .before .verdict .given .1, lt-ltb _ _ (t .if1 .taken), c .before .find-edge .ensures, c .find-edge2 .ensures, add-one)
+    let (starts, next) = c .before .edge-from .ensures .is _ (sought-first _ _) in
+    rw (t .before .before .verdict .given .1, lt-ltb _ _ (t .if1 .taken), ← starts, ← c .edge-from2 .ensures .is _ next .0)
 
 enum-known-verdict-2 : tie.Need-enum-known-verdict-2
 enum-known-verdict-2 c = search needs
@@ -40,9 +38,8 @@ place-action-spec =
     (tie.spec
     enum-known-verdict
     cast-if1
-    find-edge-requires
-    add-find-edge
-    find-edge-requires-2
+    edge-from-requires
+    edge-from-requires-2
     returns
     enum-known-verdict-2
     returns-2
