@@ -1,0 +1,3 @@
+pub mod Modes
+pub mod Numbers
+pub mod Taking
