@@ -1,0 +1,4 @@
+pub mod Modes
+pub mod Numbers
+pub mod Standing
+pub mod Taking
