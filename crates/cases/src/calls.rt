@@ -48,7 +48,7 @@ fn tell_restricted_state(state: restricted::State) {
 }
 
 fn judge_source(task: &[u8], plan: &[u8]) {
-    let judgement = source::judge(task, plan);
+    let judgement = source_judge::judge(task, plan);
     let verdict = judgement.verdict;
     match verdict {
         source::Verdict::Refused(number, place) => lines::refusal(number, place),

@@ -72,7 +72,7 @@ fn judge(name: &[u8], bytes: isize) {
     let plan = room();
     let size = io::count(bytes, &plan);
     word(name);
-    let judgement = source::judge(b"AGZ", &plan[..size]);
+    let judgement = source_judge::judge(b"AGZ", &plan[..size]);
     let verdict = judgement.verdict;
     match verdict {
         source::Verdict::Refused(number, place) => refusal(number, place),

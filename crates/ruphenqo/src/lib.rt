@@ -119,7 +119,7 @@ pub extern "C" fn ruphenqo_judge_source(
 ) -> u32
     ensures { λ r. ⌜ Told (judgeSource (now (task .entry)) (now (plan .entry))) (endOver sourceZeros) (now (steps .entry), stateOf (now (values .entry)) (now (modes .entry))) r (now (place .exit)) (now (steps .exit), stateOf (now (values .exit)) (now (modes .exit))) ⌝ }
 {
-    let judgement = source::judge(task, plan);
+    let judgement = source_judge::judge(task, plan);
     let verdict = judgement.verdict;
     let state = judgement.state;
     match verdict {

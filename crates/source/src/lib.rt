@@ -607,38 +607,6 @@ pub enum Progress {
     Stopped(u8, u64),
 }
 
-// Takes the steps of a plan in a lent state.
-fn run<'a>(
-    plan: &[u8],
-    steps: usize,
-    count: usize,
-    table: Table,
-    n: usize,
-    lower: &[i64; VARIABLES],
-    upper: &[i64; VARIABLES],
-    m: usize,
-    sizes: &[u16; MODES],
-    values: &mut [i64; VARIABLES],
-    modes: &mut [u16; MODES],
-) -> Progress
-    requires { ⌜ Shaped n m (now values) (now modes) (now sizes) × (count ≤ 32) × (steps ≡ length (planNumbers (now plan))) ⌝ }
-    ensures { λ r. ⌜ Ran (planNumbers (now (plan .entry))) count (table .actions) n (now (lower .entry)) (now (upper .entry)) m (now (sizes .entry)) (now (values .entry)) (now (modes .entry)) r (now (values .exit)) (now (modes .exit)) ⌝ }
-{
-    let mut i: usize = 0;
-    while i < steps {
-        let k = wide16(planbytes::action_of(plan, i));
-        if count <= k {
-            return Progress::Stopped(11, i as u64);
-        }
-        let action = table.actions[k];
-        if !try_action(values, modes, n, lower, upper, m, sizes, action) {
-            return Progress::Stopped(12, i as u64);
-        }
-        i += 1;
-    }
-    Progress::Through
-}
-
 // Whether a goal is met, in a task with n variables and m modes.
 pub fn goal_holds(
     values: &[i64; VARIABLES],
@@ -717,58 +685,6 @@ pub fn last_verdict(progress: Progress, met: bool, steps: usize) -> Verdict
             }
             Verdict::Refused(13, steps as u64)
         }
-    }
-}
-
-// Judges a plan of so many steps against an accepted file with so many actions.
-fn judge_steps(file: &[u8], count: usize, plan: &[u8], steps: usize) -> Judgement
-    requires { ⌜ AcceptedWith (verdictOf sourceLimits (now file)) count × (steps ≡ length (planNumbers (now plan))) ⌝ }
-    ensures { λ r. ⌜ StepsJudged (now (file .entry)) (planNumbers (now (plan .entry))) r ⌝ }
-{
-    let mut lower = [0i64; VARIABLES];
-    let mut upper = [0i64; VARIABLES];
-    let mut values = [0i64; VARIABLES];
-    let mut sizes = [0u16; MODES];
-    let mut modes = [0u16; MODES];
-    let declared = declarations::read_source(
-        file,
-        &mut lower,
-        &mut upper,
-        &mut values,
-        &mut sizes,
-        &mut modes,
-    );
-    let n = declared.variables;
-    let m = declared.modes;
-    let table = decode_actions(file, count);
-    let progress = run(
-        plan,
-        steps,
-        count,
-        table,
-        n,
-        &lower,
-        &upper,
-        m,
-        &sizes,
-        &mut values,
-        &mut modes,
-    );
-    let goal = actions::decode_goal(actions::goal_bytes(file, count));
-    let met = goal_holds(&values, n, &modes, m, goal);
-    conclude(last_verdict(progress, met, steps), values, modes)
-}
-
-// Judges a plan against a file: the file's refusals first, 10, per step 11 and 12, then 13; else the count of steps and the end state.
-pub fn judge(file: &[u8], plan: &[u8]) -> Judgement
-    ensures { λ r. ⌜ judgementIs r ≡ judgementOf (judgeSource (now (file .entry)) (now (plan .entry))) ⌝ }
-{
-    match tasks::check_source(file) {
-        tasks::Verdict::Rejected(number, place) => refuse(number, place),
-        tasks::Verdict::Accepted(_, _, actions) => match planbytes::count_steps(plan) {
-            planbytes::Counted::Refused(number, place) => refuse(number, place),
-            planbytes::Counted::Steps(steps) => judge_steps(file, actions as usize, plan, steps),
-        },
     }
 }
 

@@ -7,7 +7,7 @@ use Rattle.ruphenqo.proofs.ruphenqo_judge_source.Statement.{statement}
 use Rattle.ruphenqo.proofs.ruphenqo_judge_source.Tie as tie
 use Rattle.ruphenqo.proofs.ruphenqo_judge_source.Reads as reads
 use Rattle.ruphenqo.proofs.ruphenqo_judge_source.Lts as lts
-use Rattle.source.proofs.judge.Reads as judge-reads
+use Rattle.source_judge.proofs.judge.Reads as judge-reads
 
 judge-requires : tie.Need-judge-requires
 judge-requires c κs = search needs
