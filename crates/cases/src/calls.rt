@@ -60,11 +60,11 @@ fn judge_source(task: &[u8], plan: &[u8]) {
 }
 
 fn judge_restricted(task: &[u8], plan: &[u8]) {
-    let judgement = restricted::judge(task, plan);
+    let judgement = restricted_judge::judge(task, plan);
     let verdict = judgement.verdict;
     match verdict {
-        restricted::Verdict::Refused(number, place) => lines::refusal(number, place),
-        restricted::Verdict::Valid(steps) => {
+        restricted_judge::Verdict::Refused(number, place) => lines::refusal(number, place),
+        restricted_judge::Verdict::Valid(steps) => {
             lines::natural(steps);
             tell_restricted_state(judgement.state);
         }

@@ -66,8 +66,8 @@ set-keeps P (z ∷ l) zero x h p (suc j) = h (suc j)
 set-keeps P (z ∷ l) (suc i) x h p zero = h 0
 set-keeps P (z ∷ l) (suc i) x h p (suc j) = set-keeps P l i x (λ k. h (suc k)) p j
 
-pub sum-small : (most : ℕ) (l : List ℤ) (e : ℕ × ℤ) → EachWithin most l → Within 1000000000 (e .1) → EachWithin (most + 1000000000) (putSum l e)
-sum-small most l e h a = set-keeps (Within (most + 1000000000)) l (e .0) (integerAt l (e .0) +ℤ e .1) (λ j. omega (ints, h j)) (omega (ints, h (e .0), a, add (integerAt l (e .0)) (e .1)))
+pub sum-small : (most step : ℕ) (l : List ℤ) (e : ℕ × ℤ) → EachWithin most l → Within step (e .1) → EachWithin (most + step) (putSum l e)
+sum-small most step l e h a = set-keeps (Within (most + step)) l (e .0) (integerAt l (e .0) +ℤ e .1) (λ j. omega (ints, h j)) (omega (ints, h (e .0), a, add (integerAt l (e .0)) (e .1)))
 
 pub figure-small : (l : List ℤ) → valuesWithin figure l ≡ true → EachWithin figure l
 figure-small l e j = record { within = leb-true _ _ (within-at figure l e j) }

@@ -2,6 +2,5 @@ pub mod Tests
 pub mod Rooms
 pub mod Effects
 pub mod Stepping
-pub mod Judged
-pub mod Walking
+pub mod Decoded
 pub mod Accepting

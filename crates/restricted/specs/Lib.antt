@@ -1,4 +1,4 @@
 pub mod Parts
 pub mod Changes
 pub mod Step
-pub mod Judging
+pub mod Alone

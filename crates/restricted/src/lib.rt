@@ -1,14 +1,12 @@
-// States of a restricted task, what a step makes of one, and the judge of restricted plans.
+// States of a restricted task, and what a step makes of one.
 //
 // A state is passed and returned by value. The work is done by functions on lent arrays, which cite the same definitions. A step takes a
-// decoded action and knows of its task only the shape; the judge, and a step by itself, read the task from its file.
+// decoded action and knows of its task only the shape; a step by itself reads the task from its file.
 use actions::ADDITIONS;
 use actions::CONDITIONS;
-use actions::Goal;
 use actions::MODE_CONDITIONS;
 use actions::MODE_EFFECTS;
 use actions::RestrictedAction;
-use planbytes::Counted;
 ghost use mathlib.Core.Path.{_≡_};
 ghost use mathlib.Core.Bool.{true};
 ghost use Prim.Native.Nat.{min, _<_, _≤_};
@@ -20,17 +18,12 @@ ghost use Rattle.lists.specs.Loops.{every};
 ghost use Rattle.model.specs.Limits.{restrictedLimits};
 ghost use Rattle.lists.specs.Answer.{given, refused};
 ghost use Rattle.model.specs.Decoding.{readRestricted};
-ghost use Rattle.model.specs.Plans.{planNumbers};
-ghost use Rattle.model.specs.Judging.{declaredPart, judgeRestrictedTask, judgeRestricted, stepRestrictedAlone};
-ghost use Rattle.actions.specs.Views.{conditionRoom, modeConditionRoom, goalConditionsIs, goalModesIs};
+ghost use Rattle.model.specs.Judging.{declaredPart, stepRestrictedAlone};
 ghost use Rattle.model.specs.Steps.{integerAt, naturalAt, conditionsHold, modesHold, goalHolds, addAll, setAll, valuesWithin, modesBelowSizes, figure};
 ghost use Rattle.restricted.specs.Parts.{conditionsIn, modeConditionsIn, additionsIn, modeEffectsIn, additionKeysIn, amountsIn, effectKeysIn, withinAt, belowAt};
-ghost use Rattle.restricted.specs.Changes.{putSum, putMode, stateOf, Changed, CanAdd, CanStep, Ready, CanApply, Applied, Took};
-ghost use Rattle.restricted.specs.Judging.{stepAnswerIs, stepAnswerOf, judgementIs, judgementOf, taskIn, CanRun, Ran, AcceptedPlan, Prepared, Walked};
+ghost use Rattle.restricted.specs.Changes.{putSum, putMode, stateOf, Changed, CanAdd, CanStep, CanApply, Applied, Took};
+ghost use Rattle.restricted.specs.Alone.{stepAnswerIs, stepAnswerOf, taskIn};
 ghost use Rattle.restricted.specs.Step.{wholeIs, actionIs, stepOf, steppedIs, stepped};
-
-// The most actions of a restricted task, and one more: where its goal stands.
-const PLACES: usize = 16_385;
 
 // The most variables and modes that a restricted task declares.
 pub const VARIABLES: usize = 64;
@@ -72,30 +65,6 @@ pub enum StepVerdict {
 pub struct StepAnswer {
     pub verdict: StepVerdict,
     pub state: State,
-}
-
-// What comes of a plan: valid, with its count of steps, or the number and place of the refusal.
-pub enum Verdict {
-    Valid(u64),
-    Refused(u8, u64),
-}
-
-// Beside it the end state. What stands beyond the task's variables and modes is 0; on a refusal all is.
-pub struct Judgement {
-    pub verdict: Verdict,
-    pub state: State,
-}
-
-// A run of steps by one action: up to a step, or stopped at one where the action doesn't apply.
-enum Run {
-    Until(usize),
-    Stopped(usize),
-}
-
-// All steps of a plan: each applied, or the walk ended with the number and place of a refusal.
-enum Walk {
-    Through,
-    Ended(u8, u64),
 }
 
 fn lesser(a: usize, b: usize) -> usize
@@ -226,8 +195,8 @@ fn amounts_fit(count: usize, amounts: &[i64; ADDITIONS]) -> bool
 }
 
 // Adds to a variable, of n; nothing where it is not declared.
-fn add_to(values: &mut [i64; VARIABLES], n: usize, variable: u8, amount: i64)
-    requires { ⌜ (n ≤ 64) × Within 4000000000000000 (integerAt (take n (now values)) variable) × Within 1000000000 amount ⌝ }
+pub fn add_to(values: &mut [i64; VARIABLES], n: usize, variable: u8, amount: i64)
+    requires { ⌜ (n ≤ 64) × Within 4000000000000000000 (integerAt (take n (now values)) variable) × Within 4000000000000000000 amount ⌝ }
     ensures { λ _. ⌜ Changed n (now (values .entry)) (now (values .exit)) (putSum (take n (now (values .entry))) (variable, amount)) ⌝ }
 {
     let i = wide(variable);
@@ -269,7 +238,7 @@ fn add_all<'a>(
 }
 
 // Every E of an action, in a task with n modes.
-fn set_all<'a>(
+pub fn set_all<'a>(
     modes: &mut [u16; MODES],
     n: usize,
     count: usize,
@@ -288,7 +257,7 @@ fn set_all<'a>(
 }
 
 // Whether the variables that an action adds to lie within the figure.
-fn sums_within(
+pub fn sums_within(
     values: &[i64; VARIABLES],
     n: usize,
     count: usize,
@@ -321,7 +290,7 @@ fn is_below(modes: &[u16; MODES], n: usize, sizes: &[u16; MODES], mode: u8) -> b
 }
 
 // Whether the modes that an action sets have values below their sizes.
-fn effects_below(
+pub fn effects_below(
     modes: &[u16; MODES],
     n: usize,
     sizes: &[u16; MODES],
@@ -343,7 +312,7 @@ fn effects_below(
 }
 
 // The effects of an action, taken from the lent state in place, which is sound. Whether the state after them is sound.
-fn apply<'a>(
+pub fn apply<'a>(
     values: &mut [i64; VARIABLES],
     modes: &mut [u16; MODES],
     n: usize,
@@ -377,7 +346,7 @@ fn apply<'a>(
 }
 
 // Whether every C and every P of an action or goal holds.
-fn conditions_met<'a>(
+pub fn conditions_met<'a>(
     values: &[i64; VARIABLES],
     modes: &[u16; MODES],
     n: usize,
@@ -502,193 +471,6 @@ impl State {
     {
         let s = self.step(shape, action);
         s.state
-    }
-}
-
-// The steps of a plan from step `from` on, as long as they take action k, in a state that is sound.
-fn judge_run(
-    values: &mut [i64; VARIABLES],
-    modes: &mut [u16; MODES],
-    n: usize,
-    m: usize,
-    sizes: &[u16; MODES],
-    action: RestrictedAction,
-    k: u16,
-    plan: &[u8],
-    from: usize,
-    steps: usize,
-) -> Run
-    requires { ⌜ CanRun n m (now sizes) (now values) (now modes) (actionIs action) k (now plan) from steps ⌝ }
-    ensures { λ r. ⌜ Ran n m (now (sizes .entry)) (now (values .entry)) (now (modes .entry)) (actionIs action) k (now (plan .entry)) from steps r (now (values .exit)) (now (modes .exit)) ⌝ }
-{
-    let mut i = from;
-    while i < steps {
-        if planbytes::action_of(plan, i) != k {
-            return Run::Until(i);
-        }
-        if !conditions_met(
-            values,
-            modes,
-            n,
-            m,
-            action.condition_count,
-            &action.condition_variables,
-            &action.condition_relations,
-            &action.condition_constants,
-            action.mode_condition_count,
-            &action.mode_condition_modes,
-            &action.mode_condition_values,
-        ) {
-            return Run::Stopped(i);
-        }
-        if !apply(
-            values,
-            modes,
-            n,
-            m,
-            sizes,
-            action.addition_count,
-            &action.addition_variables,
-            &action.addition_amounts,
-            action.mode_effect_count,
-            &action.mode_effect_modes,
-            &action.mode_effect_values,
-        ) {
-            return Run::Stopped(i);
-        }
-        i += 1;
-    }
-    Run::Until(i)
-}
-
-fn wide16(x: u16) -> usize
-    ensures { λ r. ⌜ r ≡ x ⌝ }
-{
-    x as usize
-}
-
-// All steps of a plan, run by run: an action is decoded where the number changes.
-fn judge_steps(
-    file: &[u8],
-    places: &[usize; PLACES],
-    count: usize,
-    plan: &[u8],
-    steps: usize,
-    values: &mut [i64; VARIABLES],
-    modes: &mut [u16; MODES],
-    n: usize,
-    m: usize,
-    sizes: &[u16; MODES],
-) -> Walk
-    requires { ⌜ Prepared (now file) (now plan) (now places) count steps m (now sizes) × Ready n m (now sizes) (now values) (now modes) ⌝ }
-    ensures { λ r. ⌜ Walked (now (file .entry)) (now (plan .entry)) steps n m (now (values .entry)) (now (modes .entry)) r (now (values .exit)) (now (modes .exit)) ⌝ }
-{
-    let mut i: usize = 0;
-    while i < steps {
-        let k = planbytes::action_of(plan, i);
-        let number = wide16(k);
-        if count <= number {
-            return Walk::Ended(11, i as u64);
-        }
-        let action = actions::decode_restricted(actions::part(
-            file,
-            places[number],
-            places[number + 1],
-        ));
-        let run = judge_run(values, modes, n, m, sizes, action, k, plan, i, steps);
-        match run {
-            Run::Stopped(at) => return Walk::Ended(12, at as u64),
-            Run::Until(next) => i = next,
-        }
-    }
-    Walk::Through
-}
-
-// Whether a goal is met, in a task with n variables and m modes.
-fn goal_met(values: &[i64; VARIABLES], modes: &[u16; MODES], n: usize, m: usize, goal: Goal) -> bool
-    requires { ⌜ (n ≤ 64) × (m ≤ 8) ⌝ }
-    ensures { λ r. ⌜ r ≡ goalHolds (take modeConditionRoom (goalModesIs goal)) (take conditionRoom (goalConditionsIs goal)) (declaredPart n m (stateOf (now (values .entry)) (now (modes .entry)))) ⌝ }
-{
-    conditions_met(
-        values,
-        modes,
-        n,
-        m,
-        goal.condition_count,
-        &goal.condition_variables,
-        &goal.condition_relations,
-        &goal.condition_constants,
-        goal.mode_condition_count,
-        &goal.mode_condition_modes,
-        &goal.mode_condition_values,
-    )
-}
-
-// The judgement of a plan that is refused.
-fn refuse(number: u8, place: u64) -> Judgement
-    ensures { λ r. ⌜ judgementIs r ≡ judgementOf (refused number place) ⌝ }
-{
-    let values = [0i64; VARIABLES];
-    let modes = [0u16; MODES];
-    Judgement {
-        verdict: Verdict::Refused(number, place),
-        state: State { values, modes },
-    }
-}
-
-// The judgement of a plan of so many steps, over an accepted file with `count` actions.
-fn judge_accepted(file: &[u8], count: usize, plan: &[u8], steps: usize) -> Judgement
-    requires { ⌜ AcceptedPlan (now file) (now plan) count steps ⌝ }
-    ensures { λ r. ⌜ judgementIs r ≡ judgementOf (judgeRestrictedTask (taskIn (now (file .entry))) (planNumbers (now (plan .entry)))) ⌝ }
-{
-    let mut values = [0i64; VARIABLES];
-    let mut sizes = [0u16; MODES];
-    let mut modes = [0u16; MODES];
-    let declared = declarations::read_restricted(file, &mut values, &mut sizes, &mut modes);
-    let n = declared.variables;
-    let m = declared.modes;
-    let mut places = [0usize; PLACES];
-    actions::action_places(file, &mut places);
-    let walk = judge_steps(
-        file,
-        &places,
-        count,
-        plan,
-        steps,
-        &mut values,
-        &mut modes,
-        n,
-        m,
-        &sizes,
-    );
-    if let Walk::Ended(number, place) = walk {
-        return refuse(number, place);
-    }
-    let goal = actions::decode_goal(actions::goal_bytes(file, count));
-    if !goal_met(&values, &modes, n, m, goal) {
-        return refuse(13, steps as u64);
-    }
-    Judgement {
-        verdict: Verdict::Valid(steps as u64),
-        state: State { values, modes },
-    }
-}
-
-// What judging a plan against a restricted file answers: the file's refusals first, 10, per step 11 and 12, then 13; else the count of steps
-// and the end state.
-pub fn judge(file: &[u8], plan: &[u8]) -> Judgement
-    ensures { λ r. ⌜ judgementIs r ≡ judgementOf (judgeRestricted (now (file .entry)) (now (plan .entry))) ⌝ }
-{
-    let checked = tasks::check_restricted(file);
-    match checked {
-        tasks::Verdict::Rejected(number, place) => refuse(number, place),
-        tasks::Verdict::Accepted(_, _, count) => {
-            let counted = planbytes::count_steps(plan);
-            match counted {
-                Counted::Refused(number, place) => refuse(number, place),
-                Counted::Steps(steps) => judge_accepted(file, count as usize, plan, steps),
-            }
-        }
     }
 }
 

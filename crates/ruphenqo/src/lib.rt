@@ -12,7 +12,7 @@ ghost use Rattle.model.specs.Listing.{listing};
 ghost use Rattle.tasks.specs.Views.{verdictIs};
 ghost use Rattle.actions.specs.Places.{placedIs};
 ghost use Rattle.prices.specs.Answers.{pricedIs};
-ghost use Rattle.restricted.specs.Judging.{zeros};
+ghost use Rattle.restricted_judge.specs.Judging.{zeros};
 ghost use Rattle.source.specs.Judged.{zeros as sourceZeros};
 ghost use Rattle.ruphenqo.specs.Told.{Told, countsOf, itself, stateOf, endOver};
 
@@ -151,15 +151,15 @@ pub extern "C" fn ruphenqo_judge_restricted(
 ) -> u32
     ensures { λ r. ⌜ Told (judgeRestricted (now (task .entry)) (now (plan .entry))) (endOver zeros) (now (steps .entry), stateOf (now (values .entry)) (now (modes .entry))) r (now (place .exit)) (now (steps .exit), stateOf (now (values .exit)) (now (modes .exit))) ⌝ }
 {
-    let judgement = restricted::judge(task, plan);
+    let judgement = restricted_judge::judge(task, plan);
     let verdict = judgement.verdict;
     let state = judgement.state;
     match verdict {
-        restricted::Verdict::Refused(number, at) => {
+        restricted_judge::Verdict::Refused(number, at) => {
             *place = at;
             number as u32
         }
-        restricted::Verdict::Valid(count) => {
+        restricted_judge::Verdict::Valid(count) => {
             *place = 0;
             *steps = count;
             let end_values = state.values;

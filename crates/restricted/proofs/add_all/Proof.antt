@@ -24,8 +24,6 @@ use Prim.Native.Nat.{ℕ, _-_, _+_, _*_}
 use Rattle.restricted.proofs.add_all.Statement.{statement}
 use Rattle.restricted.proofs.add_all.Tie as tie
 
--- before; and no value passes the figure by more than 1,000,000,000 for each addition made. Assumes nothing.
-
 abbrev Inv-loop : tie.InvT-loop
 Inv-loop values₀ n count variables amounts k i₀ values i = Changing putSum additionRoom count (pairAt (pos 0) variables amounts) k i (take n values₀) (take n values) × (drop n values ≡ drop n values₀) × EachWithin (figure + 1000000000 * i) (take n values)
 
@@ -60,7 +58,7 @@ add-to-requires : tie.Need-add-to-requires Inv-loop μ-loop
 add-to-requires c κs =
     let v = c .before .before .before .before .loop .inv in
     let a : SFits w64 (getD (now (c .before .before .before .before .before .before .args .amounts)) (c .before .before .before .before .loop .i) (pos 0)) = search needs in
-    (c .before .before .before .before .before .before .pre .room, omega (ints, v .2 (getD (now (c .before .before .before .before .before .before .args .variables)) (c .before .before .before .before .loop .i) 0)), simp (toZ-ofZ a) (amount-small c))
+    (c .before .before .before .before .before .before .pre .room, omega (ints, v .2 (getD (now (c .before .before .before .before .before .before .args .variables)) (c .before .before .before .before .loop .i) 0)), simp (toZ-ofZ a) (omega (ints, amount-small c)))
 
 add-i : tie.Need-add-i Inv-loop μ-loop
 add-i c = search (needs, arith)
@@ -73,7 +71,7 @@ loop-again c =
     let v = c .before .before .before .before .before .loop .inv in
     let a : SFits w64 (getD (now (c .before .before .before .before .before .before .before .args .amounts)) (c .before .before .before .before .before .loop .i) (pos 0)) = search needs in
     let e = simp (toZ-ofZ a) at (c .add-to .ensures) in
-    (rw (e .is) (change-next (v .0) (c .before .before .before .before .loop-test .taken)), e .rest ∙ v .1, rw (e .is) (λ j. omega (ints, sum-small (figure + 1000000000 * c .before .before .before .before .before .loop .i) (take (c .before .before .before .before .before .before .before .args .n) (c .before .before .before .before .before .loop .values)) (pairAt (pos 0) (now (c .before .before .before .before .before .before .before .args .variables)) (now (c .before .before .before .before .before .before .before .args .amounts)) (c .before .before .before .before .before .loop .i)) (v .2) (amount-small (c .before)) j)))
+    (rw (e .is) (change-next (v .0) (c .before .before .before .before .loop-test .taken)), e .rest ∙ v .1, rw (e .is) (λ j. omega (ints, sum-small (figure + 1000000000 * c .before .before .before .before .before .loop .i) 1000000000 (take (c .before .before .before .before .before .before .before .args .n) (c .before .before .before .before .before .loop .values)) (pairAt (pos 0) (now (c .before .before .before .before .before .before .before .args .variables)) (now (c .before .before .before .before .before .before .before .args .amounts)) (c .before .before .before .before .before .loop .i)) (v .2) (amount-small (c .before)) j)))
 
 returns : tie.Need-returns Inv-loop μ-loop
 returns c = rw add-fold (record { is = change-end (c .before .loop .inv .0) (c .loop-test .left); rest = c .before .loop .inv .1 })

@@ -4,7 +4,7 @@ use native.Mathlib.Omega.{arith}
 use denote.Ref.{now}
 use borrow.Author.Tests.{not-true, not-false}
 use Rattle.restricted.specs.Step.{wholeIs}
-use Rattle.restricted.specs.Judging.{stepAnswerOf}
+use Rattle.restricted.specs.Alone.{stepAnswerOf}
 use Rattle.restricted.proofs.Accepting.{one-more, part-of-action, alone-refused, alone-given}
 use borrow.Author.Needs.{needs}
 use Rattle.restricted.proofs.step_accepted.Statement.{statement}

@@ -4,8 +4,8 @@ use native.Mathlib.Omega.{arith}
 use denote.Ref.{now}
 use Rattle.tasks.specs.Views.{verdictIs}
 use Rattle.restricted.specs.Step.{wholeIs}
-use Rattle.restricted.specs.Judging.{stepAnswerOf}
-use Rattle.restricted.proofs.Walking.{bytes-of}
+use Rattle.restricted.specs.Alone.{stepAnswerOf}
+use Rattle.restricted.proofs.Decoded.{bytes-of}
 use Rattle.restricted.proofs.Accepting.{file-accepted, actions-counted, alone-rejected, alone-no-action}
 use borrow.Author.Needs.{needs}
 use Rattle.restricted.proofs.step_alone.Statement.{statement}

@@ -1,13 +1,13 @@
 -- `ruphenqo::ruphenqo_judge_restricted` meets its contract, case by case of the verdict. Assumes nothing.
 use mathlib.Core.Path.{refl, ap}
-use Rattle.restricted.specs.Judging.{verdictIs, judgementOf, zeros}
+use Rattle.restricted_judge.specs.Judging.{verdictIs, judgementOf, zeros}
 use Rattle.ruphenqo.proofs.Telling.{told-judged-refusal, told-judged-valid}
 use borrow.Author.Needs.{needs}
 use Rattle.ruphenqo.proofs.ruphenqo_judge_restricted.Statement.{statement}
 use Rattle.ruphenqo.proofs.ruphenqo_judge_restricted.Tie as tie
 use Rattle.ruphenqo.proofs.ruphenqo_judge_restricted.Reads as reads
 use Rattle.ruphenqo.proofs.ruphenqo_judge_restricted.Lts as lts
-use Rattle.restricted.proofs.judge.Reads as judge-reads
+use Rattle.restricted_judge.proofs.judge.Reads as judge-reads
 
 judge-requires : tie.Need-judge-requires
 judge-requires c κs = search needs

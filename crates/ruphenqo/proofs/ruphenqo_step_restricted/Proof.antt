@@ -1,6 +1,6 @@
 -- `ruphenqo::ruphenqo_step_restricted` meets its contract, case by case of the verdict. Assumes nothing.
 use mathlib.Core.Path.{refl, ap}
-use Rattle.restricted.specs.Judging.{refusalIs}
+use Rattle.restricted.specs.Alone.{refusalIs}
 use Rattle.ruphenqo.proofs.Telling.{told-step-refusal, told-step-applied}
 use borrow.Author.Needs.{needs}
 use Rattle.ruphenqo.proofs.ruphenqo_step_restricted.Statement.{statement}

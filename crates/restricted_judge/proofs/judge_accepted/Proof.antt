@@ -1,11 +1,11 @@
--- `restricted::judge_accepted` meets its contract: what the readers leave makes the judge ready, and what it finds is the answer. Assumes nothing.
+-- `restricted_judge::judge_accepted` meets its contract: what the readers leave makes the judge ready, and what it finds is the answer. Assumes nothing.
 use mathlib.Core.Path.{sym, ap, _∙_}
 use borrow.Author.Tests.{not-true, not-false}
-use Rattle.restricted.specs.Judging.{judgementOf}
-use Rattle.restricted.proofs.Accepting.{start-ready, prepared, judged-ended, judged-unmet, judged-valid}
+use Rattle.restricted_judge.specs.Judging.{judgementOf}
+use Rattle.restricted_judge.proofs.Accepting.{start-ready, prepared, judged-ended, judged-unmet, judged-valid}
 use borrow.Author.Needs.{needs}
-use Rattle.restricted.proofs.judge_accepted.Statement.{statement}
-use Rattle.restricted.proofs.judge_accepted.Tie as tie
+use Rattle.restricted_judge.proofs.judge_accepted.Statement.{statement}
+use Rattle.restricted_judge.proofs.judge_accepted.Tie as tie
 
 read-restricted-requires : tie.Need-read-restricted-requires
 read-restricted-requires c κs = search needs

@@ -18,12 +18,12 @@ use Rattle.model.specs.Tasks.{RestrictedAction, RestrictedTask, State}
 use Rattle.model.specs.Steps.{addAll, setAll, valuesWithin, modesBelowSizes, figure, appliesRestricted, stepRestricted, restrictedGoalHolds}
 use Rattle.model.specs.Plans.{planNumbers}
 use Rattle.model.specs.Judging.{judge, declaredPart}
-use Rattle.restricted.specs.declared.Run.the-variants.{Until, Stopped}
+use Rattle.repeats.specs.declared.Run.the-variants.{Until, Stopped}
 use Rattle.restricted.specs.Changes.{stateOf, Beyond, CanApply, Applied, Took}
 use Rattle.restricted.specs.Step.{stepOf}
-use Rattle.restricted.specs.Judging.{judgingFrom, CanRun, Ran}
+use Rattle.repeats.specs.Runs.{judgingFrom, CanRun, Ran}
 use Rattle.restricted.proofs.Effects.{beyond-same, beyond-then, set-length}
 use Rattle.restricted.proofs.Stepping.{conditions-stop, went, none-left}
 
 -- ---- one step of the definition
 module _ (t : RestrictedTask) (p : List ℕ) (i : ℕ) (x : State) where

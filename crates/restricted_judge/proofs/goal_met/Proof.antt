@@ -1,7 +1,7 @@
--- `restricted::goal_met` meets its contract: a goal's conditions are met as an action's are. Assumes nothing.
+-- `restricted_judge::goal_met` meets its contract: a goal's conditions are met as an action's are. Assumes nothing.
 use borrow.Author.Needs.{needs}
-use Rattle.restricted.proofs.goal_met.Statement.{statement}
-use Rattle.restricted.proofs.goal_met.Tie as tie
+use Rattle.restricted_judge.proofs.goal_met.Statement.{statement}
+use Rattle.restricted_judge.proofs.goal_met.Tie as tie
 
 conditions-met-requires : tie.Need-conditions-met-requires
 conditions-met-requires c κs = search needs

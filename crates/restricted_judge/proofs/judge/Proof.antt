@@ -1,15 +1,15 @@
--- `restricted::judge` meets its contract: the file's refusals come first, then those of the plan's bytes. Assumes nothing.
+-- `restricted_judge::judge` meets its contract: the file's refusals come first, then those of the plan's bytes. Assumes nothing.
 use mathlib.Core.Path.{sym, ap, _∙_}
 use native.Mathlib.Omega.{arith}
 use denote.Ref.{now}
 use Rattle.tasks.specs.Views.{verdictIs}
 use Rattle.planbytes.specs.Counted.{countedIs}
-use Rattle.restricted.specs.Judging.{judgementOf}
-use Rattle.restricted.proofs.Walking.{bytes-of}
-use Rattle.restricted.proofs.Accepting.{judged-rejected, judged-no-plan, judged-task, accepted-plan}
+use Rattle.restricted_judge.specs.Judging.{judgementOf}
+use Rattle.restricted.proofs.Decoded.{bytes-of}
+use Rattle.restricted_judge.proofs.Accepting.{judged-rejected, judged-no-plan, judged-task, accepted-plan}
 use borrow.Author.Needs.{needs}
-use Rattle.restricted.proofs.judge.Statement.{statement}
-use Rattle.restricted.proofs.judge.Tie as tie
+use Rattle.restricted_judge.proofs.judge.Statement.{statement}
+use Rattle.restricted_judge.proofs.judge.Tie as tie
 
 check-restricted-requires : tie.Need-check-restricted-requires
 check-restricted-requires c κs = search needs

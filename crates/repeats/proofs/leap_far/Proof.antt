@@ -1,0 +1,59 @@
+-- `repeats::leap_far` meets its contract: leaps one after another, of as many steps at most as are left. Assumes nothing.
+use Prim.Native.Nat.{_+_, _≤_}
+use native.Mathlib.Omega.{arith}
+use Rattle.repeats.specs.Repeats.{partsIs, Leapt}
+use Rattle.repeats.proofs.Leaps.{leapt-none, leapt-then}
+use borrow.Author.Needs.{needs}
+use Rattle.repeats.proofs.leap_far.Statement.{statement}
+use Rattle.repeats.proofs.leap_far.Tie as tie
+use Rattle.repeats.proofs.leap_far.Reads as reads
+use Rattle.repeats.proofs.leap_far.Lts as lts
+use Rattle.repeats.proofs.leap.Reads as leap-reads
+use Rattle.repeats.proofs.lesser.Reads as lesser-reads
+
+abbrev Inv-loop : tie.InvT-loop
+Inv-loop values₀ modes₀ n m sizes condition-count condition-variables condition-relations condition-constants mode-condition-count mode-condition-modes mode-condition-values effect-count effect-modes effect-values addition-count addition-variables addition-amounts most taken₀ times₀ values modes taken times =
+    Leapt n m sizes values₀ modes₀ (partsIs condition-count condition-variables condition-relations condition-constants mode-condition-count mode-condition-modes mode-condition-values effect-count effect-modes effect-values addition-count addition-variables addition-amounts) most taken values modes × (taken + times ≤ most)
+
+abbrev μ-loop : tie.MeasureT-loop
+μ-loop values₀ modes₀ n m sizes condition-count condition-variables condition-relations condition-constants mode-condition-count mode-condition-modes mode-condition-values effect-count effect-modes effect-values addition-count addition-variables addition-amounts most taken₀ times₀ values modes taken times =
+    times
+
+loop-holds : tie.Need-loop-holds Inv-loop μ-loop
+loop-holds c = (leapt-none (c .pre .1), omega arith)
+
+leap-requires : tie.Need-leap-requires Inv-loop μ-loop
+leap-requires c κs = let v = c .before .before .before .loop .inv in ((omega (arith, c .before .before .loop-test .taken), omega (arith, v .1, c .before .before .before .before .pre .0)), v .0 .canApply)
+
+add-taken : tie.Need-add-taken Inv-loop μ-loop
+add-taken c = omega (arith, c .before .before .before .before .loop .inv .1, c .leap .ensures .few, c .before .before .before .before .before .pre .0)
+
+sub-lesser : tie.Need-sub-lesser Inv-loop μ-loop
+sub-lesser c = omega (arith, c .before .before .before .before .loop .inv .1, c .leap .ensures .few)
+
+lesser-requires : tie.Need-lesser-requires Inv-loop μ-loop
+lesser-requires c κs = search needs
+
+loop-less : tie.Need-loop-less Inv-loop μ-loop
+loop-less c = omega (arith, c .lesser .ensures, c .before .before .before .before .loop-test .taken)
+
+loop-again : tie.Need-loop-again Inv-loop μ-loop
+loop-again c = let v = c .before .before .before .before .before .loop .inv in (leapt-then (v .0) (c .before .leap .ensures) (v .1), omega (arith, v .1, c .before .leap .ensures .few, c .lesser .ensures))
+
+returns : tie.Need-returns Inv-loop μ-loop
+returns c = c .before .loop .inv .0
+
+pub leap-far-spec : {M : Type 1} → statement M
+leap-far-spec =
+    tie.close
+    (tie.spec
+    Inv-loop
+    μ-loop
+    loop-holds
+    leap-requires
+    add-taken
+    sub-lesser
+    lesser-requires
+    loop-less
+    loop-again
+    returns)

@@ -1,0 +1,18 @@
+-- `repeats::signed` meets its contract. Assumes nothing.
+use native.Mathlib.Omega.{arith}
+use mir.Syntax.{w64}
+use mir.Facts.{toZ-pos}
+use borrow.Author.Needs.{needs}
+use Rattle.repeats.proofs.signed.Statement.{statement}
+use Rattle.repeats.proofs.signed.Tie as tie
+use Rattle.repeats.proofs.signed.Reads as reads
+use Rattle.repeats.proofs.signed.Lts as lts
+
+cast-result : tie.Need-cast-result
+cast-result c = search needs
+
+returns : tie.Need-returns
+returns c = toZ-pos w64 (omega (arith, c .pre))
+
+pub signed-spec : {M : Type 1} → statement M
+signed-spec = tie.close (tie.spec cast-result returns)

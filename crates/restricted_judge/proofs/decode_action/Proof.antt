@@ -1,0 +1,46 @@
+-- `restricted_judge::decode_action` meets its contract. Assumes nothing.
+use Rattle.restricted_judge.proofs.Placing.{action-is}
+use borrow.Author.Needs.{needs}
+use Rattle.restricted_judge.proofs.decode_action.Statement.{statement}
+use Rattle.restricted_judge.proofs.decode_action.Tie as tie
+use Rattle.restricted_judge.proofs.decode_action.Reads as reads
+use Rattle.restricted_judge.proofs.decode_action.Lts as lts
+use Rattle.actions.proofs.decode_restricted.Reads as decode-restricted-reads
+use Rattle.actions.proofs.part.Reads as part-reads
+
+mul-part : tie.Need-mul-part
+mul-part c = search needs
+
+element-copy-out-part : tie.Need-element-copy-out-part
+element-copy-out-part c = search needs
+
+add-part : tie.Need-add-part
+add-part c = search needs
+
+mul-part-2 : tie.Need-mul-part-2
+mul-part-2 c = search needs
+
+element-copy-out-part-2 : tie.Need-element-copy-out-part-2
+element-copy-out-part-2 c = search needs
+
+part-requires : tie.Need-part-requires
+part-requires c κs = search needs
+
+decode-restricted-requires : tie.Need-decode-restricted-requires
+decode-restricted-requires c κs = search needs
+
+returns : tie.Need-returns
+returns c = let s = c .before .before .before .before .before .pre in action-is (s .0) (s .1) _ (c .before .part .ensures) (c .decode-restricted .result) (c .decode-restricted .ensures)
+
+pub decode-action-spec : {M : Type 1} → statement M
+decode-action-spec =
+    tie.close
+    (tie.spec
+    mul-part
+    element-copy-out-part
+    add-part
+    mul-part-2
+    element-copy-out-part-2
+    part-requires
+    decode-restricted-requires
+    returns)
