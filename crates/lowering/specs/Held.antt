@@ -3,7 +3,7 @@
 use mathlib.Core.Path.{_≡_}
 use Prim.Native.Nat.{ℕ, _≤_}
 use mathlib.Core.List.{List}
-use lib.ListN.{length, take, drop}
+use lib.ListN.{length, take, drop, getD}
 use Rattle.integers.specs.All.{All}
 use Rattle.integers.specs.Numbers.{Bytes}
 use Rattle.lists.specs.Answer.{given}
@@ -11,6 +11,7 @@ use Rattle.model.specs.Tasks.{SourceVariable, SourceTask, RestrictedAction}
 use Rattle.model.specs.Limits.{sourceLimits, restrictedLimits}
 use Rattle.model.specs.TaskOk.{RestrictedActionOk}
 use Rattle.model.specs.Reading.{commandsOf}
+use Rattle.model.specs.ActionBytes.{edgeOf}
 use Rattle.model.specs.Decoding.{each, draftOf, sourceTaskOf, readSource}
 use Rattle.model.specs.Steps.{lowerBounds, upperBounds, sourceStart}
 use Rattle.model.specs.Stages.{lowerActions, stageCount}
@@ -34,6 +35,10 @@ pub record Held (file : List ℕ) (count : ℕ) (h : Shape) : Type 0 where
   pub modesAre : h .modes ≡ length (taskOf file .modes)
   pub lowersAre : take (h .variables) (h .lower) ≡ each (λ (b : SourceVariable). b .lower) (taskOf file .variables)
   pub uppersAre : take (h .variables) (h .upper) ≡ each (λ (b : SourceVariable). b .upper) (taskOf file .variables)
+
+-- where its actions begin, and behind them its goal
+abbrev pub Placed : List ℕ → ℕ → List ℕ → Type 0
+Placed file count places = (k : ℕ) → k ≤ count → getD places k 0 ≡ edgeOf file k
 
 -- besides, the starts and the modes that it declares
 pub record Declares (file : List ℕ) (count : ℕ) (d : Declarations) : Type 0 where

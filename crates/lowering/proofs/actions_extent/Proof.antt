@@ -9,16 +9,16 @@ use Rattle.lowering.proofs.actions_extent.Statement.{statement}
 use Rattle.lowering.proofs.actions_extent.Tie as tie
 
 abbrev Inv-loop : tie.InvT-loop
-Inv-loop file count shape bytes₀ from₀ k₀ bytes from k = Summing file count shape bytes k from
+Inv-loop file places count shape bytes₀ from₀ k₀ bytes from k = Summing file count shape bytes k from
 
 abbrev μ-loop : tie.MeasureT-loop
-μ-loop file count shape bytes₀ from₀ k₀ bytes from k = count - k
+μ-loop file places count shape bytes₀ from₀ k₀ bytes from k = count - k
 
 loop-holds : tie.Need-loop-holds Inv-loop μ-loop
-loop-holds c = summing-start (c .before .pre)
+loop-holds c = summing-start (c .before .pre .0)
 
 decode-action-requires : tie.Need-decode-action-requires Inv-loop μ-loop
-decode-action-requires c κs = omega (arith, c .loop-test .taken, few-actions (c .before .loop .inv .walk .held))
+decode-action-requires c κs = (c .before .before .before .pre .1, c .loop-test .taken, few-actions (c .before .loop .inv .walk .held))
 
 macro-size-requires : tie.Need-macro-size-requires Inv-loop μ-loop
 macro-size-requires c κs = macro-ready (c .before .before .loop .inv .walk) (c .before .loop-test .taken) (c .decode-action .result) (c .decode-action .ensures)
