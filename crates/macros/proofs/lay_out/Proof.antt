@@ -49,14 +49,14 @@ returns c = rw (c .before .before .enum-told .given .1)
 
 returns-2 : tie.Need-returns-2
 unfolding each.tabulate
-returns-2 c = 
+returns-2 c =
     let e = c .before .before .before .additions .given in
     let k0 : SFits w64 (e .0 .1 .0) = search needs in
     rw (c .before .variables-of2 .ensures, c .amounts-of2 .ensures, e .1) (simp (toZ-ofZ, k0))
 
 returns-3 : tie.Need-returns-3
 unfolding each.tabulate
-returns-3 c = 
+returns-3 c =
     let e = c .before .before .before .additions2 .given in
     let k0 : SFits w64 (e .0 .1 .0) = search needs in
     let k1 : SFits w64 (e .0 .1 .1 .1 .0) = search needs in
@@ -64,7 +64,7 @@ returns-3 c =
 
 returns-4 : tie.Need-returns-4
 unfolding each.tabulate
-returns-4 c = 
+returns-4 c =
     let e = c .before .before .before .additions3 .given in
     let k0 : SFits w64 (e .0 .1 .0) = search needs in
     let k1 : SFits w64 (e .0 .1 .1 .1 .0) = search needs in

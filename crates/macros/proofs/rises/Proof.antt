@@ -10,7 +10,7 @@ enum-known-stage : tie.Need-enum-known-stage
 enum-known-stage c = search needs
 
 negated-requires : tie.Need-negated-requires
-negated-requires c κs = 
+negated-requires c κs =
     let e = c .before .stage .given in
     let k : SFits w64 (e .0 .1 .0) = search needs in
     rw (toZ-ofZ k) (rw (e .1) at (c .before .before .before .pre .1))
@@ -22,7 +22,7 @@ enum-known-stage-3 : tie.Need-enum-known-stage-3
 enum-known-stage-3 c = search needs
 
 unit-of-requires : tie.Need-unit-of-requires
-unit-of-requires c κs = 
+unit-of-requires c κs =
     let e = c .before .stage3 .given in
     let k : SFits w64 (e .0 .0) = search needs in
     rw (toZ-ofZ k) (rw (e .1) at (c .before .before .before .pre .1))
@@ -49,7 +49,7 @@ enum-known-stage-6 : tie.Need-enum-known-stage-6
 enum-known-stage-6 c = search needs
 
 returns : tie.Need-returns
-returns c = 
+returns c =
     let e = c .before .before .stage .given in
     let k0 : SFits w64 (e .0 .1 .0) = search needs in
     let k1 : SFits w64 (c .negated .result) = search needs in
@@ -59,7 +59,7 @@ returns-2 : tie.Need-returns-2
 returns-2 c = rw (c .before .stage2 .given .1, c .before .before .before .pre .0)
 
 returns-3 : tie.Need-returns-3
-returns-3 c = 
+returns-3 c =
     let e = c .before .before .before .before .stage3 .given in
     let k0 : SFits w64 (e .0 .0) = search needs in
     let k1 : SFits w64 (c .before .before .unit-of .result) = search needs in

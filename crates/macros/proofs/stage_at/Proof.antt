@@ -38,7 +38,7 @@ upper-of-requires : tie.Need-upper-of-requires
 upper-of-requires c κs = c .before .before .before .before .pre .0 .bounded .variablesFew
 
 stage-with-requires : tie.Need-stage-with-requires
-stage-with-requires c κs = 
+stage-with-requires c κs =
     let a = c .before .before .before .before .before .args .action in
     let h = c .before .before .before .before .before .args .shape in
     let k = c .before .before .before .before .lesser .result in
@@ -51,14 +51,15 @@ stage-with-requires c κs =
     let q = c .before .before .before .before .before .pre .0 in
     let l = long (c .before .before .before .before .before) in
     let l′ = toZ-ofZ lo ∙ le in
-    let u′ = toZ-ofZ up ∙ ue in
-    (omega (arith, c .before .before .before .before .lesser .ensures),
-    stages-small (h .variables) (a .effect) k (a .terms) (omega (arith, c .before .before .before .before .lesser .ensures)) (subst (λ (ts : List (ℕ × ℤ)). EffectOk sourceLimits (h .variables) (effectIs (a .effect) ts)) (sym same) (q .effectOk)),
-    (subst (λ (z : ℤ). natAbs z ≤ 10000) (sym l′) (q .bounded .lowerIn (targetIs (a .effect))), subst (λ (z : ℤ). natAbs z ≤ 10000) (sym u′) (q .bounded .upperIn (targetIs (a .effect)))),
-    subst (λ (ds : List Stage). c .before .before .before .before .before .args .j < length ds) (sym (stages-with h a k _ _ same l′ u′)) (c .before .before .before .before .before .pre .1))
+    let u′ = toZ-ofZ up ∙ ue in (
+      omega (arith, c .before .before .before .before .lesser .ensures),
+      stages-small (h .variables) (a .effect) k (a .terms) (omega (arith, c .before .before .before .before .lesser .ensures)) (subst (λ (ts : List (ℕ × ℤ)). EffectOk sourceLimits (h .variables) (effectIs (a .effect) ts)) (sym same) (q .effectOk)),
+      (subst (λ (z : ℤ). natAbs z ≤ 10000) (sym l′) (q .bounded .lowerIn (targetIs (a .effect))), subst (λ (z : ℤ). natAbs z ≤ 10000) (sym u′) (q .bounded .upperIn (targetIs (a .effect)))),
+      subst (λ (ds : List Stage). c .before .before .before .before .before .args .j < length ds) (sym (stages-with h a k _ _ same l′ u′)) (c .before .before .before .before .before .pre .1),
+    )
 
 returns : tie.Need-returns
-returns c = 
+returns c =
     let a = c .before .before .before .before .before .before .args .action in
     let h = c .before .before .before .before .before .before .args .shape in
     let k = c .before .before .before .before .before .lesser .result in
