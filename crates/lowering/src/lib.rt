@@ -28,40 +28,8 @@ ghost use Rattle.model.specs.Lowering.{lowerTask, lowerFile};
 ghost use Rattle.model.specs.Judging.{lowerBytes};
 ghost use Rattle.source.specs.Judged.{AcceptedWith};
 ghost use Rattle.writing.specs.Parts.{actionBytes};
-ghost use Rattle.macros.specs.Shapes.{Lowerable, macroIn};
-ghost use Rattle.lowering.specs.Held.{taskOf, Held, Placed, Declares, GoalOf, Sound, stagesOfTask};
+ghost use Rattle.lowering.specs.Held.{taskOf, Held, Shaped, Placed, Declares, GoalOf, stagesOfTask};
 ghost use Rattle.lowering.specs.Lowered.{loweredActionAt, actionOr, answerIs, refusal};
-
-// How many bytes a source action becomes, its stages being numbered from `from`.
-fn macro_size(action: SourceAction, shape: Shape, from: u16) -> usize
-    requires { ⌜ Lowerable shape action × (0 < from) × (from ≤ 1000) × Sound (macroIn shape from action) ⌝ }
-    ensures { λ r. ⌜ (r ≡ length (flat actionBytes (macroIn shape from action))) × (r ≤ 11191) ⌝ }
-{
-    let n = 1 + 3 * macros::stage_count(action);
-    let mut sum: usize = 0;
-    let mut i: usize = 0;
-    while i < n {
-        sum += writing::action_size(macros::macro_action(action, shape, from, i));
-        i += 1;
-    }
-    sum
-}
-
-// What a source action becomes.
-fn put_macro(out: &mut [u8], at: usize, action: SourceAction, shape: Shape, from: u16) -> usize
-    requires { ⌜ Lowerable shape action × (0 < from) × (from ≤ 1000) × Sound (macroIn shape from action) ⌝ }
-    requires { ⌜ Room (now out) at (flat actionBytes (macroIn shape from action)) ⌝ }
-    ensures { λ r. ⌜ Wrote (now (out .entry)) at (flat actionBytes (macroIn shape from action)) (now (out .exit)) r ⌝ }
-{
-    let n = 1 + 3 * macros::stage_count(action);
-    let mut place = at;
-    let mut i: usize = 0;
-    while i < n {
-        place = writing::put_action(out, place, macros::macro_action(action, shape, from, i));
-        i += 1;
-    }
-    place
-}
 
 // What a file declares, by value.
 struct Declarations {
@@ -100,8 +68,8 @@ struct Extent {
     control: u16,
 }
 
-fn actions_extent(file: &[u8], places: &[usize; PLACES], count: usize, shape: Shape) -> Extent
-    requires { ⌜ Held (now file) count shape × Placed (now file) count (now places) ⌝ }
+fn actions_extent(file: &[u8], places: &[usize; PLACES], count: usize) -> Extent
+    requires { ⌜ Shaped (now file) count × Placed (now file) count (now places) ⌝ }
     ensures { λ r. ⌜ (r .bytes ≡ length (flat actionBytes (lowerTask (taskOf (now (file .entry))) .actions))) × (r .bytes ≤ 400000) × (r .control ≡ suc (stagesOfTask (now (file .entry)))) ⌝ }
 {
     let mut bytes: usize = 0;
@@ -109,7 +77,7 @@ fn actions_extent(file: &[u8], places: &[usize; PLACES], count: usize, shape: Sh
     let mut k: usize = 0;
     while k < count {
         let action = decode_action(file, places, count, k);
-        bytes += macro_size(action, shape, from);
+        bytes += macrobytes::macro_size(action);
         from += macros::stage_count(action) as u16;
         k += 1;
     }
@@ -137,7 +105,7 @@ fn put_actions(
     let mut k: usize = 0;
     while k < count {
         let action = decode_action(file, places, count, k);
-        place = put_macro(out, place, action, shape, from);
+        place = macrobytes::put_macro(out, place, action, shape, from);
         from += macros::stage_count(action) as u16;
         k += 1;
     }
@@ -217,7 +185,7 @@ fn lower_accepted(file: &[u8], count: usize, out: &mut [u8]) -> Written
     let goal = read_goal(file, count);
     let shape = declared.shape;
     let places = find_places(file, count);
-    let extent = actions_extent(file, &places, count, shape);
+    let extent = actions_extent(file, &places, count);
     let heads = 5 * (shape.variables + 2) + 5 * (shape.modes + 1);
     let need = heads + extent.bytes + writing::goal_size(goal);
     if out.len() < need {

@@ -1,16 +1,13 @@
 -- A macro is its opening or single action, which can be written, and its stages.
 -- Assumes nothing.
 use mathlib.Core.Path.{_≡_, sym, ap, _∙_}
-use mathlib.Core.Option.{some}
 use mathlib.Core.List.{List, [], _∷_, _++_, append-nil}
 use Prim.Native.Nat.{ℕ}
-use lib.ListN.{getElem?}
 use Rattle.lists.specs.Each.{flat}
 use Rattle.lists.proofs.Each.{flat-cons}
 use Rattle.lists.proofs.Writing.{Left, start}
 use Rattle.model.specs.Tasks.{RestrictedAction}
 use Rattle.model.specs.Limits.{restrictedLimits}
-use Rattle.model.specs.TaskOk.{RestrictedActionOk}
 use Rattle.model.specs.Stages.{openingAction, stagesActions}
 use Rattle.model.specs.Lowering.{numbered, numberedAll}
 use Rattle.actions.specs.declared.RestrictedAction.{RestrictedAction as DecodedRestricted}

@@ -1,6 +1,6 @@
 -- How many bytes a macro has: those of its opening or single action, and those of its stages.
 -- Assumes nothing.
-use mathlib.Core.Path.{_≡_, refl, sym, ap, _∙_}
+use mathlib.Core.Path.{_≡_, refl, ap, _∙_}
 use mathlib.Core.Bool.{false, cond}
 use mathlib.Core.List.{List, [], _∷_, _++_}
 use Prim.Native.Nat.{ℕ, zero, suc, _+_, _*_, _≤_, _<_}
@@ -11,8 +11,8 @@ use lib.IntN.{ℤ, pos, negsuc}
 use borrow.Author.Tests.{eq-eqb, ne-eqb}
 use Rattle.lists.specs.Each.{flat}
 use Rattle.lists.proofs.Each.{flat-nil, flat-cons, length-tabulate}
-use Rattle.model.specs.Tasks.{NumericCondition, Effect, noEffect, addEffect, linearEffect, quotientEffect, residueEffect, SourceAction, RestrictedAction}
-use Rattle.model.specs.Stages.{Name, NamedAction, Stage, opposite, falling, rising, turn, firstStage, stagesActions, drainTerms, clear, move, helperA, onSourceVariables, stagesOf, addedBound, openingAdditions, openingAction}
+use Rattle.model.specs.Tasks.{NumericCondition, linearEffect, quotientEffect, residueEffect, SourceAction}
+use Rattle.model.specs.Stages.{Name, NamedAction, Stage, opposite, falling, rising, turn, firstStage, stagesActions, drainTerms, clear, move, helperA, onSourceVariables, stagesOf, addedBound, openingAction}
 use Rattle.model.specs.Lowering.{numberedConditions, numberedAdditions, numbered, numberedAll}
 use Rattle.writing.specs.Parts.{actionBytes}
 use Rattle.writing.proofs.Parts.{action-length}

@@ -1,22 +1,21 @@
 -- The actions of a stage, part by part as they are written, are those of the model, numbered.
 -- Assumes nothing.
-use mathlib.Core.Path.{_≡_, refl, sym, ap, _∙_}
+use mathlib.Core.Path.{_≡_, refl, sym, ap}
 use mathlib.Core.Bool.{false}
 use mathlib.Core.List.{List, [], _∷_, _++_}
 use Prim.Native.Nat.{ℕ}
 use lib.Dec.{eqb}
 use lib.IntN.{ℤ, pos}
 use Rattle.integers.specs.Numbers.{bytesOf}
-use Rattle.integers.specs.Relation.{relationNumber, relationOf}
 use Rattle.lists.specs.Each as each
 use Rattle.lists.specs.Each.{flat}
 use Rattle.lists.specs.Writing.{Room, Wrote}
 use Rattle.lists.proofs.Writing.{Left, start, room-as, wrote-as}
 use Rattle.commands.specs.Encoding.{encode}
-use Rattle.commands.specs.declared.Command.the-variants.{Action, ModeCondition, Condition, ModeEffect}
+use Rattle.commands.specs.declared.Command.the-variants.{Action, ModeEffect}
 use Rattle.model.specs.Tasks.{NumericCondition}
-use Rattle.model.specs.Stages.{Stage, leftOver, falling, rising, turn, stageActions}
-use Rattle.model.specs.Lowering.{numberOfName, numbered, numberedAll}
+use Rattle.model.specs.Stages.{leftOver, turn}
+use Rattle.model.specs.Lowering.{numberOfName, numbered}
 use Rattle.writing.specs.Parts.{modeConditionBytes, conditionBytes, modeEffectBytes, additionBytes, actionBytes}
 use Rattle.writing.proofs.Parts.{conditions-bytes, additions-bytes}
 use Rattle.macros.specs.declared.Stage.{Stage as StageByValue}

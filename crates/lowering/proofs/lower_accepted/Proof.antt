@@ -18,7 +18,7 @@ find-places-requires : tie.Need-find-places-requires
 find-places-requires c κs = c .before .before .before .before .before .pre
 
 actions-extent-requires : tie.Need-actions-extent-requires
-actions-extent-requires c κs = (c .before .before .before .before .read-declarations .ensures .held, c .before .find-places .ensures)
+actions-extent-requires c κs = (record { shape = c .before .before .before .before .read-declarations .result .shape; held = c .before .before .before .before .read-declarations .ensures .held }, c .before .find-places .ensures)
 
 add-heads : tie.Need-add-heads
 add-heads c = omega (arith, bounded (c .before .before .before .before .before .before .read-declarations .ensures .held) .variablesFew, bounded (c .before .before .before .before .before .before .read-declarations .ensures .held) .modesFew)

@@ -1,6 +1,5 @@
 -- `macrobytes::macro_size` meets its contract: the opening or single action, and the stages. Assumes nothing.
 use mathlib.Core.Path.{_≡_}
-use Prim.Native.Nat.{ℕ}
 use native.Mathlib.Omega.{arith}
 use lib.ListN.{length}
 use Rattle.lists.proofs.Loops.{length-mapped}

@@ -1,8 +1,6 @@
 -- `macrobytes::put_stage` meets its contract: its three actions are written one after another. Assumes nothing.
 use mathlib.Core.Path.{refl, sym, ap, _∙_, subst}
-use mathlib.Core.List.{List}
-use Prim.Native.Nat.{ℕ, _≤_}
-use native.Mathlib.Numerals.{add-one}
+use Prim.Native.Nat.{_≤_}
 use lib.Dec.{lit≤}
 use lib.IntN.{ℤ, natAbs}
 use mir.Facts.{toZ-ofZ}
