@@ -4,13 +4,14 @@ use mathlib.Core.Path.{_≡_, refl, sym, ap, ap₂, _∙_, subst}
 use mathlib.Core.List.{List, [], _∷_, _++_}
 use Prim.Native.Nat.{ℕ, zero, suc, _≤_, _<_}
 use native.Mathlib.Omega.{arith}
-use lib.ListN.{length, take, getD}
+use lib.ListN.{length, take, getD, replicate, length-replicate}
 use lib.Seq.{getD-take, ext-getD}
 use Rattle.lists.proofs.Each.{length-tabulate, getD-tabulate}
 use lib.IntN.{ℤ, pos, natAbs}
 use Rattle.integers.specs.All.{All}
 use Rattle.integers.specs.Numbers.{Bytes}
 use Rattle.lists.specs.Answer.{given}
+use Rattle.lists.specs.Writing.{splice}
 use Rattle.model.specs.Tasks.{SourceVariable, State}
 use Rattle.model.specs.Limits.{sourceLimits}
 use Rattle.model.specs.Reading.{verdictOf}
@@ -20,16 +21,16 @@ use Rattle.model.proofs.ReadingLaws.{length-each}
 use Rattle.model.proofs.AcceptedOk.{accepted-source-ok}
 use Rattle.model.proofs.LoweredOk.{lowered-task-ok}
 use Rattle.actions.specs.declared.Goal.{Goal}
-use Rattle.actions.specs.Places.{goalPart}
+use Rattle.actions.specs.Places.{edgesOf, goalPart}
 use Rattle.actions.specs.Views.{pairAt, pairsIs, GoalDecoded}
-use Rattle.actions.proofs.Accepted.{source-goal-conditions, source-goal-modes, source-goal-within}
+use Rattle.actions.proofs.Accepted.{source-edges, places-at, source-goal-conditions, source-goal-modes, source-goal-within}
 use Rattle.declarations.specs.declared.Declared.{Declared}
 use Rattle.declarations.specs.Holding.{HoldsSource}
 use Rattle.source.specs.Judged.{AcceptedWith}
 use Rattle.source.proofs.Judging.{accepted-task, counted-task}
 use Rattle.writing.specs.Parts.{Constants}
 use Rattle.writing.proofs.Sizes.{goal-writable}
-use Rattle.lowering.specs.Held.{taskOf, Declares, GoalOf}
+use Rattle.lowering.specs.Held.{taskOf, Placed, Declares, GoalOf}
 
 -- ---- lists
 front-small : (n : ℕ) (xs ys : List ℤ) (i : ℕ) → All (λ (z : ℤ). natAbs z ≤ n) (xs ++ ys) → i < length xs → natAbs (integerAt xs i) ≤ n
@@ -60,6 +61,16 @@ module _ (file : List ℕ) (count : ℕ) (bytes : Bytes file) (accepted : Accept
 
   counted : count ≡ length (taskOf file .actions)
   counted = counted-task file count bytes accepted (taskOf file) is
+
+  -- the offsets of the actions and of the goal, stored from the front of a table of zeros
+  pub placed : (places : List ℕ) → places ≡ splice (replicate 33 0) 0 (edgesOf file) → Placed file count places
+  placed places e k h = ap (λ (l : List ℕ). getD l k 0) e ∙ places-at file (replicate 33 0) (omega (arith, edges, few, length-replicate {A = ℕ} 33 0)) k (omega (arith, edges, h, counted))
+    where
+      edges : length (edgesOf file) ≡ suc (length (taskOf file .actions))
+      edges = source-edges file bytes (taskOf file) is
+
+      few : length (taskOf file .actions) ≤ 32
+      few = accepted-source-ok file (taskOf file) is .actionsFew
 
   module _ (r : Declared) (lower upper start : List ℤ) (sizes values : List ℕ) (h : HoldsSource (taskOf file) r lower upper start sizes values) where
     starts-small : Constants (r .variables) start

@@ -1,7 +1,7 @@
 -- The walk over the source actions of an accepted file: at each, what is left of the lowered actions is its macro and what is left behind it.
 -- Assumes nothing.
 use mathlib.Core.Path.{_≡_, refl, sym, ap, _∙_, subst}
-use mathlib.Core.Option.{some, Option·none-ne-some}
+use mathlib.Core.Option.{some}
 use mathlib.Core.List.{List, [], _∷_, _++_}
 use Prim.Native.Nat.{ℕ, zero, suc, _+_, _*_, _≤_, _<_}
 use native.Mathlib.Omega.{arith}
@@ -17,7 +17,7 @@ use Rattle.model.specs.TaskOk.{EffectOk, SourceVariableOk, SourceActionOk, Sour
 use Rattle.model.specs.Decoding.{each, sourceActionOf}
 use Rattle.model.specs.ActionBytes.{actionPart, decodeAction}
 use Rattle.model.specs.Steps.{integerAt, sizesOf, lowerBounds, upperBounds}
-use Rattle.model.specs.Stages.{NamedAction, stagesOf, macro, lowerActions, stageCount}
+use Rattle.model.specs.Stages.{stagesOf, macro, lowerActions, stageCount}
 use Rattle.model.specs.Lowering.{numberedAll, lowerTask}
 use Rattle.model.proofs.ReadingLaws.{length-each}
 use Rattle.model.proofs.AcceptedOk.{accepted-source-ok}
@@ -29,18 +29,11 @@ use Rattle.actions.specs.Within.{SourceWithin}
 use Rattle.actions.proofs.Accepted.{source-action-decoded, source-action-within}
 use Rattle.source.specs.declared.Shape.{Shape}
 use Rattle.macros.specs.Shapes.{lowerOf, upperOf, Bounded, Lowerable, stagesIn, macroIn}
-use Rattle.lowering.specs.Held.{taskOf, Held, restAt, stagesOfTask, Sound}
+use Rattle.macrobytes.specs.Macros.{FewParts, Sound}
+use Rattle.macrobytes.proofs.Stages.{numbered-append, drop-get}
+use Rattle.lowering.specs.Held.{taskOf, Held, restAt, stagesOfTask}
 
 -- ---- lists
-numbered-append : (n m : ℕ) (xs ys : List NamedAction) → numberedAll n m (xs ++ ys) ≡ numberedAll n m xs ++ numberedAll n m ys
-numbered-append n m [] ys = refl
-numbered-append n m (x ∷ xs) ys = rw (numbered-append n m xs ys)
-
-drop-get : {A : Type 0} (xs : List A) (k : ℕ) (x : A) → getElem? xs k ≡ some x → drop k xs ≡ x ∷ drop (suc k) xs
-drop-get [] k x e = absurd (Option·none-ne-some x e)
-drop-get (y ∷ xs) zero x e = let z : y ≡ x = cc in rw z
-drop-get (y ∷ xs) (suc k) x e = drop-get xs k x e
-
 all-left : {A : Type 0} (P : A → Type 0) (xs ys : List A) → All P (xs ++ ys) → All P xs
 all-left P [] ys h = tt
 all-left P (x ∷ xs) ys (p, ps) = (p, all-left P xs ys ps)
@@ -165,6 +158,11 @@ module _ {file : List ℕ} {count : ℕ} {h : Shape} {k from : ℕ} (w : Walk fi
     -- what a macro requires
     pub macro-ready : Lowerable h a × (0 < from) × (from ≤ 1000) × Sound (macroIn h from a)
     macro-ready = (lowerable (w .held) k below a decoded, w .low, omega (arith, w .high, w .bound, few-actions (w .held)), macro-sound)
+
+    pub size-ready : FewParts a
+    size-ready =
+        let l = lowerable (w .held) k below a decoded in
+        record { conditionsFew = l .conditionsFew; modeConditionsFew = l .modeConditionsFew; modeEffectsFew = l .modeEffectsFew }
 
     pub walk-split : (s : ℕ) → s ≡ length (stagesIn h a) → restAt file from k ≡ macroIn h from a ++ restAt file (from + s) (k + 1)
     walk-split s e = rest-split (w .held) k below a decoded from s e

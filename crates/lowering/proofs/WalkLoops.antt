@@ -31,7 +31,12 @@ pub record Putting (file : List ℕ) (count : ℕ) (h : Shape) (old : List ℕ) 
 pub record Summing (file : List ℕ) (count : ℕ) (h : Shape) (sum k from : ℕ) : Type 0 where
   pub walk : Walk file count h k from
   pub whole : sum + length (flat actionBytes (restAt file from k)) ≡ length (flat actionBytes (restAt file 1 0))
-  pub small : sum ≤ 11191 * k
+  pub small : sum ≤ 1000 * k
+
+-- the same, in a task of some shape
+pub record Counting (file : List ℕ) (count sum k from : ℕ) : Type 0 where
+  pub shape : Shape
+  pub summing : Summing file count shape sum k from
 
 -- action i of all is action `left` of what is left
 pub record Finding (file : List ℕ) (count : ℕ) (h : Shape) (i left k from : ℕ) : Type 0 where
@@ -76,7 +81,7 @@ module _ {file : List ℕ} {count : ℕ} {h : Shape} where
       pub putting-next : {after : List ℕ} {next : ℕ} → s ≤ 10 → Wrote out place (flat actionBytes (macroIn h from a)) after next → Putting file count h old at after next (k + 1) (from + s)
       putting-next l w = record { walk = walk-next (p .walk) below a decoded s stages l; left = step parted w }
 
-    pub summing-next : {sum : ℕ} → Summing file count h sum k from → (m : ℕ) → s ≤ 10 → m ≡ length (flat actionBytes (macroIn h from a)) → m ≤ 11191 → Summing file count h (sum + m) (k + 1) (from + s)
+    pub summing-next : {sum : ℕ} → Summing file count h sum k from → (m : ℕ) → s ≤ 10 → m ≡ length (flat actionBytes (macroIn h from a)) → m ≤ 1000 → Summing file count h (sum + m) (k + 1) (from + s)
     summing-next p m l e f = record {
       walk = walk-next (p .walk) below a decoded s stages l;
       whole = omega (arith, p .whole, ap length (bytes-split (p .walk)), length-append (flat actionBytes (macroIn h from a)) (flat actionBytes (restAt file (from + s) (k + 1))));

@@ -3,14 +3,13 @@
 use mathlib.Core.Path.{_≡_}
 use Prim.Native.Nat.{ℕ, _≤_}
 use mathlib.Core.List.{List}
-use lib.ListN.{length, take, drop}
-use Rattle.integers.specs.All.{All}
+use lib.ListN.{length, take, drop, getD}
 use Rattle.integers.specs.Numbers.{Bytes}
 use Rattle.lists.specs.Answer.{given}
 use Rattle.model.specs.Tasks.{SourceVariable, SourceTask, RestrictedAction}
-use Rattle.model.specs.Limits.{sourceLimits, restrictedLimits}
-use Rattle.model.specs.TaskOk.{RestrictedActionOk}
+use Rattle.model.specs.Limits.{sourceLimits}
 use Rattle.model.specs.Reading.{commandsOf}
+use Rattle.model.specs.ActionBytes.{edgeOf}
 use Rattle.model.specs.Decoding.{each, draftOf, sourceTaskOf, readSource}
 use Rattle.model.specs.Steps.{lowerBounds, upperBounds, sourceStart}
 use Rattle.model.specs.Stages.{lowerActions, stageCount}
@@ -35,6 +34,15 @@ pub record Held (file : List ℕ) (count : ℕ) (h : Shape) : Type 0 where
   pub lowersAre : take (h .variables) (h .lower) ≡ each (λ (b : SourceVariable). b .lower) (taskOf file .variables)
   pub uppersAre : take (h .variables) (h .upper) ≡ each (λ (b : SourceVariable). b .upper) (taskOf file .variables)
 
+-- the same, whatever the shape
+pub record Shaped (file : List ℕ) (count : ℕ) : Type 0 where
+  pub shape : Shape
+  pub held : Held file count shape
+
+-- where its actions begin, and behind them its goal
+abbrev pub Placed : List ℕ → ℕ → List ℕ → Type 0
+Placed file count places = (k : ℕ) → k ≤ count → getD places k 0 ≡ edgeOf file k
+
 -- besides, the starts and the modes that it declares
 pub record Declares (file : List ℕ) (count : ℕ) (d : Declarations) : Type 0 where
   pub held : Held file count (d .shape)
@@ -57,10 +65,3 @@ restAt file from k =
 -- the count of all stages
 abbrev pub stagesOfTask : List ℕ → ℕ
 stagesOfTask file = stageCount (lowerBounds (taskOf file)) (upperBounds (taskOf file)) (taskOf file .actions)
-
--- actions that keep to the rules on restricted files
-pub record Sound (acts : List RestrictedAction) : Type 0 where
-  pub variables : ℕ
-  pub sizes : List ℕ
-  pub few : length sizes ≤ 8
-  pub ok : All (RestrictedActionOk restrictedLimits variables sizes) acts

@@ -21,44 +21,15 @@ ghost use Rattle.lists.specs.Writing.{Room, Wrote};
 ghost use Rattle.lists.specs.Written.{Lent};
 ghost use Rattle.model.specs.Limits.{sourceLimits};
 ghost use Rattle.model.specs.Reading.{verdictOf};
+ghost use Rattle.model.specs.Decoding.{sourceActionOf};
+ghost use Rattle.model.specs.ActionBytes.{actionPart, decodeAction};
+ghost use Rattle.actions.specs.Views.{sourceActionIs, fittingSource};
 ghost use Rattle.model.specs.Lowering.{lowerTask, lowerFile};
 ghost use Rattle.model.specs.Judging.{lowerBytes};
 ghost use Rattle.source.specs.Judged.{AcceptedWith};
 ghost use Rattle.writing.specs.Parts.{actionBytes};
-ghost use Rattle.macros.specs.Shapes.{Lowerable, macroIn};
-ghost use Rattle.lowering.specs.Held.{taskOf, Held, Declares, GoalOf, Sound, stagesOfTask};
+ghost use Rattle.lowering.specs.Held.{taskOf, Held, Shaped, Placed, Declares, GoalOf, stagesOfTask};
 ghost use Rattle.lowering.specs.Lowered.{loweredActionAt, actionOr, answerIs, refusal};
-
-// How many bytes a source action becomes, its stages being numbered from `from`.
-fn macro_size(action: SourceAction, shape: Shape, from: u16) -> usize
-    requires { ⌜ Lowerable shape action × (0 < from) × (from ≤ 1000) × Sound (macroIn shape from action) ⌝ }
-    ensures { λ r. ⌜ (r ≡ length (flat actionBytes (macroIn shape from action))) × (r ≤ 11191) ⌝ }
-{
-    let n = 1 + 3 * macros::stage_count(action);
-    let mut sum: usize = 0;
-    let mut i: usize = 0;
-    while i < n {
-        sum += writing::action_size(macros::macro_action(action, shape, from, i));
-        i += 1;
-    }
-    sum
-}
-
-// What a source action becomes.
-fn put_macro(out: &mut [u8], at: usize, action: SourceAction, shape: Shape, from: u16) -> usize
-    requires { ⌜ Lowerable shape action × (0 < from) × (from ≤ 1000) × Sound (macroIn shape from action) ⌝ }
-    requires { ⌜ Room (now out) at (flat actionBytes (macroIn shape from action)) ⌝ }
-    ensures { λ r. ⌜ Wrote (now (out .entry)) at (flat actionBytes (macroIn shape from action)) (now (out .exit)) r ⌝ }
-{
-    let n = 1 + 3 * macros::stage_count(action);
-    let mut place = at;
-    let mut i: usize = 0;
-    while i < n {
-        place = writing::put_action(out, place, macros::macro_action(action, shape, from, i));
-        i += 1;
-    }
-    place
-}
 
 // What a file declares, by value.
 struct Declarations {
@@ -67,22 +38,46 @@ struct Declarations {
     values: [u16; MODES],
 }
 
+// For the offsets of all actions of a source file, 32 at most, and of the goal behind them.
+const PLACES: usize = 33;
+
+// Where the actions of an accepted file with so many begin, and behind them its goal.
+fn find_places(file: &[u8], count: usize) -> [usize; PLACES]
+    requires { ⌜ AcceptedWith (verdictOf sourceLimits (now file)) count ⌝ }
+    ensures { λ r. ⌜ Placed (now (file .entry)) count r ⌝ }
+{
+    let mut places = [0usize; PLACES];
+    actions::action_places(file, &mut places);
+    places
+}
+
+// Action k of a file with so many actions, which begin at these places.
+fn decode_action(file: &[u8], places: &[usize; PLACES], count: usize, k: usize) -> SourceAction
+    requires { ⌜ Placed (now file) count (now places) × (k < count) × (count ≤ 32) ⌝ }
+    ensures { λ r. ⌜ sourceActionIs r ≡ fittingSource (sourceActionOf (decodeAction (actionPart (now (file .entry)) k))) ⌝ }
+{
+    let start = places[k];
+    let next = k + 1;
+    let end = places[next];
+    actions::decode_source(actions::part(file, start, end))
+}
+
 // How many bytes the actions become, and the size of control: 1 and the count of all stages.
 struct Extent {
     bytes: usize,
     control: u16,
 }
 
-fn actions_extent(file: &[u8], count: usize, shape: Shape) -> Extent
-    requires { ⌜ Held (now file) count shape ⌝ }
+fn actions_extent(file: &[u8], places: &[usize; PLACES], count: usize) -> Extent
+    requires { ⌜ Shaped (now file) count × Placed (now file) count (now places) ⌝ }
     ensures { λ r. ⌜ (r .bytes ≡ length (flat actionBytes (lowerTask (taskOf (now (file .entry))) .actions))) × (r .bytes ≤ 400000) × (r .control ≡ suc (stagesOfTask (now (file .entry)))) ⌝ }
 {
     let mut bytes: usize = 0;
     let mut from: u16 = 1;
     let mut k: usize = 0;
     while k < count {
-        let action = source::decode_action(file, k);
-        bytes += macro_size(action, shape, from);
+        let action = decode_action(file, places, count, k);
+        bytes += macrobytes::macro_size(action);
         from += macros::stage_count(action) as u16;
         k += 1;
     }
@@ -93,8 +88,15 @@ fn actions_extent(file: &[u8], count: usize, shape: Shape) -> Extent
 }
 
 // What all actions become.
-fn put_actions(out: &mut [u8], at: usize, file: &[u8], count: usize, shape: Shape) -> usize
-    requires { ⌜ Held (now file) count shape ⌝ }
+fn put_actions(
+    out: &mut [u8],
+    at: usize,
+    file: &[u8],
+    places: &[usize; PLACES],
+    count: usize,
+    shape: Shape,
+) -> usize
+    requires { ⌜ Held (now file) count shape × Placed (now file) count (now places) ⌝ }
     requires { ⌜ Room (now out) at (flat actionBytes (lowerTask (taskOf (now file)) .actions)) ⌝ }
     ensures { λ r. ⌜ Wrote (now (out .entry)) at (flat actionBytes (lowerTask (taskOf (now (file .entry))) .actions)) (now (out .exit)) r ⌝ }
 {
@@ -102,8 +104,8 @@ fn put_actions(out: &mut [u8], at: usize, file: &[u8], count: usize, shape: Shap
     let mut from: u16 = 1;
     let mut k: usize = 0;
     while k < count {
-        let action = source::decode_action(file, k);
-        place = put_macro(out, place, action, shape, from);
+        let action = decode_action(file, places, count, k);
+        place = macrobytes::put_macro(out, place, action, shape, from);
         from += macros::stage_count(action) as u16;
         k += 1;
     }
@@ -154,12 +156,13 @@ fn read_goal(file: &[u8], count: usize) -> Goal
 fn put_task(
     out: &mut [u8],
     file: &[u8],
+    places: &[usize; PLACES],
     count: usize,
     declared: Declarations,
     goal: Goal,
     control: u16,
 ) -> usize
-    requires { ⌜ Declares (now file) count declared × GoalOf (now file) goal × (control ≡ suc (stagesOfTask (now file))) ⌝ }
+    requires { ⌜ Declares (now file) count declared × GoalOf (now file) goal × (control ≡ suc (stagesOfTask (now file))) × Placed (now file) count (now places) ⌝ }
     requires { ⌜ Room (now out) 0 (lowerFile (taskOf (now file))) ⌝ }
     ensures { λ r. ⌜ Wrote (now (out .entry)) 0 (lowerFile (taskOf (now (file .entry)))) (now (out .exit)) r ⌝ }
 {
@@ -169,7 +172,7 @@ fn put_task(
     let sizes = shape.sizes;
     let modes = writing::put_starts(out, 0, shape.variables, &starts);
     let first = writing::put_modes(out, modes, shape.modes, &sizes, &values, control);
-    let end = put_actions(out, first, file, count, shape);
+    let end = put_actions(out, first, file, places, count, shape);
     writing::put_goal(out, end, goal, shape.modes as u8)
 }
 
@@ -181,13 +184,14 @@ fn lower_accepted(file: &[u8], count: usize, out: &mut [u8]) -> Written
     let declared = read_declarations(file, count);
     let goal = read_goal(file, count);
     let shape = declared.shape;
-    let extent = actions_extent(file, count, shape);
+    let places = find_places(file, count);
+    let extent = actions_extent(file, &places, count);
     let heads = 5 * (shape.variables + 2) + 5 * (shape.modes + 1);
     let need = heads + extent.bytes + writing::goal_size(goal);
     if out.len() < need {
         return Written::Refused(8, need as u64);
     }
-    put_task(out, file, count, declared, goal, extent.control);
+    put_task(out, file, &places, count, declared, goal, extent.control);
     Written::Bytes(need)
 }
 
@@ -237,15 +241,21 @@ fn no_action(number: u8, place: u64) -> LoweredAnswer
 }
 
 // Action i of the lowered task of an accepted file with so many actions and a shape.
-fn find_action(file: &[u8], count: usize, shape: Shape, i: usize) -> LoweredAnswer
-    requires { ⌜ Held (now file) count shape ⌝ }
+fn find_action(
+    file: &[u8],
+    places: &[usize; PLACES],
+    count: usize,
+    shape: Shape,
+    i: usize,
+) -> LoweredAnswer
+    requires { ⌜ Held (now file) count shape × Placed (now file) count (now places) ⌝ }
     ensures { λ r. ⌜ answerIs r ≡ actionOr i (getElem? (lowerTask (taskOf (now (file .entry))) .actions) i) ⌝ }
 {
     let mut left = i;
     let mut from: u16 = 1;
     let mut k: usize = 0;
     while k < count {
-        let action = source::decode_action(file, k);
+        let action = decode_action(file, places, count, k);
         let stages = macros::stage_count(action);
         let n = 1 + 3 * stages;
         if left < n {
@@ -271,7 +281,8 @@ pub fn lowered_action(file: &[u8], k: usize) -> LoweredAnswer
             let count = actions as usize;
             let declared = read_declarations(file, count);
             let shape = declared.shape;
-            find_action(file, count, shape, k)
+            let places = find_places(file, count);
+            find_action(file, &places, count, shape, k)
         }
     }
 }

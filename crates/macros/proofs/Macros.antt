@@ -30,7 +30,7 @@ turns-on number following h = by (eqb following 0)
     by false = ne-eqb number (number + 1) (λ e. omega arith)
 
 -- the next stage, by the stages that follow
-first-next : (s : ℕ) (ds : List Stage) → firstStage (suc s) ds ≡ nextNumber s (length ds)
+pub first-next : (s : ℕ) (ds : List Stage) → firstStage (suc s) ds ≡ nextNumber s (length ds)
 first-next s [] = refl
 first-next s (d ∷ ds) = sym (rw (ne-eqb (suc (length ds)) 0 (λ e. omega arith)) (add-one s))
 

@@ -10,16 +10,19 @@ use lib.Seq.{take-nil}
 use lib.IntN.{ℤ}
 use Rattle.model.specs.Decoding.{each}
 use Rattle.model.proofs.ReadingLaws.{length-each}
-use Rattle.model.specs.Stages.{Stage, drain, refill, drainTerms}
+use Rattle.model.specs.Tasks.{linearEffect}
+use Rattle.model.specs.Stages.{Stage, drain, refill, drainTerms, stagesOf}
 use Rattle.model.specs.Limits.{sourceLimits}
 use Rattle.model.specs.TaskOk.{AmountOk, EffectOk}
 use Rattle.integers.specs.All.{All}
 use Rattle.actions.specs.declared.Effect.{Effect as DecodedEffect}
 use Rattle.actions.specs.declared.Effect.the-variants.{None, Add, Linear, Quotient, Residue}
+use Rattle.actions.specs.declared.SourceAction.{SourceAction as DecodedSource}
 use Rattle.actions.specs.declared.Term.{Term}
 use Rattle.actions.specs.Views.{termIs, termsIs, effectIs}
-use Rattle.macros.specs.Shapes.{Moderate}
-use Rattle.macros.specs.Stages.{WeightsSmall}
+use Rattle.source.specs.declared.Shape.{Shape}
+use Rattle.macros.specs.Shapes.{lowerOf, upperOf, stagesIn, Moderate}
+use Rattle.macros.specs.Stages.{WeightsSmall, stagesWith, targetIs, StagesSmall}
 
 -- ---- the stages of an L
 module _ (rest : List Stage) where
@@ -87,3 +90,22 @@ pub same-stages : (S : ℤ → ℤ → ℤ → List Stage) (j : ℕ) {c c′ low
     → getElem? (S c lower upper) j ≡ x → getElem? (S c′ lower′ upper′) j ≡ x
 same-stages S j {c} {c′} {lower} {lower′} {upper} {upper′} x e f g h =
     sym (ap (λ (z : ℤ). getElem? (S z lower upper) j) e ∙ ap (λ (z : ℤ). getElem? (S c′ z upper) j) f ∙ ap (λ (z : ℤ). getElem? (S c′ lower′ z) j) g) ∙ h
+
+-- the stages of an effect look up no bounds but those of its target
+bounds-given : (lower upper : ℕ → ℤ) (e : DecodedEffect) (ts us : List (ℕ × ℤ)) → ts ≡ us → stagesOf (λ t. lower (targetIs e)) (λ t. upper (targetIs e)) (effectIs e ts) ≡ stagesOf lower upper (effectIs e us)
+bounds-given lower upper None ts us f = refl
+bounds-given lower upper (Add t c) ts us f = refl
+bounds-given lower upper (Linear t w) ts us f = ap (λ (z : List (ℕ × ℤ)). stagesOf lower upper (linearEffect t w z)) f
+bounds-given lower upper (Quotient t y c) ts us f = refl
+bounds-given lower upper (Residue t y c) ts us f = refl
+
+pub stages-with : (h : Shape) (a : DecodedSource) (k : ℕ) (lower upper : ℤ) → termsIs k (a .terms) ≡ termsIs (a .«term_count») (a .terms) → lower ≡ lowerOf h (targetIs (a .effect)) → upper ≡ upperOf h (targetIs (a .effect))
+    → stagesWith (a .effect) k (a .terms) lower upper ≡ stagesIn h a
+stages-with h a k lower upper f e g = rw (e, g) (bounds-given (lowerOf h) (upperOf h) (a .effect) (termsIs k (a .terms)) (termsIs (a .«term_count») (a .terms)) f)
+
+pub stages-small : (n : ℕ) (e : DecodedEffect) (k : ℕ) (terms : List Term) → k ≤ length terms → EffectOk sourceLimits n (effectIs e (termsIs k terms)) → StagesSmall e k terms
+stages-small n None k terms f h = tt
+stages-small n (Add t c) k terms f h = tt
+stages-small n (Linear t w) k terms f h = weights-small n k terms f (h .3 .0)
+stages-small n (Quotient t y c) k terms f h = h .2
+stages-small n (Residue t y c) k terms f h = h .2

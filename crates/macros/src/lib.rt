@@ -29,7 +29,7 @@ ghost use Rattle.model.specs.Lowering.{numberOfName, numberedAdditions, numbere
 ghost use Rattle.actions.specs.Views.{effectIs, termsIs, sourceActionIs, restrictedActionIs};
 ghost use Rattle.macros.specs.Actions.{condition, withCondition, withModeCondition, withModeEffect, withAddition, strokeOf, turnOf, sourcePart, withNumeric};
 ghost use Rattle.macros.specs.Shapes.{lowerOf, upperOf, Bounded, Moderate, Lowerable, stagesIn, macroIn, nextNumber};
-ghost use Rattle.macros.specs.Stages.{stageIs, Small, additionsIs, linearStages, quotientStages, residueStages, WeightsSmall};
+ghost use Rattle.macros.specs.Stages.{stageIs, Small, BoundsSmall, additionsIs, laidIs, linearStages, quotientStages, residueStages, WeightsSmall, stagesWith, StagesSmall, targetIs};
 
 // A stage of a macro: Drain (variable, weight), Refill (variable), Divide (c), Empty of A or of B, Clear (target), Move from A or from B
 // (target, its bounds).
@@ -44,8 +44,16 @@ pub enum Stage {
     MoveB(u8, i64, i64),
 }
 
-// The + of a stage's action: the first `count` of the arrays.
-struct Additions {
+// What an action of a stage adds: at most three +, each a variable and an amount.
+pub enum Additions {
+    None,
+    One(u8, i64),
+    Two(u8, i64, u8, i64),
+    Three(u8, i64, u8, i64, u8, i64),
+}
+
+// The same in arrays: the first `count` of them.
+struct Laid {
     count: usize,
     variables: [u8; ADDITIONS],
     amounts: [i64; ADDITIONS],
@@ -72,33 +80,30 @@ fn amounts_of(first: i64, second: i64, third: i64) -> [i64; ADDITIONS]
     amounts
 }
 
-fn one_addition(v: u8, x: i64) -> Additions
-    ensures { λ r. ⌜ additionsIs r ≡ (v, x) ∷ [] ⌝ }
+fn lay_out(additions: Additions) -> Laid
+    ensures { λ r. ⌜ laidIs r ≡ additionsIs additions ⌝ }
 {
-    Additions {
-        count: 1,
-        variables: variables_of(v, 0, 0),
-        amounts: amounts_of(x, 0, 0),
-    }
-}
-
-fn two_additions(v: u8, x: i64, w: u8, y: i64) -> Additions
-    ensures { λ r. ⌜ additionsIs r ≡ (v, x) ∷ (w, y) ∷ [] ⌝ }
-{
-    Additions {
-        count: 2,
-        variables: variables_of(v, w, 0),
-        amounts: amounts_of(x, y, 0),
-    }
-}
-
-fn three_additions(v: u8, x: i64, w: u8, y: i64, u: u8, z: i64) -> Additions
-    ensures { λ r. ⌜ additionsIs r ≡ (v, x) ∷ (w, y) ∷ (u, z) ∷ [] ⌝ }
-{
-    Additions {
-        count: 3,
-        variables: variables_of(v, w, u),
-        amounts: amounts_of(x, y, z),
+    match additions {
+        Additions::None => Laid {
+            count: 0,
+            variables: variables_of(0, 0, 0),
+            amounts: amounts_of(0, 0, 0),
+        },
+        Additions::One(v, x) => Laid {
+            count: 1,
+            variables: variables_of(v, 0, 0),
+            amounts: amounts_of(x, 0, 0),
+        },
+        Additions::Two(v, x, w, y) => Laid {
+            count: 2,
+            variables: variables_of(v, w, 0),
+            amounts: amounts_of(x, y, 0),
+        },
+        Additions::Three(v, x, w, y, u, z) => Laid {
+            count: 3,
+            variables: variables_of(v, w, u),
+            amounts: amounts_of(x, y, z),
+        },
     }
 }
 
@@ -132,7 +137,7 @@ fn sign_of(c: i64) -> i64
 }
 
 // The number of a stage's counter, A being number a and B number b.
-fn counter_of(stage: Stage, a: u8, b: u8) -> u8
+pub fn counter_of(stage: Stage, a: u8, b: u8) -> u8
     requires { ⌜ b ≡ suc a ⌝ }
     ensures { λ r. ⌜ r ≡ numberOfName a (stageIs stage .counter) ⌝ }
 {
@@ -149,7 +154,7 @@ fn counter_of(stage: Stage, a: u8, b: u8) -> u8
 }
 
 // What falling takes from the counter: 1, in Divide |c|.
-fn unit(stage: Stage) -> i64
+pub fn unit(stage: Stage) -> i64
     requires { ⌜ Small stage ⌝ }
     ensures { λ r. ⌜ (r ≡ pos (suc (leftOver (stageIs stage .kind)))) × (natAbs r ≤ 10000) ⌝ }
 {
@@ -166,36 +171,36 @@ fn unit(stage: Stage) -> i64
 }
 
 // What falling adds.
-fn falls(stage: Stage, a: u8, b: u8) -> Additions
+pub fn falls(stage: Stage, a: u8, b: u8) -> Additions
     requires { ⌜ (b ≡ suc a) × Small stage ⌝ }
     ensures { λ r. ⌜ additionsIs r ≡ numberedAdditions a (stageIs stage .additions) ⌝ }
 {
     match stage {
-        Stage::Drain(t, w) => three_additions(t, -1, a, w, b, 1),
-        Stage::Refill(t) => two_additions(t, 1, b, -1),
-        Stage::Divide(c) => two_additions(a, negated(unit_of(c)), b, sign_of(c)),
-        Stage::EmptyA => one_addition(a, -1),
-        Stage::EmptyB => one_addition(b, -1),
-        Stage::Clear(t) => one_addition(t, -1),
-        Stage::MoveA(t, _, _) => two_additions(t, 1, a, -1),
-        Stage::MoveB(t, _, _) => two_additions(t, 1, b, -1),
+        Stage::Drain(t, w) => Additions::Three(t, -1, a, w, b, 1),
+        Stage::Refill(t) => Additions::Two(t, 1, b, -1),
+        Stage::Divide(c) => Additions::Two(a, negated(unit_of(c)), b, sign_of(c)),
+        Stage::EmptyA => Additions::One(a, -1),
+        Stage::EmptyB => Additions::One(b, -1),
+        Stage::Clear(t) => Additions::One(t, -1),
+        Stage::MoveA(t, _, _) => Additions::Two(t, 1, a, -1),
+        Stage::MoveB(t, _, _) => Additions::Two(t, 1, b, -1),
     }
 }
 
 // What rising adds: the opposites.
-fn rises(stage: Stage, a: u8, b: u8) -> Additions
+pub fn rises(stage: Stage, a: u8, b: u8) -> Additions
     requires { ⌜ (b ≡ suc a) × Small stage ⌝ }
     ensures { λ r. ⌜ additionsIs r ≡ numberedAdditions a (opposite (stageIs stage .additions)) ⌝ }
 {
     match stage {
-        Stage::Drain(t, w) => three_additions(t, 1, a, negated(w), b, -1),
-        Stage::Refill(t) => two_additions(t, -1, b, 1),
-        Stage::Divide(c) => two_additions(a, unit_of(c), b, negated(sign_of(c))),
-        Stage::EmptyA => one_addition(a, 1),
-        Stage::EmptyB => one_addition(b, 1),
-        Stage::Clear(t) => one_addition(t, 1),
-        Stage::MoveA(t, _, _) => two_additions(t, -1, a, 1),
-        Stage::MoveB(t, _, _) => two_additions(t, -1, b, 1),
+        Stage::Drain(t, w) => Additions::Three(t, 1, a, negated(w), b, -1),
+        Stage::Refill(t) => Additions::Two(t, -1, b, 1),
+        Stage::Divide(c) => Additions::Two(a, unit_of(c), b, negated(sign_of(c))),
+        Stage::EmptyA => Additions::One(a, 1),
+        Stage::EmptyB => Additions::One(b, 1),
+        Stage::Clear(t) => Additions::One(t, 1),
+        Stage::MoveA(t, _, _) => Additions::Two(t, -1, a, 1),
+        Stage::MoveB(t, _, _) => Additions::Two(t, -1, b, 1),
     }
 }
 
@@ -278,8 +283,9 @@ fn stroke(
     condition_constants[0] = constant;
     mode_condition_modes[0] = control;
     mode_condition_values[0] = number;
-    let addition_variables = additions.variables;
-    let addition_amounts = additions.amounts;
+    let added = lay_out(additions);
+    let addition_variables = added.variables;
+    let addition_amounts = added.amounts;
     RestrictedAction {
         condition_count: 1,
         condition_variables,
@@ -291,7 +297,7 @@ fn stroke(
         mode_effect_count: 0,
         mode_effect_modes: [0; MODE_EFFECTS],
         mode_effect_values: [0; MODE_EFFECTS],
-        addition_count: additions.count,
+        addition_count: added.count,
         addition_variables,
         addition_amounts,
     }
@@ -319,17 +325,12 @@ fn rising_action(stage: Stage, a: u8, b: u8, control: u8, number: u16) -> Restri
 fn plain_turn(counter: u8, most: i64, control: u8, number: u16, next: u16) -> RestrictedAction
     ensures { λ r. ⌜ restrictedActionIs r ≡ turnOf control number next counter most ⌝ }
 {
-    let additions = Additions {
-        count: 0,
-        variables: [0; ADDITIONS],
-        amounts: [0; ADDITIONS],
-    };
-    let low = stroke(counter, 2, 0, control, number, additions);
+    let low = stroke(counter, 2, 0, control, number, Additions::None);
     with_mode_effect(with_condition(low, counter, 1, most), control, next)
 }
 
 // The most that the turn leaves in the counter: 0, in Divide |c| − 1.
-fn most_left(stage: Stage) -> i64
+pub fn most_left(stage: Stage) -> i64
     requires { ⌜ Small stage ⌝ }
     ensures { λ r. ⌜ r ≡ pos (leftOver (stageIs stage .kind)) ⌝ }
 {
@@ -402,7 +403,7 @@ fn difference(x: i64, c: i64) -> i64
 }
 
 // The bounds of a variable.
-fn lower_of(shape: Shape, variable: u8) -> i64
+pub fn lower_of(shape: Shape, variable: u8) -> i64
     requires { ⌜ shape .variables ≤ 8 ⌝ }
     ensures { λ r. ⌜ r ≡ lowerOf shape variable ⌝ }
 {
@@ -410,7 +411,7 @@ fn lower_of(shape: Shape, variable: u8) -> i64
     source::value_at(&lower, shape.variables, variable)
 }
 
-fn upper_of(shape: Shape, variable: u8) -> i64
+pub fn upper_of(shape: Shape, variable: u8) -> i64
     requires { ⌜ shape .variables ≤ 8 ⌝ }
     ensures { λ r. ⌜ r ≡ upperOf shape variable ⌝ }
 {
@@ -463,7 +464,7 @@ pub fn stage_count(action: SourceAction) -> usize
 }
 
 // The opening or single action, the stages, if any, being numbered from `from`.
-fn opening_action(action: SourceAction, shape: Shape, from: u16) -> RestrictedAction
+pub fn opening_action(action: SourceAction, shape: Shape, from: u16) -> RestrictedAction
     requires { ⌜ Lowerable shape action × (0 < from) ⌝ }
     ensures { λ r. ⌜ restrictedActionIs r ≡ numbered (shape .variables) (shape .modes) (openingAction (lowerOf shape) (upperOf shape) from (sourceActionIs action)) ⌝ }
 {
@@ -479,7 +480,7 @@ fn opening_action(action: SourceAction, shape: Shape, from: u16) -> RestrictedAc
 
 // Stage j of an L with k terms.
 fn linear_stage(t: u8, k: usize, terms: [Term; TERMS], lower: i64, upper: i64, j: usize) -> Stage
-    requires { ⌜ (k ≤ 4) × (j < 2 * k + 2) × WeightsSmall k terms ⌝ }
+    requires { ⌜ (k ≤ 4) × (j < 2 * k + 2) × WeightsSmall k terms × BoundsSmall lower upper ⌝ }
     ensures { λ r. ⌜ (getElem? (linearStages t (termsIs k terms) lower upper) j ≡ some (stageIs r)) × Small r ⌝ }
 {
     if j == 2 * k {
@@ -498,7 +499,7 @@ fn linear_stage(t: u8, k: usize, terms: [Term; TERMS], lower: i64, upper: i64, j
 
 // Stage j of a Q.
 fn quotient_stage(t: u8, y: u8, c: i64, lower: i64, upper: i64, j: usize) -> Stage
-    requires { ⌜ (j < 6) × Factor sourceLimits c ⌝ }
+    requires { ⌜ (j < 6) × Factor sourceLimits c × BoundsSmall lower upper ⌝ }
     ensures { λ r. ⌜ (getElem? (quotientStages t y c lower upper) j ≡ some (stageIs r)) × Small r ⌝ }
 {
     match j {
@@ -513,7 +514,7 @@ fn quotient_stage(t: u8, y: u8, c: i64, lower: i64, upper: i64, j: usize) -> Sta
 
 // Stage j of an R.
 fn residue_stage(t: u8, y: u8, c: i64, lower: i64, upper: i64, j: usize) -> Stage
-    requires { ⌜ (j < 6) × Factor sourceLimits c ⌝ }
+    requires { ⌜ (j < 6) × Factor sourceLimits c × BoundsSmall lower upper ⌝ }
     ensures { λ r. ⌜ (getElem? (residueStages t y c lower upper) j ≡ some (stageIs r)) × Small r ⌝ }
 {
     match j {
@@ -526,41 +527,56 @@ fn residue_stage(t: u8, y: u8, c: i64, lower: i64, upper: i64, j: usize) -> Stag
     }
 }
 
+// Stage j of an effect with k terms, whose target has these bounds.
+pub fn stage_with(
+    effect: Effect,
+    k: usize,
+    terms: [Term; TERMS],
+    lower: i64,
+    upper: i64,
+    j: usize,
+) -> Stage
+    requires { ⌜ (k ≤ 4) × StagesSmall effect k terms × BoundsSmall lower upper × (j < length (stagesWith effect k terms lower upper)) ⌝ }
+    ensures { λ r. ⌜ (getElem? (stagesWith effect k terms lower upper) j ≡ some (stageIs r)) × Small r ⌝ }
+{
+    match effect {
+        Effect::None => Stage::EmptyA,
+        Effect::Add(_, _) => Stage::EmptyA,
+        Effect::Linear(t, _) => linear_stage(t, k, terms, lower, upper, j),
+        Effect::Quotient(t, y, c) => quotient_stage(t, y, c, lower, upper, j),
+        Effect::Residue(t, y, c) => residue_stage(t, y, c, lower, upper, j),
+    }
+}
+
+// The target of an effect; 0 where there is none.
+pub fn target_of(effect: Effect) -> u8
+    ensures { λ r. ⌜ r ≡ targetIs effect ⌝ }
+{
+    match effect {
+        Effect::None => 0,
+        Effect::Add(t, _) => t,
+        Effect::Linear(t, _) => t,
+        Effect::Quotient(t, _, _) => t,
+        Effect::Residue(t, _, _) => t,
+    }
+}
+
 // Stage j of an action.
 fn stage_at(action: SourceAction, shape: Shape, j: usize) -> Stage
     requires { ⌜ Lowerable shape action × (j < length (stagesIn shape action)) ⌝ }
     ensures { λ r. ⌜ (getElem? (stagesIn shape action) j ≡ some (stageIs r)) × Small r ⌝ }
 {
     let effect = action.effect;
-    match effect {
-        Effect::None => Stage::EmptyA,
-        Effect::Add(_, _) => Stage::EmptyA,
-        Effect::Linear(t, _) => {
-            let k = source::lesser(TERMS, action.term_count);
-            let terms = action.terms;
-            linear_stage(t, k, terms, lower_of(shape, t), upper_of(shape, t), j)
-        }
-        Effect::Quotient(t, y, c) => quotient_stage(
-            t,
-            y,
-            c,
-            lower_of(shape, t),
-            upper_of(shape, t),
-            j,
-        ),
-        Effect::Residue(t, y, c) => residue_stage(
-            t,
-            y,
-            c,
-            lower_of(shape, t),
-            upper_of(shape, t),
-            j,
-        ),
-    }
+    let k = source::lesser(TERMS, action.term_count);
+    let terms = action.terms;
+    let target = target_of(effect);
+    let lower = lower_of(shape, target);
+    let upper = upper_of(shape, target);
+    stage_with(effect, k, terms, lower, upper, j)
 }
 
 // What the turn of a stage sets control to, so many stages following.
-fn next_stage(number: u16, following: usize) -> u16
+pub fn next_stage(number: u16, following: usize) -> u16
     requires { ⌜ number ≤ 2000 ⌝ }
     ensures { λ r. ⌜ r ≡ nextNumber number following ⌝ }
 {

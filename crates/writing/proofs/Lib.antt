@@ -1,3 +1,4 @@
+pub mod Commands
 pub mod Parts
 pub mod Rows
 pub mod Sizes

@@ -37,13 +37,13 @@ modes-bytes = run-bytes (λ m. Mode (m .0) (m .1)) modeCommands (λ m. refl) (λ
 mode-conditions-bytes : (ps : List (ℕ × ℕ)) (more : List Command) → encodeAll (modeConditionCommands ps more) ≡ flat modeConditionBytes ps ++ encodeAll more
 mode-conditions-bytes = run-bytes (λ p. ModeCondition (p .0) (p .1)) modeConditionCommands (λ m. refl) (λ x xs m. refl)
 
-conditions-bytes : (cs : List (NumericCondition ℕ)) (more : List Command) → encodeAll (conditionCommands cs more) ≡ flat conditionBytes cs ++ encodeAll more
+pub conditions-bytes : (cs : List (NumericCondition ℕ)) (more : List Command) → encodeAll (conditionCommands cs more) ≡ flat conditionBytes cs ++ encodeAll more
 conditions-bytes = run-bytes (λ c. Condition (variableOf (c .measured)) (relationNumber (c .relation)) (bitsOf 4 (c .constant))) conditionCommands (λ m. refl) (λ x xs m. refl)
 
 mode-effects-bytes : (es : List (ℕ × ℕ)) (more : List Command) → encodeAll (modeEffectCommands es more) ≡ flat modeEffectBytes es ++ encodeAll more
 mode-effects-bytes = run-bytes (λ e. ModeEffect (e .0) (e .1)) modeEffectCommands (λ m. refl) (λ x xs m. refl)
 
-additions-bytes : (es : List (ℕ × ℤ)) (more : List Command) → encodeAll (additionCommands es more) ≡ flat additionBytes es ++ encodeAll more
+pub additions-bytes : (es : List (ℕ × ℤ)) (more : List Command) → encodeAll (additionCommands es more) ≡ flat additionBytes es ++ encodeAll more
 additions-bytes = run-bytes (λ e. Add (e .0) (bitsOf 4 (e .1))) additionCommands (λ m. refl) (λ x xs m. refl)
 
 -- ---- an action

@@ -18,6 +18,7 @@ ghost use Rattle.integers.specs.Relation.{relationNumber, relationOf};
 ghost use Rattle.lists.specs.Each.{flat};
 ghost use Rattle.lists.specs.Writing.{Room, Wrote};
 ghost use Rattle.commands.specs.Encoding.{encode};
+ghost use Rattle.commands.specs.declared.Command.the-variants.{Condition, ModeCondition, ModeEffect, Add};
 ghost use Rattle.actions.specs.Views.{conditionsIs, pairsIs, restrictedActionIs, goalConditionsIs, goalModesIs};
 ghost use Rattle.writing.specs.Parts.{startBytes, modeBytes, modeConditionBytes, conditionBytes, modeEffectBytes, additionBytes};
 ghost use Rattle.writing.specs.Parts.{actionBytes, goalBytes, Constants, Writable, GoalWritable};
@@ -27,7 +28,7 @@ const STARTS: usize = 8;
 
 const MODES: usize = 4;
 
-// One command.
+// One command of any kind.
 pub fn put_command(out: &mut [u8], at: usize, command: Command) -> usize
     requires { ⌜ Room (now out) at (encode command) ⌝ }
     ensures { λ r. ⌜ Wrote (now (out .entry)) at (encode command) (now (out .exit)) r ⌝ }
@@ -36,6 +37,44 @@ pub fn put_command(out: &mut [u8], at: usize, command: Command) -> usize
     let bytes = coded.bytes;
     let n = coded.length;
     lists::put_bytes(out, at, bytes, n)
+}
+
+// A C, a P, an E and a +, each by its operands.
+pub fn put_condition(out: &mut [u8], at: usize, variable: u8, relation: u8, bits: u32) -> usize
+    requires { ⌜ Room (now out) at (encode (Condition variable relation bits)) ⌝ }
+    ensures { λ r. ⌜ Wrote (now (out .entry)) at (encode (Condition variable relation bits)) (now (out .exit)) r ⌝ }
+{
+    let first = lists::put8(out, at, b'C');
+    let second = lists::put8(out, first, variable);
+    let third = lists::put8(out, second, relation);
+    lists::put32(out, third, bits)
+}
+
+pub fn put_mode_condition(out: &mut [u8], at: usize, mode: u8, value: u16) -> usize
+    requires { ⌜ Room (now out) at (encode (ModeCondition mode value)) ⌝ }
+    ensures { λ r. ⌜ Wrote (now (out .entry)) at (encode (ModeCondition mode value)) (now (out .exit)) r ⌝ }
+{
+    let first = lists::put8(out, at, b'P');
+    let second = lists::put8(out, first, mode);
+    lists::put16(out, second, value)
+}
+
+pub fn put_mode_effect(out: &mut [u8], at: usize, mode: u8, value: u16) -> usize
+    requires { ⌜ Room (now out) at (encode (ModeEffect mode value)) ⌝ }
+    ensures { λ r. ⌜ Wrote (now (out .entry)) at (encode (ModeEffect mode value)) (now (out .exit)) r ⌝ }
+{
+    let first = lists::put8(out, at, b'E');
+    let second = lists::put8(out, first, mode);
+    lists::put16(out, second, value)
+}
+
+pub fn put_addition(out: &mut [u8], at: usize, variable: u8, bits: u32) -> usize
+    requires { ⌜ Room (now out) at (encode (Add variable bits)) ⌝ }
+    ensures { λ r. ⌜ Wrote (now (out .entry)) at (encode (Add variable bits)) (now (out .exit)) r ⌝ }
+{
+    let first = lists::put8(out, at, b'+');
+    let second = lists::put8(out, first, variable);
+    lists::put32(out, second, bits)
 }
 
 // The P of an action or goal.
@@ -53,7 +92,7 @@ fn put_mode_conditions<'a>(
     let mut place = at;
     let mut i: usize = 0;
     while i < count {
-        place = put_command(out, place, Command::ModeCondition(modes[i], values[i]));
+        place = put_mode_condition(out, place, modes[i], values[i]);
         i += 1;
     }
     place
@@ -90,7 +129,7 @@ fn put_conditions<'a>(
     while i < count {
         let relation = known_relation(relations[i]);
         let bits = integers::bits(constants[i]);
-        place = put_command(out, place, Command::Condition(variables[i], relation, bits));
+        place = put_condition(out, place, variables[i], relation, bits);
         i += 1;
     }
     place
@@ -111,7 +150,7 @@ fn put_mode_effects<'a>(
     let mut place = at;
     let mut i: usize = 0;
     while i < count {
-        place = put_command(out, place, Command::ModeEffect(modes[i], values[i]));
+        place = put_mode_effect(out, place, modes[i], values[i]);
         i += 1;
     }
     place
@@ -134,7 +173,7 @@ fn put_additions<'a>(
     let mut i: usize = 0;
     while i < count {
         let bits = integers::bits(amounts[i]);
-        place = put_command(out, place, Command::Add(variables[i], bits));
+        place = put_addition(out, place, variables[i], bits);
         i += 1;
     }
     place
@@ -271,7 +310,7 @@ pub fn put_goal(out: &mut [u8], at: usize, goal: Goal, control: u8) -> usize
         &goal.mode_condition_modes,
         &goal.mode_condition_values,
     );
-    let conditions = put_command(out, rest, Command::ModeCondition(control, 0));
+    let conditions = put_mode_condition(out, rest, control, 0);
     let end = put_conditions(
         out,
         conditions,

@@ -11,16 +11,16 @@ use Rattle.lowering.proofs.find_action.Statement.{statement}
 use Rattle.lowering.proofs.find_action.Tie as tie
 
 abbrev Inv-loop : tie.InvT-loop
-Inv-loop file count shape i left₀ from₀ k₀ left from k = Finding file count shape i left k from
+Inv-loop file places count shape i left₀ from₀ k₀ left from k = Finding file count shape i left k from
 
 abbrev μ-loop : tie.MeasureT-loop
-μ-loop file count shape i left₀ from₀ k₀ left from k = count - k
+μ-loop file places count shape i left₀ from₀ k₀ left from k = count - k
 
 loop-holds : tie.Need-loop-holds Inv-loop μ-loop
-loop-holds c = finding-start _ (c .before .pre)
+loop-holds c = finding-start _ (c .before .pre .0)
 
 decode-action-requires : tie.Need-decode-action-requires Inv-loop μ-loop
-decode-action-requires c κs = omega (arith, c .loop-test .taken, few-actions (c .before .loop .inv .walk .held))
+decode-action-requires c κs = (c .before .before .before .pre .1, c .loop-test .taken, few-actions (c .before .loop .inv .walk .held))
 
 stage-count-requires : tie.Need-stage-count-requires Inv-loop μ-loop
 stage-count-requires c κs = search needs

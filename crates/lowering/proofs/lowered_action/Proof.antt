@@ -26,8 +26,11 @@ cast-count c = search needs
 read-declarations-requires : tie.Need-read-declarations-requires
 read-declarations-requires c κs = (subst (λ (w : Verdict). AcceptedWith w (c .before .actions .given .0 .1 .1 .0)) (rw (c .before .actions .given .1) at (c .before .before .before .check-source .ensures)) refl)
 
+find-places-requires : tie.Need-find-places-requires
+find-places-requires c κs = subst (λ (w : Verdict). AcceptedWith w (c .before .before .before .actions .given .0 .1 .1 .0)) (rw (c .before .before .before .actions .given .1) at (c .before .before .before .before .before .check-source .ensures)) refl
+
 find-action-requires : tie.Need-find-action-requires
-find-action-requires c κs = c .before .read-declarations .ensures .held
+find-action-requires c κs = (c .before .before .before .read-declarations .ensures .held, c .before .find-places .ensures)
 
 returns : tie.Need-returns
 returns c =
@@ -35,7 +38,7 @@ returns c =
     c .no-action .ensures ∙ sym (refused-actions (now (c .before .before .before .before .before .before .args .file)) (c .before .before .before .before .before .before .args .k) (e .0 .0) (e .0 .1 .0) (rw (e .1) at (c .before .before .before .before .check-source .ensures)))
 
 returns-2 : tie.Need-returns-2
-returns-2 c = c .find-action .ensures ∙ sym (accepted-actions (now (c .before .before .before .before .before .before .before .before .args .file)) (c .before .before .before .before .before .before .before .before .args .k) (c .before .before .read-declarations .ensures .held .is))
+returns-2 c = c .find-action .ensures ∙ sym (accepted-actions (now (c .before .before .before .before .before .before .before .before .before .before .args .file)) (c .before .before .before .before .before .before .before .before .before .before .args .k) (c .before .before .before .before .read-declarations .ensures .held .is))
 
 pub lowered-action-spec : {M : Type 1} → statement M
 lowered-action-spec =
@@ -47,6 +50,7 @@ lowered-action-spec =
     enum-known-actions
     cast-count
     read-declarations-requires
+    find-places-requires
     find-action-requires
     returns
     returns-2)

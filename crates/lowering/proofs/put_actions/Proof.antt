@@ -12,16 +12,16 @@ use Rattle.lowering.proofs.put_actions.Statement.{statement}
 use Rattle.lowering.proofs.put_actions.Tie as tie
 
 abbrev Inv-loop : tie.InvT-loop
-Inv-loop out₀ at file count shape place₀ from₀ k₀ out place from k = Putting file count shape out₀ at out place k from
+Inv-loop out₀ at file places count shape place₀ from₀ k₀ out place from k = Putting file count shape out₀ at out place k from
 
 abbrev μ-loop : tie.MeasureT-loop
-μ-loop out₀ at file count shape place₀ from₀ k₀ out place from k = count - k
+μ-loop out₀ at file places count shape place₀ from₀ k₀ out place from k = count - k
 
 loop-holds : tie.Need-loop-holds Inv-loop μ-loop
-loop-holds c = putting-start (c .before .before .pre .0)
+loop-holds c = putting-start (c .before .before .pre .0 .0)
 
 decode-action-requires : tie.Need-decode-action-requires Inv-loop μ-loop
-decode-action-requires c κs = omega (arith, c .loop-test .taken, few-actions (c .before .loop .inv .walk .held))
+decode-action-requires c κs = (c .before .before .before .before .pre .0 .1, c .loop-test .taken, few-actions (c .before .loop .inv .walk .held))
 
 put-macro-requires : tie.Need-put-macro-requires Inv-loop μ-loop
 put-macro-requires c κs = (macro-ready (c .before .before .before .loop .inv .walk) (c .before .before .loop-test .taken) (c .before .decode-action .result) (c .before .decode-action .ensures), putting-room (c .before .before .loop-test .taken) (c .before .decode-action .result) (c .before .decode-action .ensures) (length (stagesIn (c .before .before .before .before .before .before .args .shape) (c .before .decode-action .result))) refl (c .before .before .before .loop .inv) (c .before .before .before .before .before .before .pre .1))

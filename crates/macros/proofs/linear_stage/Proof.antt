@@ -36,7 +36,7 @@ returns-2 c =
     let s = c .before .before .args in
     let l : length (s .t3) ≡ 4 = search (needs, length-mapped) in
     let n = terms-length (s .k) (s .t3) in
-    rw (toZ-ofZ (c .before .before .fits .lower), toZ-ofZ (c .before .before .fits .upper)) (past-terms (clear (s .t) ∷ move (s .t) helperA (s .lower) (s .upper) ∷ []) (termsIs (s .k) (s .t3)) (s .j) 1 (omega (arith, c .before .before .pre .0, c .before .before .pre .1, c .if2 .taken)), tt)
+    rw (toZ-ofZ (c .before .before .fits .lower), toZ-ofZ (c .before .before .fits .upper)) (past-terms (clear (s .t) ∷ move (s .t) helperA (s .lower) (s .upper) ∷ []) (termsIs (s .k) (s .t3)) (s .j) 1 (omega (arith, c .before .before .pre .0, c .before .before .pre .1, c .if2 .taken)), c .before .before .pre .3)
 
 mul-term : tie.Need-mul-term
 mul-term c = search needs

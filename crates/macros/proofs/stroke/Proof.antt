@@ -1,6 +1,11 @@
 -- `macros::stroke` meets its contract: it computes. Assumes nothing.
+use mathlib.Core.Path.{ap}
+use mathlib.Core.List.{List}
+use Prim.Native.Nat.{ℕ}
+use lib.IntN.{ℤ}
 use mir.Facts.{toZ-ofZ}
 use Rattle.lists.specs.Each as each
+use Rattle.macros.specs.Actions.{condition, strokeOf}
 use borrow.Author.Needs.{needs}
 use Rattle.macros.proofs.stroke.Statement.{statement}
 use Rattle.macros.proofs.stroke.Tie as tie
@@ -20,9 +25,12 @@ array-write-mode-condition-modes c = search needs
 array-write-mode-condition-values : tie.Need-array-write-mode-condition-values
 array-write-mode-condition-values c = search needs
 
+lay-out-requires : tie.Need-lay-out-requires
+lay-out-requires c κs = search needs
+
 returns : tie.Need-returns
 unfolding each.tabulate
-returns c = simp (toZ-ofZ, c .before .before .fits .constant)
+returns c = simp (toZ-ofZ, c .before .before .before .fits .constant) (ap (λ (z : List (ℕ × ℤ)). strokeOf (c .before .before .before .args .control) (c .before .before .before .args .number) (condition (c .before .before .before .args .counter) (c .before .before .before .args .relation) (c .before .before .before .args .constant)) z) (c .before .before .lay-out .ensures))
 
 pub stroke-spec : {M : Type 1} → statement M
 stroke-spec =
@@ -33,4 +41,5 @@ stroke-spec =
     array-set-from-condition-constants
     array-write-mode-condition-modes
     array-write-mode-condition-values
+    lay-out-requires
     returns)

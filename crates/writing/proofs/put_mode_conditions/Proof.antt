@@ -16,17 +16,17 @@ abbrev μ-loop : tie.MeasureT-loop
 loop-holds : tie.Need-loop-holds Inv-loop μ-loop
 loop-holds c = writing-start
 
-element-copy-out-t13 : tie.Need-element-copy-out-t13 Inv-loop μ-loop
-element-copy-out-t13 c = search needs
+element-copy-out-put-mode-condition : tie.Need-element-copy-out-put-mode-condition Inv-loop μ-loop
+element-copy-out-put-mode-condition c = search needs
 
-mul-t14 : tie.Need-mul-t14 Inv-loop μ-loop
-mul-t14 c = search needs
+mul-put-mode-condition : tie.Need-mul-put-mode-condition Inv-loop μ-loop
+mul-put-mode-condition c = search needs
 
-element-copy-out-t17 : tie.Need-element-copy-out-t17 Inv-loop μ-loop
-element-copy-out-t17 c = search needs
+element-copy-out-put-mode-condition-2 : tie.Need-element-copy-out-put-mode-condition-2 Inv-loop μ-loop
+element-copy-out-put-mode-condition-2 c = search needs
 
-put-command-requires : tie.Need-put-command-requires Inv-loop μ-loop
-put-command-requires c κs = writing-room (c .before .before .before .before .loop .inv) (c .before .before .before .loop-test .taken) (c .before .before .before .before .before .before .pre .1)
+put-mode-condition-requires : tie.Need-put-mode-condition-requires Inv-loop μ-loop
+put-mode-condition-requires c κs = writing-room (c .before .before .before .before .loop .inv) (c .before .before .before .loop-test .taken) (c .before .before .before .before .before .before .pre .1)
 
 add-i : tie.Need-add-i Inv-loop μ-loop
 add-i c = search needs
@@ -35,7 +35,7 @@ loop-less : tie.Need-loop-less Inv-loop μ-loop
 loop-less c = search needs
 
 loop-again : tie.Need-loop-again Inv-loop μ-loop
-loop-again c = writing-next (c .before .before .before .before .before .before .before .loop .inv) (c .before .before .before .before .before .before .loop-test .taken) (c .before .before .put-command .ensures)
+loop-again c = writing-next (c .before .before .before .before .before .before .before .loop .inv) (c .before .before .before .before .before .before .loop-test .taken) (c .before .before .put-mode-condition .ensures)
 
 same-length : tie.Need-same-length Inv-loop μ-loop
 same-length c = writing-long (c .before .loop .inv)
@@ -50,10 +50,10 @@ put-mode-conditions-spec =
     Inv-loop
     μ-loop
     loop-holds
-    element-copy-out-t13
-    mul-t14
-    element-copy-out-t17
-    put-command-requires
+    element-copy-out-put-mode-condition
+    mul-put-mode-condition
+    element-copy-out-put-mode-condition-2
+    put-mode-condition-requires
     add-i
     loop-less
     loop-again

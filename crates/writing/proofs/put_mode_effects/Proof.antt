@@ -16,17 +16,17 @@ abbrev μ-loop : tie.MeasureT-loop
 loop-holds : tie.Need-loop-holds Inv-loop μ-loop
 loop-holds c = writing-start
 
-element-copy-out-t13 : tie.Need-element-copy-out-t13 Inv-loop μ-loop
-element-copy-out-t13 c = search needs
+element-copy-out-put-mode-effect : tie.Need-element-copy-out-put-mode-effect Inv-loop μ-loop
+element-copy-out-put-mode-effect c = search needs
 
-mul-t14 : tie.Need-mul-t14 Inv-loop μ-loop
-mul-t14 c = search needs
+mul-put-mode-effect : tie.Need-mul-put-mode-effect Inv-loop μ-loop
+mul-put-mode-effect c = search needs
 
-element-copy-out-t17 : tie.Need-element-copy-out-t17 Inv-loop μ-loop
-element-copy-out-t17 c = search needs
+element-copy-out-put-mode-effect-2 : tie.Need-element-copy-out-put-mode-effect-2 Inv-loop μ-loop
+element-copy-out-put-mode-effect-2 c = search needs
 
-put-command-requires : tie.Need-put-command-requires Inv-loop μ-loop
-put-command-requires c κs = writing-room (c .before .before .before .before .loop .inv) (c .before .before .before .loop-test .taken) (c .before .before .before .before .before .before .pre .1)
+put-mode-effect-requires : tie.Need-put-mode-effect-requires Inv-loop μ-loop
+put-mode-effect-requires c κs = writing-room (c .before .before .before .before .loop .inv) (c .before .before .before .loop-test .taken) (c .before .before .before .before .before .before .pre .1)
 
 add-i : tie.Need-add-i Inv-loop μ-loop
 add-i c = search needs
@@ -35,7 +35,7 @@ loop-less : tie.Need-loop-less Inv-loop μ-loop
 loop-less c = search needs
 
 loop-again : tie.Need-loop-again Inv-loop μ-loop
-loop-again c = writing-next (c .before .before .before .before .before .before .before .loop .inv) (c .before .before .before .before .before .before .loop-test .taken) (c .before .before .put-command .ensures)
+loop-again c = writing-next (c .before .before .before .before .before .before .before .loop .inv) (c .before .before .before .before .before .before .loop-test .taken) (c .before .before .put-mode-effect .ensures)
 
 same-length : tie.Need-same-length Inv-loop μ-loop
 same-length c = writing-long (c .before .loop .inv)
@@ -50,10 +50,10 @@ put-mode-effects-spec =
     Inv-loop
     μ-loop
     loop-holds
-    element-copy-out-t13
-    mul-t14
-    element-copy-out-t17
-    put-command-requires
+    element-copy-out-put-mode-effect
+    mul-put-mode-effect
+    element-copy-out-put-mode-effect-2
+    put-mode-effect-requires
     add-i
     loop-less
     loop-again

@@ -1,0 +1,5 @@
+pub mod Numbers
+pub mod Openings
+pub mod Sizes
+pub mod Stages
+pub mod Strokes
