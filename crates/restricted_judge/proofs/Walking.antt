@@ -5,7 +5,7 @@ use Prim.Native.Nat.{ℕ, _≤_, _<_}
 use native.Mathlib.Omega.{arith}
 use mathlib.Core.Option.{some}
 use mathlib.Core.List.{List}
-use lib.ListN.{length, getD, take, getElem?}
+use lib.ListN.{length, getD, take, getElem?, replicate, length-replicate}
 use lib.IntN.{ℤ}
 use Rattle.model.specs.Tasks.{RestrictedAction, State}
 use Rattle.model.specs.TaskOk.{RestrictedTaskOk}
@@ -21,6 +21,7 @@ use Rattle.restricted.proofs.Stepping.{accepted-amounts-fit, step-by-number}
 use Rattle.repeats.specs.declared.Run.the-variants.{Until, Stopped}
 use Rattle.repeats.specs.Runs.{judgingFrom, CanRun, Ran}
 use Rattle.repeats.proofs.Judged.{no-such-action}
+use Rattle.kept.specs.Slots.{rowsOf, Long}
 use Rattle.restricted_judge.specs.declared.Walk.the-variants.{Through, Ended}
 use Rattle.restricted_judge.specs.Judging.{Prepared, Walked}
 
@@ -92,3 +93,19 @@ module _ {file plan places : List ℕ} {count steps n m : ℕ} {sizes : List ℕ
           valuesBeyond = beyond-then (W .valuesBeyond) (R .valuesBeyond);
           modesBeyond = beyond-then (W .modesBeyond) (R .modesBeyond);
         }
+
+-- ---- tables of as many equal rows
+pub long-none : (counts variables relations : List ℕ) (constants : List ℤ) (modes values effects settings added : List ℕ) (amounts : List ℤ)
+    → Long 512 (rowsOf (replicate 512 counts) (replicate 512 variables) (replicate 512 relations) (replicate 512 constants) (replicate 512 modes) (replicate 512 values) (replicate 512 effects) (replicate 512 settings) (replicate 512 added) (replicate 512 amounts))
+long-none counts variables relations constants modes values effects settings added amounts = record {
+  counts = length-replicate 512 counts;
+  variables = length-replicate 512 variables;
+  relations = length-replicate 512 relations;
+  constants = length-replicate 512 constants;
+  modes = length-replicate 512 modes;
+  values = length-replicate 512 values;
+  effects = length-replicate 512 effects;
+  settings = length-replicate 512 settings;
+  added = length-replicate 512 added;
+  amounts = length-replicate 512 amounts;
+}

@@ -3,13 +3,12 @@
 use mathlib.Core.Path.{_≡_}
 use Prim.Native.Nat.{ℕ, _*_, _≤_}
 use mathlib.Core.List.{List}
-use lib.ListN.{length, getD, take, replicate}
+use lib.ListN.{length, take, replicate}
 use lib.IntN.{ℤ, pos}
 use Rattle.integers.specs.Numbers.{Bytes}
 use Rattle.lists.specs.Answer.{Answer, given, refused}
 use Rattle.model.specs.Tasks.{State}
 use Rattle.model.specs.Decoding.{readRestricted}
-use Rattle.model.specs.ActionBytes.{edgeOf}
 use Rattle.model.specs.Plans.{planNumbers}
 use Rattle.model.specs.Steps.{sizesOf}
 use Rattle.model.specs.Judging.{declaredPart, withRest}
@@ -17,6 +16,7 @@ use Rattle.restricted.specs.Changes.{stateOf, Beyond}
 use Rattle.restricted.specs.Step.{wholeIs}
 use Rattle.restricted.specs.Alone.{taskIn}
 use Rattle.repeats.specs.Runs.{judgingFrom}
+use Rattle.kept.specs.Placed.{Placed}
 use Rattle.restricted_judge.specs.declared.Verdict.{Verdict}
 use Rattle.restricted_judge.specs.declared.Verdict.the-variants.{Valid, Refused}
 use Rattle.restricted_judge.specs.declared.Judgement.{Judgement}
@@ -51,14 +51,6 @@ pub record AcceptedPlan (file plan : List ℕ) (count steps : ℕ) : Type 0 wher
   pub stepsAre : steps ≡ length (planNumbers plan)
   pub long : 2 * steps ≤ length plan
   pub few : steps ≤ 1000000
-
--- an accepted file, and where its actions stand
-pub record Placed (file places : List ℕ) (count : ℕ) : Type 0 where
-  pub bytes : Bytes file
-  pub accepted : readRestricted file ≡ given (taskIn file)
-  pub countIs : count ≡ length (taskIn file .actions)
-  pub placesAre : (k : ℕ) → k ≤ count → getD places k 0 ≡ edgeOf file k
-  pub few : count ≤ 16384
 
 -- beside it the places of the actions, and the sizes of the modes
 pub record Prepared (file plan places : List ℕ) (count steps m : ℕ) (sizes : List ℕ) : Type 0 where

@@ -1,7 +1,14 @@
-// The judge of restricted plans. It reads the file and the plan, takes each run of equal numbers by one call of `repeats`, and answers for
-// every input.
+// The judge of restricted plans. It reads the file and the plan, takes each run of equal numbers by one call of `repeats`, keeps the decoded
+// actions of a long plan (`kept`), and answers for every input.
+use actions::ADDITIONS;
+use actions::CONDITIONS;
 use actions::Goal;
+use actions::MODE_CONDITIONS;
+use actions::MODE_EFFECTS;
 use actions::RestrictedAction;
+use kept::COUNTS;
+use kept::PLACES;
+use kept::SLOTS;
 use planbytes::Counted;
 use repeats::Run;
 use restricted::MODES;
@@ -9,8 +16,7 @@ use restricted::State;
 use restricted::VARIABLES;
 ghost use mathlib.Core.Path.{_≡_};
 ghost use Prim.Native.Nat.{_<_, _≤_};
-ghost use mathlib.Core.Option.{some};
-ghost use lib.ListN.{take, getElem?};
+ghost use lib.ListN.{take};
 ghost use Rattle.restricted.specs.Step.{actionIs};
 ghost use Rattle.lists.specs.Answer.{refused};
 ghost use Rattle.model.specs.Plans.{planNumbers};
@@ -20,10 +26,14 @@ ghost use Rattle.model.specs.Steps.{goalHolds};
 ghost use Rattle.restricted.specs.Changes.{stateOf, Ready};
 ghost use Rattle.restricted.specs.Alone.{taskIn};
 ghost use Rattle.repeats.specs.Runs.{CanRun, Ran};
-ghost use Rattle.restricted_judge.specs.Judging.{judgementIs, judgementOf, Placed, AcceptedPlan, Prepared, Walked};
+ghost use Rattle.kept.specs.Slots.{rowsOf, Held};
+ghost use Rattle.restricted_judge.specs.Judging.{judgementIs, judgementOf, AcceptedPlan, Prepared, Walked};
 
-// The most actions of a restricted task, and one more: where its goal stands.
-const PLACES: usize = 16_385;
+// Of a plan of so many steps the actions are kept when they are decoded.
+const MANY_STEPS: usize = 4_096;
+
+// The tag of a slot that holds no action: it is no action's number.
+const NO_ACTION: u16 = 65_535;
 
 // What comes of a plan: valid, with its count of steps, or the number and place of the refusal.
 pub enum Verdict {
@@ -47,14 +57,6 @@ fn wide16(x: u16) -> usize
     ensures { λ r. ⌜ r ≡ x ⌝ }
 {
     x as usize
-}
-
-// Action k of the file.
-fn decode_action(file: &[u8], places: &[usize; PLACES], count: usize, k: usize) -> RestrictedAction
-    requires { ⌜ Placed (now file) (now places) count × (k < count) ⌝ }
-    ensures { λ r. ⌜ getElem? (taskIn (now (file .entry)) .actions) k ≡ some (actionIs r) ⌝ }
-{
-    actions::decode_restricted(actions::part(file, places[k], places[k + 1]))
 }
 
 // The steps of a plan from step `from` on, as long as they take action k.
@@ -122,7 +124,7 @@ fn judge_steps(
         if count <= number {
             return Walk::Ended(11, i as u64);
         }
-        let action = decode_action(file, places, count, number);
+        let action = kept::decode_action(file, places, count, number);
         let run = take_decoded(values, modes, n, m, sizes, action, k, plan, i, steps);
         match run {
             Run::Stopped(at) => return Walk::Ended(12, at as u64),
@@ -130,6 +132,160 @@ fn judge_steps(
         }
     }
     Walk::Through
+}
+
+// All steps of a plan, run by run: an action is decoded where its slot holds another.
+fn judge_kept(
+    file: &[u8],
+    places: &[usize; PLACES],
+    count: usize,
+    plan: &[u8],
+    steps: usize,
+    values: &mut [i64; VARIABLES],
+    modes: &mut [u16; MODES],
+    n: usize,
+    m: usize,
+    sizes: &[u16; MODES],
+    tags: &mut [u16; SLOTS],
+    counts: &mut [[usize; COUNTS]; SLOTS],
+    condition_variables: &mut [[u8; CONDITIONS]; SLOTS],
+    condition_relations: &mut [[u8; CONDITIONS]; SLOTS],
+    condition_constants: &mut [[i64; CONDITIONS]; SLOTS],
+    mode_condition_modes: &mut [[u8; MODE_CONDITIONS]; SLOTS],
+    mode_condition_values: &mut [[u16; MODE_CONDITIONS]; SLOTS],
+    effect_modes: &mut [[u8; MODE_EFFECTS]; SLOTS],
+    effect_values: &mut [[u16; MODE_EFFECTS]; SLOTS],
+    addition_variables: &mut [[u8; ADDITIONS]; SLOTS],
+    addition_amounts: &mut [[i64; ADDITIONS]; SLOTS],
+) -> Walk
+    requires { ⌜ Prepared (now file) (now plan) (now places) count steps m (now sizes) × Ready n m (now sizes) (now values) (now modes) ⌝ }
+    requires { ⌜ Held (now file) count (now tags) (rowsOf (now counts) (now «condition_variables») (now «condition_relations») (now «condition_constants») (now «mode_condition_modes»)
+        (now «mode_condition_values») (now «effect_modes») (now «effect_values») (now «addition_variables») (now «addition_amounts»)) ⌝ }
+    ensures { λ r. ⌜ Walked (now (file .entry)) (now (plan .entry)) steps n m (now (values .entry)) (now (modes .entry)) r (now (values .exit)) (now (modes .exit)) ⌝ }
+{
+    let mut i: usize = 0;
+    while i < steps {
+        let k = planbytes::action_of(plan, i);
+        let number = wide16(k);
+        if count <= number {
+            return Walk::Ended(11, i as u64);
+        }
+        let slot = number % SLOTS;
+        let run = kept::run_in_slot(
+            file,
+            places,
+            count,
+            values,
+            modes,
+            n,
+            m,
+            sizes,
+            tags,
+            counts,
+            condition_variables,
+            condition_relations,
+            condition_constants,
+            mode_condition_modes,
+            mode_condition_values,
+            effect_modes,
+            effect_values,
+            addition_variables,
+            addition_amounts,
+            slot,
+            k,
+            plan,
+            i,
+            steps,
+        );
+        match run {
+            Run::Stopped(step) => return Walk::Ended(12, step as u64),
+            Run::Until(next) => i = next,
+        }
+    }
+    Walk::Through
+}
+
+// The steps of a plan that has many.
+fn judge_many(
+    file: &[u8],
+    places: &[usize; PLACES],
+    count: usize,
+    plan: &[u8],
+    steps: usize,
+    values: &mut [i64; VARIABLES],
+    modes: &mut [u16; MODES],
+    n: usize,
+    m: usize,
+    sizes: &[u16; MODES],
+) -> Walk
+    requires { ⌜ Prepared (now file) (now plan) (now places) count steps m (now sizes) × Ready n m (now sizes) (now values) (now modes) ⌝ }
+    ensures { λ r. ⌜ Walked (now (file .entry)) (now (plan .entry)) steps n m (now (values .entry)) (now (modes .entry)) r (now (values .exit)) (now (modes .exit)) ⌝ }
+{
+    let no_counts = [0usize; COUNTS];
+    let no_bytes = [0u8; CONDITIONS];
+    let no_constants = [0i64; CONDITIONS];
+    let no_modes = [0u8; MODE_CONDITIONS];
+    let no_values = [0u16; MODE_CONDITIONS];
+    let no_effects = [0u8; MODE_EFFECTS];
+    let no_settings = [0u16; MODE_EFFECTS];
+    let no_variables = [0u8; ADDITIONS];
+    let no_amounts = [0i64; ADDITIONS];
+    let mut tags = [NO_ACTION; SLOTS];
+    let mut counts = [no_counts; SLOTS];
+    let mut condition_variables = [no_bytes; SLOTS];
+    let mut condition_relations = [no_bytes; SLOTS];
+    let mut condition_constants = [no_constants; SLOTS];
+    let mut mode_condition_modes = [no_modes; SLOTS];
+    let mut mode_condition_values = [no_values; SLOTS];
+    let mut effect_modes = [no_effects; SLOTS];
+    let mut effect_values = [no_settings; SLOTS];
+    let mut addition_variables = [no_variables; SLOTS];
+    let mut addition_amounts = [no_amounts; SLOTS];
+    judge_kept(
+        file,
+        places,
+        count,
+        plan,
+        steps,
+        values,
+        modes,
+        n,
+        m,
+        sizes,
+        &mut tags,
+        &mut counts,
+        &mut condition_variables,
+        &mut condition_relations,
+        &mut condition_constants,
+        &mut mode_condition_modes,
+        &mut mode_condition_values,
+        &mut effect_modes,
+        &mut effect_values,
+        &mut addition_variables,
+        &mut addition_amounts,
+    )
+}
+
+// The steps of a plan.
+fn walk_plan(
+    file: &[u8],
+    places: &[usize; PLACES],
+    count: usize,
+    plan: &[u8],
+    steps: usize,
+    values: &mut [i64; VARIABLES],
+    modes: &mut [u16; MODES],
+    n: usize,
+    m: usize,
+    sizes: &[u16; MODES],
+) -> Walk
+    requires { ⌜ Prepared (now file) (now plan) (now places) count steps m (now sizes) × Ready n m (now sizes) (now values) (now modes) ⌝ }
+    ensures { λ r. ⌜ Walked (now (file .entry)) (now (plan .entry)) steps n m (now (values .entry)) (now (modes .entry)) r (now (values .exit)) (now (modes .exit)) ⌝ }
+{
+    if steps < MANY_STEPS {
+        return judge_steps(file, places, count, plan, steps, values, modes, n, m, sizes);
+    }
+    judge_many(file, places, count, plan, steps, values, modes, n, m, sizes)
 }
 
 // Whether a goal is met, in a task with n variables and m modes.
@@ -177,7 +333,7 @@ fn judge_accepted(file: &[u8], count: usize, plan: &[u8], steps: usize) -> Judge
     let m = declared.modes;
     let mut places = [0usize; PLACES];
     actions::action_places(file, &mut places);
-    let walk = judge_steps(
+    let walk = walk_plan(
         file,
         &places,
         count,

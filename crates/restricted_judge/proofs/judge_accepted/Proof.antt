@@ -16,8 +16,8 @@ slice-aggregate-action-places c = search needs
 action-places-requires : tie.Need-action-places-requires
 action-places-requires c κs = search needs
 
-judge-steps-requires : tie.Need-judge-steps-requires
-judge-steps-requires c κs =
+walk-plan-requires : tie.Need-walk-plan-requires
+walk-plan-requires c κs =
     (prepared (c .before .before .before .before .before .before .before .before .before .before .before .before .before .pre) (c .before .before .before .before .before .before .before .read-restricted .ensures) _ (c .before .before .before .before .before .action-places .ensures), start-ready _ ((c .before .before .before .before .before .before .before .before .before .before .before .before .before .pre) .accepted) (c .before .before .before .before .before .before .before .read-restricted .ensures))
 
 enum-known-walk : tie.Need-enum-known-walk
@@ -27,7 +27,7 @@ refuse-requires : tie.Need-refuse-requires
 refuse-requires c κs = search needs
 
 returns : tie.Need-returns
-returns c = c .refuse .ensures ∙ ap judgementOf (judged-ended (c .before .before .before .before .before .before .before .before .before .before .before .before .before .before .before .before .before .before .pre) (c .before .before .before .before .before .before .before .before .before .before .before .before .read-restricted .ensures) (rw (c .before .before .walk .given .1) at (c .before .before .before .before .judge-steps .ensures)))
+returns c = c .refuse .ensures ∙ ap judgementOf (judged-ended (c .before .before .before .before .before .before .before .before .before .before .before .before .before .before .before .before .before .before .pre) (c .before .before .before .before .before .before .before .before .before .before .before .before .read-restricted .ensures) (rw (c .before .before .walk .given .1) at (c .before .before .before .before .walk-plan .ensures)))
 
 enum-told : tie.Need-enum-told
 enum-told c = search needs
@@ -47,11 +47,11 @@ refuse-requires-2 c κs = search needs
 returns-2 : tie.Need-returns-2
 returns-2 c =
     c .refuse2 .ensures
-    ∙ ap judgementOf (judged-unmet (c .before .before .before .before .before .before .before .before .before .before .before .before .before .before .before .before .before .before .before .before .before .before .before .pre) (c .before .before .before .before .before .before .before .before .before .before .before .before .before .before .before .before .before .read-restricted .ensures) (rw (c .before .before .before .before .before .before .before .enum-told .given .1) at (c .before .before .before .before .before .before .before .before .before .judge-steps .ensures)) (c .before .before .before .before .before .decode-goal .result) _ (c .before .before .before .before .before .before .goal-bytes .ensures) (c .before .before .before .before .before .decode-goal .ensures) (sym (not-true _ (c .before .if1 .taken)) ∙ c .before .before .goal-met .ensures))
+    ∙ ap judgementOf (judged-unmet (c .before .before .before .before .before .before .before .before .before .before .before .before .before .before .before .before .before .before .before .before .before .before .before .pre) (c .before .before .before .before .before .before .before .before .before .before .before .before .before .before .before .before .before .read-restricted .ensures) (rw (c .before .before .before .before .before .before .before .enum-told .given .1) at (c .before .before .before .before .before .before .before .before .before .walk-plan .ensures)) (c .before .before .before .before .before .decode-goal .result) _ (c .before .before .before .before .before .before .goal-bytes .ensures) (c .before .before .before .before .before .decode-goal .ensures) (sym (not-true _ (c .before .if1 .taken)) ∙ c .before .before .goal-met .ensures))
 
 returns-3 : tie.Need-returns-3
 returns-3 c =
-    judged-valid (c .before .before .before .before .before .before .before .before .before .before .before .before .before .before .before .before .before .before .before .before .before .before .pre) (c .before .before .before .before .before .before .before .before .before .before .before .before .before .before .before .before .read-restricted .ensures) (rw (c .before .before .before .before .before .before .enum-told .given .1) at (c .before .before .before .before .before .before .before .before .judge-steps .ensures)) (c .before .before .before .before .decode-goal .result) _ (c .before .before .before .before .before .goal-bytes .ensures) (c .before .before .before .before .decode-goal .ensures) (sym (not-false _ (c .if1 .left)) ∙ c .before .goal-met .ensures)
+    judged-valid (c .before .before .before .before .before .before .before .before .before .before .before .before .before .before .before .before .before .before .before .before .before .before .pre) (c .before .before .before .before .before .before .before .before .before .before .before .before .before .before .before .before .read-restricted .ensures) (rw (c .before .before .before .before .before .before .enum-told .given .1) at (c .before .before .before .before .before .before .before .before .walk-plan .ensures)) (c .before .before .before .before .decode-goal .result) _ (c .before .before .before .before .before .goal-bytes .ensures) (c .before .before .before .before .decode-goal .ensures) (sym (not-false _ (c .if1 .left)) ∙ c .before .goal-met .ensures)
 
 pub judge-accepted-spec : {M : Type 1} → statement M
 judge-accepted-spec =
@@ -60,7 +60,7 @@ judge-accepted-spec =
     read-restricted-requires
     slice-aggregate-action-places
     action-places-requires
-    judge-steps-requires
+    walk-plan-requires
     enum-known-walk
     refuse-requires
     returns

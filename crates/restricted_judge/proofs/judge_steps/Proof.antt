@@ -8,7 +8,7 @@ use Rattle.restricted_judge.proofs.judge_steps.Tie as tie
 use Rattle.restricted_judge.proofs.judge_steps.Reads as reads
 use Rattle.restricted_judge.proofs.judge_steps.Lts as lts
 use Rattle.planbytes.proofs.action_of.Reads as action-of-reads
-use Rattle.restricted_judge.proofs.decode_action.Reads as decode-action-reads
+use Rattle.kept.proofs.decode_action.Reads as decode-action-reads
 use Rattle.restricted_judge.proofs.take_decoded.Reads as take-decoded-reads
 use Rattle.restricted_judge.proofs.wide16.Reads as wide16-reads
 

@@ -1,10 +1,10 @@
--- `restricted_judge::decode_action` meets its contract. Assumes nothing.
-use Rattle.restricted_judge.proofs.Placing.{action-is}
+-- `kept::decode_action` meets its contract. Assumes nothing.
+use Rattle.kept.proofs.Placing.{action-is}
 use borrow.Author.Needs.{needs}
-use Rattle.restricted_judge.proofs.decode_action.Statement.{statement}
-use Rattle.restricted_judge.proofs.decode_action.Tie as tie
-use Rattle.restricted_judge.proofs.decode_action.Reads as reads
-use Rattle.restricted_judge.proofs.decode_action.Lts as lts
+use Rattle.kept.proofs.decode_action.Statement.{statement}
+use Rattle.kept.proofs.decode_action.Tie as tie
+use Rattle.kept.proofs.decode_action.Reads as reads
+use Rattle.kept.proofs.decode_action.Lts as lts
 use Rattle.actions.proofs.decode_restricted.Reads as decode-restricted-reads
 use Rattle.actions.proofs.part.Reads as part-reads
 

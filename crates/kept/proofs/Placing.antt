@@ -15,7 +15,7 @@ use Rattle.actions.specs.Views.{restrictedActionIs, fittingRestricted}
 use Rattle.restricted.specs.Alone.{taskIn}
 use Rattle.restricted.specs.Step.{actionIs}
 use Rattle.restricted.proofs.Decoded.{is-action}
-use Rattle.restricted_judge.specs.Judging.{Placed}
+use Rattle.kept.specs.Placed.{Placed}
 
 pub action-is : {file places : List ℕ} {count k : ℕ} → Placed file places count → k < count → (bytes : List ℕ) → bytes ≡ partOf file (getD places k 0) (getD places (k + 1) 0)
     → (a : DecodedRestricted) → restrictedActionIs a ≡ fittingRestricted (restrictedActionOf (decodeAction bytes)) → getElem? (taskIn file .actions) k ≡ some (actionIs a)
