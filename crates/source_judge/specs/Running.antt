@@ -1,0 +1,19 @@
+-- Rows of some task and a state of it; and the steps of a plan that were taken from there, whichever bounds and sizes the task has.
+-- Assumes nothing.
+use Prim.Native.Nat.{ℕ}
+use mathlib.Core.List.{List}
+use lib.IntN.{ℤ}
+use Rattle.source.specs.declared.Progress.{Progress}
+use Rattle.source.specs.Step.{Shaped}
+use Rattle.rows.specs.Ready.{Standing, Ran}
+
+-- the rows and the state are those of a task with some bounds and sizes
+pub record Stands (count : ℕ) (marks : List (List ℕ)) (numbers : List (List ℤ)) (n m : ℕ) (values : List ℤ) (modes : List ℕ) : Type 0 where
+  pub lower : List ℤ
+  pub upper : List ℤ
+  pub sizes : List ℕ
+  pub standing : Standing count marks numbers n lower upper m sizes values modes
+
+-- the steps were taken, with whichever bounds and sizes
+pub record Taken (p : List ℕ) (count : ℕ) (marks : List (List ℕ)) (numbers : List (List ℤ)) (n m : ℕ) (values : List ℤ) (modes : List ℕ) (r : Progress) (values′ : List ℤ) (modes′ : List ℕ) : Type 0 where
+  pub ran : (lower upper : List ℤ) (sizes : List ℕ) → Shaped n m values modes sizes → Ran p count marks numbers n lower upper m sizes values modes r values′ modes′
