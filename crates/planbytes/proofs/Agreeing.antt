@@ -1,6 +1,6 @@
 -- The laws of a plan's agreement with a run, counted four numbers at a time and then one at a time.
 -- Assumes nothing.
-use mathlib.Core.Path.{_≡_, refl, ap, _∙_}
+use mathlib.Core.Path.{_≡_, refl, sym, ap, _∙_}
 use Prim.Native.Nat.{ℕ, zero, suc, min, _+_, _*_, _-_, _/_, _≤_, _<_}
 use native.Mathlib.Nat.{zero-add}
 use native.Mathlib.Numerals.{add-one}
@@ -14,7 +14,7 @@ use borrow.Author.Tests.{eq-eqb, ne-eqb}
 use Rattle.lists.specs.Numbers.{halves}
 use Rattle.lists.proofs.Numbers.{length-halves}
 use Rattle.model.specs.Following.{agreeing}
-use Rattle.planbytes.specs.Agreeing.{numberAt, Passed}
+use Rattle.planbytes.specs.Agreeing.{numberAt, Small, fourAt, fourOf, Passed}
 use Rattle.planbytes.proofs.Halves.{half-at}
 
 -- ---- a plan's numbers from step `at` on
@@ -69,8 +69,8 @@ record Same (k a x y : ℕ) : Type 0 where
 low-same : (k a x y : ℕ) → k < 65536 → a < 65536 → a + 65536 * x ≡ k + 65536 * y → Same k a x y
 low-same k a x y h l e = record { low = omega arith; rest = omega arith }
 
-pub four-same : (k a b c d : ℕ) → k < 65536 → a < 65536 → b < 65536 → c < 65536 → d < 65536
-    → a + 65536 * b + 4294967296 * c + 281474976710656 * d ≡ k + 65536 * k + 4294967296 * k + 281474976710656 * k → Four k a b c d
+four-same : (k a b c d : ℕ) → k < 65536 → a < 65536 → b < 65536 → c < 65536 → d < 65536
+    → a + 65536 * b + 4294967296 * c + 281474976710656 * d ≡ fourOf k → Four k a b c d
 four-same k a b c d hk ha hb hc hd e =
     let p = low-same k a (b + 65536 * (c + 65536 * d)) (k + 65536 * (k + 65536 * k)) hk ha (omega arith) in
     let q = low-same k b (c + 65536 * d) (k + 65536 * k) hk hb (p .rest) in
@@ -78,7 +78,7 @@ four-same k a b c d hk ha hb hc hd e =
     record { first = p .low; second = q .low; third = r .low; fourth = r .rest }
 
 -- the scan goes on by four
-pub passed-four : {k : ℕ} {xs : List ℕ} {m i : ℕ} → Passed k xs m i → i + 4 ≤ m → Four k (getD xs i 0) (getD xs (i + 1) 0) (getD xs (i + 2) 0) (getD xs (i + 3) 0) → Passed k xs m (i + 4)
+passed-four : {k : ℕ} {xs : List ℕ} {m i : ℕ} → Passed k xs m i → i + 4 ≤ m → Four k (getD xs i 0) (getD xs (i + 1) 0) (getD xs (i + 2) 0) (getD xs (i + 3) 0) → Passed k xs m (i + 4)
 passed-four {k} {xs} {m} {i} p l f =
     let e₂ : i + 1 + 1 ≡ i + 2 = omega arith in
     let e₃ : i + 2 + 1 ≡ i + 3 = omega arith in
@@ -87,3 +87,13 @@ passed-four {k} {xs} {m} {i} p l f =
     let p₂ = rw e₂ at (passed-next p₁ (omega arith) (f .second)) in
     let p₃ = rw e₃ at (passed-next p₂ (omega arith) (f .third)) in
     rw e₄ at (passed-next p₃ (omega arith) (f .fourth))
+
+pub passed-block : (s : List ℕ) (at : ℕ) {m i k : ℕ} → Passed k (drop at (halves s)) m i → 2 * (at + m) ≤ length s → i + 4 ≤ m → k < 65536
+    → {p : ℕ} → p ≡ 2 * (at + i) → {r : ℕ} → (r ≡ fourAt s p) × Small s p × Small s (p + 2) × Small s (p + 4) × Small s (p + 6) → r ≡ fourOf k → Passed k (drop at (halves s)) m (i + 4)
+passed-block s at {m} {i} {k} P room l b {p} place f e =
+    let e₁ : 2 * (at + (i + 1)) ≡ p + 2 = omega arith in
+    let e₂ : 2 * (at + (i + 2)) ≡ p + 4 = omega arith in
+    let e₃ : 2 * (at + (i + 3)) ≡ p + 6 = omega arith in
+    passed-four P l
+    (rw (number-at s at i (omega arith), number-at s at (i + 1) (omega arith), number-at s at (i + 2) (omega arith), number-at s at (i + 3) (omega arith), e₁, e₂, e₃, sym place)
+    (four-same k (numberAt s p) (numberAt s (p + 2)) (numberAt s (p + 4)) (numberAt s (p + 6)) b (f .1) (f .2) (f .3) (f .4) (sym (f .0) ∙ e)))

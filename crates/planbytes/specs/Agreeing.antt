@@ -17,6 +17,9 @@ Small bytes place = numberAt bytes place < 65536
 abbrev pub fourAt : List ℕ → ℕ → ℕ
 fourAt bytes place = numberAt bytes place + 65536 * numberAt bytes (place + 2) + 4294967296 * numberAt bytes (place + 4) + 281474976710656 * numberAt bytes (place + 6)
 
+abbrev pub fourOf : ℕ → ℕ
+fourOf k = k + 65536 * k + 4294967296 * k + 281474976710656 * k
+
 -- in front of xs, i of m numbers were found to be k: what is left gives what the whole gives
 pub record Passed (k : ℕ) (xs : List ℕ) (m i : ℕ) : Type 0 where
   pub room : m ≤ length xs

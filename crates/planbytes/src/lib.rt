@@ -5,7 +5,7 @@ ghost use Prim.Native.Nat.{min, _+_, _*_, _<_, _≤_};
 ghost use lib.ListN.{length, getD, drop, replicate};
 ghost use Rattle.model.specs.Plans.{planNumbers};
 ghost use Rattle.model.specs.Following.{agreeing};
-ghost use Rattle.planbytes.specs.Agreeing.{numberAt, Small, fourAt, Passed};
+ghost use Rattle.planbytes.specs.Agreeing.{numberAt, Small, fourAt, fourOf, Passed};
 ghost use Rattle.planbytes.specs.Counted.{countedIs, countOf};
 
 // What the bytes of a plan are: so many steps, or the refusal 10 with their length.
@@ -75,16 +75,50 @@ fn four_at(plan: &[u8], place: usize) -> u64
         + 281474976710656 * number_at(plan, place + 6)
 }
 
-// Of `most` numbers from step `at` on, so many blocks of four as are `number`.
-fn matches_fours(plan: &[u8], at: usize, number: u16, most: usize) -> usize
+// Four times the same number, as one of 64 bits.
+fn four_of(number: u16) -> u64
+    ensures { λ r. ⌜ r ≡ fourOf number ⌝ }
+{
+    let k = number as u64;
+    k + 65536 * k + 4294967296 * k + 281474976710656 * k
+}
+
+// Of `most` numbers from step `at` on, so many blocks of sixteen as are `number`.
+fn matches_sixteens(plan: &[u8], at: usize, number: u16, most: usize) -> usize
     requires { ⌜ 2 * (at + most) ≤ length (now plan) ⌝ }
     ensures { λ r. ⌜ Passed number (drop at (planNumbers (now (plan .entry)))) most r ⌝ }
 {
-    let k = number as u64;
-    let pattern = k + 65536 * k + 4294967296 * k + 281474976710656 * k;
+    let four = four_of(number);
     let mut i: usize = 0;
+    while most - i >= 16 {
+        let place = 2 * (at + i);
+        if four_at(plan, place) != four {
+            return i;
+        }
+        if four_at(plan, place + 8) != four {
+            return i;
+        }
+        if four_at(plan, place + 16) != four {
+            return i;
+        }
+        if four_at(plan, place + 24) != four {
+            return i;
+        }
+        i += 16;
+    }
+    i
+}
+
+// The same by blocks of four, where the first so many have been found to be `number`.
+fn matches_fours(plan: &[u8], at: usize, number: u16, most: usize, passed: usize) -> usize
+    requires { ⌜ 2 * (at + most) ≤ length (now plan) ⌝ }
+    requires { ⌜ Passed number (drop at (planNumbers (now plan))) most passed ⌝ }
+    ensures { λ r. ⌜ Passed number (drop at (planNumbers (now (plan .entry)))) most r ⌝ }
+{
+    let four = four_of(number);
+    let mut i = passed;
     while most - i >= 4 {
-        if four_at(plan, 2 * (at + i)) != pattern {
+        if four_at(plan, 2 * (at + i)) != four {
             return i;
         }
         i += 4;
@@ -92,7 +126,7 @@ fn matches_fours(plan: &[u8], at: usize, number: u16, most: usize) -> usize
     i
 }
 
-// The same one at a time, where the first so many have been found to be `number`.
+// The same one at a time.
 fn matches_ones(plan: &[u8], at: usize, number: u16, most: usize, passed: usize) -> usize
     requires { ⌜ 2 * (at + most) ≤ length (now plan) ⌝ }
     requires { ⌜ Passed number (drop at (planNumbers (now plan))) most passed ⌝ }
@@ -115,6 +149,7 @@ pub fn matches_run(plan: &[u8], at: usize, number: u16, count: usize) -> usize
     ensures { λ r. ⌜ r ≡ agreeing (replicate count number) (drop at (planNumbers (now (plan .entry)))) ⌝ }
 {
     let most = lesser(count, plan.len() / 2 - at);
-    let passed = matches_fours(plan, at, number, most);
-    matches_ones(plan, at, number, most, passed)
+    let sixteens = matches_sixteens(plan, at, number, most);
+    let fours = matches_fours(plan, at, number, most, sixteens);
+    matches_ones(plan, at, number, most, fours)
 }

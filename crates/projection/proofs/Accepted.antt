@@ -1,18 +1,21 @@
 -- What is decoded of an accepted file is its task, and its tables are those of the task's lowering.
 -- Assumes nothing.
 use mathlib.Core.Path.{_≡_, refl, sym, ap, ap₂, _∙_, subst}
-use Prim.Native.Nat.{ℕ, suc, _≤_, _<_}
+use Prim.Native.Nat.{ℕ, suc, _%_, _≤_, _<_}
 use native.Mathlib.Omega.{arith}
-use mathlib.Core.Bool.{true}
+use mathlib.Core.Bool.{Bool, true, false, cond}
 use mathlib.Core.List.{List, [], _∷_}
+use lib.Dec.{eqb, ltb}
 use lib.ListN.{length, getD, getElem?, take}
 use lib.Seq.{length-take-le}
 use lib.IntN.{ℤ}
+use borrow.Author.Tests.{ltb-false}
 use Rattle.lists.specs.Answer.{Answer, given, refused, then}
 use Rattle.lists.specs.declared.Written.{Written}
 use Rattle.lists.specs.declared.Written.the-variants.{Refused}
 use Rattle.lists.specs.Written.{Lent}
 use Rattle.lists.proofs.Lent.{refusal}
+use Rattle.lists.proofs.Numbers.{length-halves}
 use Rattle.model.specs.Tasks.{SourceAction, SourceTask, State}
 use Rattle.model.specs.TaskOk.{SourceTaskOk}
 use Rattle.model.specs.Limits.{sourceLimits}
@@ -20,14 +23,16 @@ use Rattle.model.specs.Reading.{Verdict as FileVerdict, Rejected, verdictOf}
 use Rattle.model.specs.Steps.{integerAt, lowerBounds, upperBounds, sizesOf, sourceStart, soundSource}
 use Rattle.model.specs.Stages.{opening}
 use Rattle.model.specs.Decoding.{onVerdict, readSource}
-use Rattle.model.specs.Plans.{readPlan}
+use Rattle.model.specs.Plans.{planNumbers, readPlan}
 use Rattle.model.specs.Judging.{declaredPart, projectBytes}
 use Rattle.model.specs.Following.{projectFrom}
+use Rattle.model.proofs.Answers.{Gives, given-injective}
 use Rattle.model.proofs.Pairing.{some-injective}
 use Rattle.model.proofs.ReadingLaws.{length-each}
 use Rattle.model.proofs.GuardedPairing.{within-bounds-is-sound}
 use Rattle.model.proofs.LoweredOk.{accepted}
 use Rattle.model.proofs.Following.{projecting-follows}
+use Rattle.planbytes.specs.Counted.{countOf}
 use Rattle.actions.specs.declared.SourceAction.{SourceAction as DecodedSource}
 use Rattle.actions.specs.declared.Goal.{Goal}
 use Rattle.declarations.specs.declared.Declared.{Declared}
@@ -87,14 +92,24 @@ module _ {t : SourceTask} {d : Declared} {lower upper start : List ℤ} {sizes v
       ∙ within-bounds-is-sound (length (t .variables)) (length (t .modes)) (lowerBounds t) (upperBounds t) (sizesOf (t .modes)) (sourceStart t) (A .valuesLength, A .modesLength, A .good, A .below))
 
   module _ {table : List DecodedSource} {total : ℕ} {sources : List ℕ} (L : Lowered t table (d .variables) lower upper (d .modes) sizes total sources) where
-    pub posed : {q : List ℕ} {goal : Goal} → Aims q table (d .variables) lower upper (d .modes) sizes sources start values total goal t → Posed q table (d .variables) lower upper (d .modes) sizes sources start values total goal
-    posed a = record { placed = record { task = t; lowered = L; shaped = shaped; sound = starts-sound (L .ready .ok) }; aims = a }
+    pub posed : {q : List ℕ} {goal : Goal} → length q ≤ 1_000_000 → Aims q table (d .variables) lower upper (d .modes) sizes sources start values total goal t → Posed q table (d .variables) lower upper (d .modes) sizes sources start values total goal
+    posed h a = record { placed = record { task = t; lowered = L; shaped = shaped; sound = starts-sound (L .ready .ok) }; aims = a; starts = H .startIs; few = h }
 
     -- from there the plan projects as from the task's start
     pub from-start : {q : List ℕ} {goal : Goal} {old after : List ℕ} {r : Written} → Aims q table (d .variables) lower upper (d .modes) sizes sources start values total goal t
         → Projected q table (d .variables) lower upper (d .modes) sizes sources start values total goal old after r
         → Lent old (asBytes (projectFrom t (length q) 0 q (sourceStart t))) after r
     from-start {q} {goal} {old} {after} {r} a P = subst (λ (x : State). Lent old (asBytes (projectFrom t (length q) 0 q x)) after r) (H .startIs) (P .meets t L a)
+
+-- ---- the plan
+pub few-steps : (plan : List ℕ) (n : ℕ) → given n ≡ countOf plan → n ≤ 1_000_000
+unfolding readPlan
+few-steps plan n = go (eqb (length plan % 2) 1) (ltb 2_000_000 (length plan)) refl
+  where
+    go : (a b : Bool) → ltb 2_000_000 (length plan) ≡ b → given n ≡ then (cond a (refused 10 (length plan)) (cond b (refused 10 (length plan)) (given (planNumbers plan)))) (λ p. given (length p)) → n ≤ 1_000_000
+    go true b r e = absurd (subst Gives e tt)
+    go false true r e = absurd (subst Gives e tt)
+    go false false r e = omega (arith, given-injective e, length-halves plan, ltb-false 2_000_000 (length plan) r)
 
 -- ---- the three ways of projecting
 module _ (file plan old : List ℕ) where

@@ -8,21 +8,32 @@ use mathlib.Core.List.{List}
 use lib.ListN.{length}
 use lib.IntN.{ℤ}
 use Rattle.lists.specs.Answer.{given, refused}
+use Rattle.lists.specs.Writing.{Room, Wrote}
 use Rattle.lists.specs.declared.Written.the-variants.{Bytes, Refused}
 use Rattle.lists.proofs.Numbers.{length-numbers}
+use Rattle.lists.proofs.Writing.{wrote-as}
 use Rattle.lists.proofs.Lent.{refusal, too-short, written}
+use Rattle.model.specs.Systems.{keep}
 use Rattle.model.specs.Tasks.{SourceTask}
-use Rattle.model.specs.Steps.{goalHolds, sourceGoalHolds}
+use Rattle.model.specs.Steps.{lowerBounds, upperBounds, goalHolds, sourceGoalHolds}
+use Rattle.model.specs.Stages.{sourceNumber}
+use Rattle.model.specs.Lowering.{lowerTask}
+use Rattle.model.specs.Expansion.{projectTask}
 use Rattle.model.specs.Plans.{planBytes}
-use Rattle.model.specs.Judging.{declaredPart}
+use Rattle.model.specs.Judging.{declaredPart, judgeRestrictedTask}
+use Rattle.model.specs.Following.{projectFrom}
+use Rattle.model.proofs.Answers.{given-injective, then-gives}
+use Rattle.model.proofs.Following.{task-follows}
 use Rattle.actions.specs.declared.SourceAction.{SourceAction as DecodedSource}
 use Rattle.actions.specs.declared.Goal.{Goal}
 use Rattle.source.specs.Step.{state}
 use Rattle.source.specs.Judged.{goalModesIn, goalConditionsIn}
 use Rattle.projection.specs.declared.Followed.{Followed}
 use Rattle.projection.specs.declared.Followed.the-variants.{Ended, Stopped}
+use Rattle.projection.specs.Sources.{sourceIn}
 use Rattle.projection.specs.Following.{followedTo, foundIn, Lowered, PlanFollowed}
-use Rattle.projection.specs.Projecting.{asBytes, reachedTo, projected, Projectable, SourcesPut, Aims, Posed, Reached, Projected}
+use Rattle.projection.specs.Projecting.{asBytes, reachedTo, projected, Aims, Posed, Reached, Projected}
+use Rattle.projection.proofs.Putting.{keep-alike}
 
 -- ---- to the goal
 module _ {q : List ℕ} {table : List DecodedSource} {n : ℕ} {lower upper : List ℤ} {m : ℕ} {sizes : List ℕ} {total : ℕ} {sources : List ℕ} {values : List ℤ} {modes : List ℕ} {r : Followed} {values′ : List ℤ} {modes′ : List ℕ}
@@ -71,15 +82,18 @@ module _ {q : List ℕ} {table : List DecodedSource} {n : ℕ} {lower upper : Li
     pub when-short : length old < 2 * found → Projected q table n lower upper m sizes sources values modes total goal old old (Refused 8 (2 * found))
     when-short s = record { meets = λ t L a. too-short (ap asBytes (reaches t L a)) bytes-needed s }
 
-    module _ (h : 2 * found ≤ length old) where
-      pub projectable : Posed q table n lower upper m sizes sources values modes total goal → Projectable q table n lower upper m sizes sources values modes old
-      projectable p = record {
-        total = total;
-        placed = p .placed;
-        numbers = F .numbers;
-        projects = reaches (p .placed .task) (p .placed .lowered) (p .aims);
-        room = record { fits = omega (arith, bytes-needed) };
-      }
+    -- from the task's start on, what the plan projects to is what is kept of it
+    module _ (h : 2 * found ≤ length old) (p : Posed q table n lower upper m sizes sources values modes total goal) where
+      kept : F .numbers ≡ keep (sourceIn sources) q
+      kept =
+          let t = p .placed .task in
+          let L = p .placed .lowered in
+          let (v, j, e) = then-gives (judgeRestrictedTask (lowerTask t) q) (λ v. given (projectTask t q)) (F .numbers)
+          (task-follows t (L .ready .ok) q (p .few) ∙ ap (projectFrom t (length q) 0 q) (sym (p .starts)) ∙ reaches t L (p .aims)) in
+          sym (given-injective e) ∙ sym (keep-alike (sourceIn sources) (sourceNumber (lowerBounds t) (upperBounds t) (t .actions)) (L .numbered) q)
 
-      pub when-written : {after : List ℕ} {next : ℕ} → SourcesPut q table n lower upper m sizes sources values modes old after next → Projected q table n lower upper m sizes sources values modes total goal old after (Bytes (2 * found))
-      when-written w = record { meets = λ t L a. written (ap asBytes (reaches t L a)) bytes-needed h (w .meets total t L (F .numbers) (reaches t L a)) }
+      pub puttable : Room old 0 (planBytes (keep (sourceIn sources) q))
+      puttable = record { fits = omega (arith, bytes-needed, ap (λ (l : List ℕ). length (planBytes l)) kept) }
+
+      pub when-written : {after : List ℕ} {next : ℕ} → Wrote old 0 (planBytes (keep (sourceIn sources) q)) after next → Projected q table n lower upper m sizes sources values modes total goal old after (Bytes (2 * found))
+      when-written w = record { meets = λ t L a. written (ap asBytes (reaches t L a)) bytes-needed h (wrote-as (ap planBytes (sym kept)) w) }

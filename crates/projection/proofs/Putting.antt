@@ -1,184 +1,104 @@
--- The loop that writes the source numbers that a plan projects to: what is left of the plan projects to the numbers that are left to write.
+-- The scan that writes the source numbers of a plan's openings: those of what is left of the plan are left to write.
 -- Assumes nothing.
-use mathlib.Core.Path.{_≡_, refl, sym, ap, _∙_, subst}
-use Prim.Native.Nat.{ℕ, suc, min, _+_, _-_, _≤_, _<_}
+use mathlib.Core.Path.{_≡_, refl, sym, ap, _∙_}
+use Prim.Native.Nat.{ℕ, zero, suc, _+_, _≤_, _<_}
+use native.Mathlib.Numerals.{add-one}
 use native.Mathlib.Omega.{arith}
 use mathlib.Core.Bool.{Bool, true, false, cond}
+use mathlib.Core.Option.{Option, none, some}
 use mathlib.Core.List.{List, [], _∷_, _++_, append-assoc, append-nil}
-use lib.Dec.{ltb, eqb}
-use lib.ListN.{length, getD, take, drop, length-drop, drop-of-length-le}
-use lib.Seq.{drop-drop}
-use lib.IntN.{ℤ}
-use borrow.Author.Tests.{ltb-true, ltb-false, eqb-true}
+use lib.Dec.{eqb}
+use lib.ListN.{length, getD, drop, replicate, length-drop, drop-of-length-le}
+use lib.Seq.{drop-cons, drop-drop}
+use borrow.Author.Tests.{eqb-true, eq-eqb, lt-ltb, le-ltb}
 use Rattle.integers.specs.Numbers.{bytesOf}
-use Rattle.lists.specs.Answer.{Answer, given, refused, then}
 use Rattle.lists.specs.Writing.{Room, Wrote}
-use Rattle.lists.proofs.Writing.{Left, start, step, done, recast, wrote-long, wrote-as, room-as}
-use Rattle.model.specs.Tasks.{SourceTask}
-use Rattle.model.specs.Steps.{integerAt, sourceGoalHolds}
-use Rattle.model.specs.Expansion.{priceOfEffect}
+use Rattle.lists.proofs.Writing.{Left, start, step, done, recast, room, long}
+use Rattle.model.specs.Systems.{orEmpty, keep}
 use Rattle.model.specs.Plans.{planBytes}
-use Rattle.model.specs.Judging.{declaredPart}
-use Rattle.model.specs.Following.{agreeing, strayed, pastMacro, intoMacro, projectFrom}
-use Rattle.model.proofs.Answers.{Gives, given-injective}
-use Rattle.model.proofs.FollowingBound.{any-bound-will-do}
-use Rattle.actions.specs.declared.SourceAction.{SourceAction as DecodedSource}
-use Rattle.source.specs.Parts.{effectFits}
-use Rattle.source.specs.Step.{state, actionIs, Tried}
-use Rattle.projection.specs.Sources.{entryAt}
-use Rattle.projection.specs.Following.{opensIn, Lowered, Placed}
-use Rattle.projection.specs.Projecting.{projected, Projectable, SourcesPut}
+use Rattle.model.specs.Following.{agreeing}
 use Rattle.model.proofs.FollowingWalks.{agreeing-there}
-use Rattle.projection.proofs.Numbers.{numbers-length}
-use Rattle.projection.proofs.Turn.{at-the-end, stays-sound, strays-here, fits-here, Behind, numbersHere, turns}
+use Rattle.projection.specs.Sources.{entryAt, named, sourceIn}
 
--- ---- a plan that projects to numbers doesn't stray
-never : {A : Type 0} (c i : ℕ) (l : List ℕ) (p : A) → strayed c i l ≡ given p → ⊥
-never c i [] p e = subst Gives (sym e) tt
-never c i (k ∷ l) p e = go (ltb k c) e
-  where
-    go : (b : Bool) → cond b (refused 12 i) (refused 11 i) ≡ given p → ⊥
-    go true e = subst Gives (sym e) tt
-    go false e = subst Gives (sym e) tt
+-- ---- what is kept of a list that begins with a number
+module _ (rename : ℕ → Option ℕ) where
+  keep-opening : (k a : ℕ) (xs : List ℕ) → rename k ≡ some a → keep rename (k ∷ xs) ≡ a ∷ keep rename xs
+  keep-opening k a xs e = ap (λ (o : Option ℕ). orEmpty o (λ b. b ∷ []) ++ keep rename xs) e
 
-first-of : (a : ℕ) (v : Answer (List ℕ)) (r : List ℕ) → then v (λ p. given (a ∷ p)) ≡ given r → (p : List ℕ) × (v ≡ given p) × (r ≡ a ∷ p)
-first-of a (given p) r e = (p, refl, sym (given-injective e))
-first-of a (refused number place) r e = absurd (subst Gives (sym e) tt)
+  keep-other : (k : ℕ) (xs : List ℕ) → rename k ≡ none → keep rename (k ∷ xs) ≡ keep rename xs
+  keep-other k xs e = ap (λ (o : Option ℕ). orEmpty o (λ b. b ∷ []) ++ keep rename xs) e
 
-none-left : (met : Bool) (i : ℕ) (r : List ℕ) → cond met (given []) (refused 13 i) ≡ given r → r ≡ []
-none-left true i r e = sym (given-injective e)
-none-left false i r e = absurd (subst Gives (sym e) tt)
-
-module _ {t : SourceTask} {table : List DecodedSource} {n : ℕ} {lower upper : List ℤ} {m : ℕ} {sizes : List ℕ} {total : ℕ} {sources : List ℕ} (L : Lowered t table n lower upper m sizes total sources)
-    (q : List ℕ) (i k : ℕ) (is : k ≡ getD q i 0) (h : i < length q) {a : ℕ} (e : a ≡ entryAt sources k) (values : List ℤ) (modes : List ℕ) {r : List ℕ} (rest : projectFrom t (length q) i (drop i q) (declaredPart n m (state values modes)) ≡ given r) where
-  -- a source action stands here
-  pub has-source : a < 32
-  has-source = go (ltb a 32) refl
+  -- nothing of a run of a number that opens nothing
+  keep-past : (k : ℕ) → rename k ≡ none → (most : ℕ) (xs : List ℕ) → keep rename xs ≡ keep rename (drop (agreeing (replicate most k) xs) xs)
+  keep-past k e zero xs = refl
+  keep-past k e (suc most) [] = refl
+  keep-past k e (suc most) (x ∷ xs) = go (eqb k x) refl (keep-past k e most xs)
     where
-      go : (b : Bool) → ltb a 32 ≡ b → a < 32
-      go true f = ltb-true a 32 f
-      go false f = absurd (never total i (drop i q) r (sym (strays-here L k e q i (declaredPart n m (state values modes)) is h (ltb-false a 32 f)) ∙ rest))
+      go : (b : Bool) → eqb k x ≡ b → keep rename xs ≡ keep rename (drop (agreeing (replicate most k) xs) xs) → keep rename (x ∷ xs) ≡ keep rename (drop (cond b (suc (agreeing (replicate most k) xs)) zero) (x ∷ xs))
+      go true f h = keep-other x xs (ap rename (sym (eqb-true k x f)) ∙ e) ∙ h
+      go false f h = refl
 
-  module _ (d : DecodedSource) {b : Bool} {values′ : List ℤ} {modes′ : List ℕ} (T : Tried n m lower upper sizes values modes (actionIs (getD table a d)) b values′ modes′) {size : ℕ} (sized : size ≡ priceOfEffect (actionIs (getD table a d) .effect) (integerAt (take n values))) where
-    abbrev ns : List ℕ
-    ns = numbersHere L k e has-source d T q i
+-- what is kept by two ways of renaming that agree
+pub keep-alike : (f g : ℕ → Option ℕ) → ((k : ℕ) → f k ≡ g k) → (xs : List ℕ) → keep f xs ≡ keep g xs
+keep-alike f g h [] = refl
+keep-alike f g h (k ∷ xs) = ap (λ (o : Option ℕ). orEmpty o (λ b. b ∷ []) ++ keep f xs) (h k) ∙ ap (λ (l : List ℕ). orEmpty (g k) (λ b. b ∷ []) ++ l) (keep-alike f g h xs)
 
-    abbrev onward : ℕ → List ℕ → Answer (List ℕ)
-    onward = Behind L k e has-source d T q i
+-- a run begins with the number that it is of
+run-some : (k most : ℕ) (xs : List ℕ) → 0 < most → 0 < length xs → k ≡ getD xs 0 0 → 1 ≤ agreeing (replicate most k) xs
+run-some k zero xs h l e = absurd (omega arith)
+run-some k (suc most) [] h l e = absurd (omega arith)
+run-some k (suc most) (x ∷ xs) h l e = rw (eq-eqb k x e) (omega arith)
 
-    long : size ≡ length ns
-    long = sized ∙ sym (numbers-length k (actionIs (getD table a d) .effect) (integerAt (take n values)))
-
-    -- it applies, the plan has all its numbers, and its number is the first that the plan projects to
-    pub record Passed : Type 0 where
-      pub applied : b ≡ true
-      pub further : (i < i + size) × (i + size ≤ length q)
-      pub numbers : List ℕ
-      pub splits : r ≡ a ∷ numbers
-      pub projects : projectFrom t (length q) (i + size) (drop (i + size) q) (declaredPart n m (state values′ modes′)) ≡ given numbers
-
-    applies : (c o : Bool) → cond c (pastMacro total ns i (drop i q) onward) (cond o (intoMacro total ns i (drop i q)) (refused 12 i)) ≡ given r → (c ≡ true) × (pastMacro total ns i (drop i q) onward ≡ given r)
-    applies true o f = (refl, f)
-    applies false true f =
-        let d : ℕ = min (agreeing ns (drop i q)) (length ns - 1) in
-        absurd (never total (i + d) (drop d (drop i q)) r f)
-    applies false false f = absurd (subst Gives (sym f) tt)
-
-    whole : (c : Bool) → eqb (agreeing ns (drop i q)) (length ns) ≡ c → cond c (onward (i + agreeing ns (drop i q)) (drop (agreeing ns (drop i q)) (drop i q))) (strayed total (i + agreeing ns (drop i q)) (drop (agreeing ns (drop i q)) (drop i q))) ≡ given r
-        → (size ≡ agreeing ns (drop i q)) × (onward (i + size) (drop (i + size) q) ≡ given r)
-    whole true f g =
-        let w : size ≡ agreeing ns (drop i q) = long ∙ sym (eqb-true (agreeing ns (drop i q)) (length ns) f) in
-        (w, ap (λ (j : ℕ). onward (i + j) (drop (i + j) q)) w ∙ ap (onward (i + agreeing ns (drop i q))) (sym (drop-drop (agreeing ns (drop i q)) i q)) ∙ g)
-    whole false f g = absurd (never total (i + agreeing ns (drop i q)) (drop (agreeing ns (drop i q)) (drop i q)) r g)
-
-    pub passed : Passed
-    passed =
-        let y = declaredPart n m (state values′ modes′) in
-        let f = applies b (opensIn (actionIs (getD table a d)) (declaredPart n m (state values modes))) (sym (turns L k e has-source d T q i is h) ∙ rest) in
-        let g = whole (eqb (agreeing ns (drop i q)) (length ns)) refl (f .1) in
-        let (p, v, s) = first-of a (projectFrom t (length (drop (suc i) q)) (i + size) (drop (i + size) q) y) r (g .1) in
-        let one : 1 ≤ size = omega (arith, long) in
-        record {
-          applied = f .0;
-          further = (omega arith, omega (arith, g .0, agreeing-there ns (drop i q), length-drop i q));
-          numbers = p;
-          splits = s;
-          projects =
-              any-bound-will-do t (length q) (i + size) (drop (i + size) q) y (omega (arith, length-drop (i + size) q))
-              ∙ sym (any-bound-will-do t (length (drop (suc i) q)) (i + size) (drop (i + size) q) y (omega (arith, length-drop (i + size) q, length-drop (suc i) q)))
-              ∙ v;
-        }
-
--- ---- the loop
-module _ (q : List ℕ) (table : List DecodedSource) (n : ℕ) (lower upper : List ℤ) (m : ℕ) (sizes : List ℕ) (sources : List ℕ) (values₀ : List ℤ) (modes₀ : List ℕ) (out₀ : List ℕ) where
-  pub record Putting (values : List ℤ) (modes : List ℕ) (out : List ℕ) (place i : ℕ) : Type 0 where
-    pub total : ℕ
-    pub placed : Placed table n lower upper m sizes total sources values modes
+-- ---- the scan
+module _ (q sources out₀ : List ℕ) where
+  pub record Putting (out : List ℕ) (place i : ℕ) : Type 0 where
     pub bound : i ≤ length q
-    pub rest : List ℕ
-    pub projects : projectFrom (placed .task) (length q) i (drop i q) (declaredPart n m (state values modes)) ≡ given rest
-    pub room : Room out place (planBytes rest)
-    pub long : length out ≡ length out₀
-    pub left : (total : ℕ) (t : SourceTask) → Lowered t table n lower upper m sizes total sources → (p : List ℕ) → projected q table n lower upper m sizes sources values₀ modes₀ t ≡ given p
-        → (r : List ℕ) × (projectFrom t (length q) i (drop i q) (declaredPart n m (state values modes)) ≡ given r) × Left out₀ 0 (planBytes p) out place (planBytes r ∷ [])
+    pub left : Left out₀ 0 (planBytes (keep (sourceIn sources) q)) out place (planBytes (keep (sourceIn sources) (drop i q)) ∷ [])
 
-  pub begins : Projectable q table n lower upper m sizes sources values₀ modes₀ out₀ → Putting values₀ modes₀ out₀ 0 0
-  begins w = record {
-    total = w .total;
-    placed = w .placed;
-    bound = omega arith;
-    rest = w .numbers;
-    projects = w .projects;
-    room = w .room;
-    long = refl;
-    left = λ total t L p e. (p, e, start out₀ 0 (sym (append-nil (planBytes p))));
-  }
+  pub begins : Putting out₀ 0 0
+  begins = record { bound = omega arith; left = start out₀ 0 (sym (append-nil (planBytes (keep (sourceIn sources) q)))) }
 
-module _ {q : List ℕ} {table : List DecodedSource} {n : ℕ} {lower upper : List ℤ} {m : ℕ} {sizes : List ℕ} {sources : List ℕ} {values₀ : List ℤ} {modes₀ : List ℕ} {out₀ : List ℕ} {values : List ℤ} {modes : List ℕ} {out : List ℕ} {place i : ℕ}
-    (g : Putting q table n lower upper m sizes sources values₀ modes₀ out₀ values modes out place i) where
-  pub over : length q ≤ i → SourcesPut q table n lower upper m sizes sources values₀ modes₀ out₀ out place
-  over h = record {
-    meets = λ total t L p e.
-        let (r, f, l) = g .left total t L p e in
-        let x = declaredPart n m (state values modes) in
-        let none : r ≡ [] = none-left (sourceGoalHolds t x) i r (sym (at-the-end t (length q) i x) ∙ ap (λ (k : List ℕ). projectFrom t (length q) i k x) (sym (drop-of-length-le q h)) ∙ f) in
-        done (recast (ap (λ (k : List ℕ). planBytes k ++ []) none) l);
-  }
+module _ {q sources out₀ out : List ℕ} {place i : ℕ} (g : Putting q sources out₀ out place i) where
+  pub over : length q ≤ i → Wrote out₀ 0 (planBytes (keep (sourceIn sources) q)) out place
+  over h = done (recast (ap (λ (l : List ℕ). planBytes (keep (sourceIn sources) l) ++ []) (drop-of-length-le q h)) (g .left))
 
-  module _ (k : ℕ) (is : k ≡ getD q i 0) (h : i < length q) {a : ℕ} (e : a ≡ entryAt sources k) where
-    pub source-here : a < 32
-    source-here = has-source (g .placed .lowered) q i k is h e values modes (g .projects)
+  module _ {k : ℕ} (is : k ≡ getD q i 0) (h : i < length q) where
+    here : drop i q ≡ k ∷ drop (i + 1) q
+    here = drop-cons q i 0 h ∙ ap (λ (a : ℕ). a ∷ drop (suc i) q) (sym is) ∙ ap (λ (j : ℕ). k ∷ drop j q) (sym (add-one i))
 
-    module _ (d : DecodedSource) where
-      pub fits : effectFits (actionIs (getD table a d) .effect) (integerAt (take n values)) ≡ true
-      fits = fits-here (g .placed .lowered) k e source-here d values modes (g .placed .sound)
+    -- the number opens source action a
+    module _ {a : ℕ} (e : a ≡ entryAt sources k) (l : a < 32) where
+      opens : sourceIn sources k ≡ some a
+      opens = ap named (sym e) ∙ ap (λ (b : Bool). cond b (some a) none) (lt-ltb a 32 l)
 
-      module _ {b : Bool} {values′ : List ℤ} {modes′ : List ℕ} (T : Tried n m lower upper sizes values modes (actionIs (getD table a d)) b values′ modes′) {size : ℕ} (sized : size ≡ priceOfEffect (actionIs (getD table a d) .effect) (integerAt (take n values))) where
-        pub here : Passed (g .placed .lowered) q i k is h e values modes (g .projects) d T sized
-        here = passed (g .placed .lowered) q i k is h e values modes (g .projects) d T sized
+      parts : Left out₀ 0 (planBytes (keep (sourceIn sources) q)) out place (bytesOf 2 a ∷ planBytes (keep (sourceIn sources) (drop (i + 1) q)) ∷ [])
+      parts = recast (ap (λ (m : List ℕ). planBytes m ++ []) (ap (keep (sourceIn sources)) here ∙ keep-opening (sourceIn sources) k a (drop (i + 1) q) opens)
+          ∙ append-assoc (bytesOf 2 a) (planBytes (keep (sourceIn sources) (drop (i + 1) q))) []) (g .left)
 
-        split-long : length (planBytes (g .rest)) ≡ 2 + length (planBytes (here .numbers))
-        split-long = omega (arith, ap (λ (l : List ℕ). length (planBytes l)) (here .splits))
+      pub room-here : Room out₀ 0 (planBytes (keep (sourceIn sources) q)) → Room out place (bytesOf 2 a)
+      room-here r = room r parts
 
-        pub room-here : {z : ℕ} → a ≡ z → Room out place (bytesOf 2 z)
-        room-here z-is = let r : Room out place (bytesOf 2 a) = record { fits = omega (arith, g .room .fits, split-long) } in room-as (ap (bytesOf 2) z-is) r
+      pub puts : {out′ : List ℕ} {next : ℕ} → Wrote out place (bytesOf 2 a) out′ next → Putting q sources out₀ out′ next (i + 1)
+      puts w = record { bound = omega arith; left = step parts w }
 
-        pub goes : {z : ℕ} → a ≡ z → {out′ : List ℕ} {next : ℕ} → Wrote out place (bytesOf 2 z) out′ next → Putting q table n lower upper m sizes sources values₀ modes₀ out₀ values′ modes′ out′ next (i + size)
-        goes z-is {out′} {next} put = let W = wrote-as (ap (bytesOf 2) (sym z-is)) put in record {
-          total = g .total;
-          placed = record {
-            task = g .placed .task;
-            lowered = g .placed .lowered;
-            shaped = record { variablesFew = g .placed .shaped .variablesFew; modesFew = g .placed .shaped .modesFew; valuesLong = T .valuesLong; modesLong = T .modesLong; sizesLong = g .placed .shaped .sizesLong };
-            sound = stays-sound T (here .applied);
-          };
-          bound = here .further .1;
-          rest = here .numbers;
-          projects = here .projects;
-          room = record { fits = omega (arith, g .room .fits, split-long, W .place, wrote-long W) };
-          long = wrote-long W ∙ g .long;
-          left = λ total t L p f.
-              let (r, v, l) = g .left total t L p f in
-              let P = passed L q i k is h e values modes v d T sized in
-              (P .numbers, P .projects, step (recast (ap (λ (z : List ℕ). planBytes z ++ []) (P .splits) ∙ append-assoc (bytesOf 2 a) (planBytes (P .numbers)) []) l) W);
+    -- it opens nothing
+    module _ {a : ℕ} (e : a ≡ entryAt sources k) (l : 32 ≤ a) where
+      opens-nothing : sourceIn sources k ≡ none
+      opens-nothing = ap named (sym e) ∙ ap (λ (b : Bool). cond b (some a) none) (le-ltb a 32 l)
+
+      pub passes : Putting q sources out₀ out place (i + 1)
+      passes = record {
+        bound = omega arith;
+        left = recast (ap (λ (m : List ℕ). planBytes m ++ []) (ap (keep (sourceIn sources)) here ∙ keep-other (sourceIn sources) k (drop (i + 1) q) opens-nothing)) (g .left);
+      }
+
+      module _ (most : ℕ) (m : length q ≤ most) {r : ℕ} (run : r ≡ agreeing (replicate most k) (drop i q)) where
+        pub further : (1 ≤ r) × (i + r ≤ length q)
+        further = (omega (arith, run, run-some k most (drop i q) (omega arith) (omega (arith, length-drop i q)) (sym (ap (λ (xs : List ℕ). getD xs 0 0) here))), omega (arith, run, agreeing-there (replicate most k) (drop i q), length-drop i q))
+
+        pub passes-run : Putting q sources out₀ out place (i + r)
+        passes-run = record {
+          bound = further .1;
+          left = recast (ap (λ (m : List ℕ). planBytes m ++ []) (keep-past (sourceIn sources) k opens-nothing most (drop i q)
+              ∙ ap (λ (j : ℕ). keep (sourceIn sources) (drop j (drop i q))) (sym run) ∙ ap (keep (sourceIn sources)) (drop-drop r i q))) (g .left);
         }

@@ -6,7 +6,6 @@ use mathlib.Core.List.{List}
 use lib.ListN.{length}
 use lib.IntN.{ℤ}
 use Rattle.lists.specs.Answer.{Answer, given, refused, then}
-use Rattle.lists.specs.Writing.{Room, Wrote}
 use Rattle.lists.specs.declared.Written.{Written}
 use Rattle.lists.specs.Written.{Lent}
 use Rattle.model.specs.Tasks.{SourceTask, State}
@@ -37,26 +36,17 @@ module _ (q : List ℕ) (table : List DecodedSource) (n : ℕ) (lower upper : Li
   abbrev pub projected : SourceTask → Answer (List ℕ)
   projected t = projectFrom t (length q) 0 q (declaredPart n m (state values modes))
 
-  -- it projects to numbers for which the output has room
-  pub record Projectable (out : List ℕ) : Type 0 where
-    pub total : ℕ
-    pub placed : Placed table n lower upper m sizes total sources values modes
-    pub numbers : List ℕ
-    pub projects : projected (placed .task) ≡ given numbers
-    pub room : Room out 0 (planBytes numbers)
-
-  -- they were written
-  pub record SourcesPut (old after : List ℕ) (next : ℕ) : Type 0 where
-    pub meets : (total : ℕ) (t : SourceTask) → Lowered t table n lower upper m sizes total sources → (p : List ℕ) → projected t ≡ given p → Wrote old 0 (planBytes p) after next
-
   module _ (total : ℕ) (goal : Goal) where
     -- a decoded goal is the task's
     abbrev pub Aims : SourceTask → Type 0
     Aims t = (x : State) → goalHolds (goalModesIn goal) (goalConditionsIn goal) x ≡ sourceGoalHolds t x
 
+    -- the state is the start of the task, and the plan no longer than a plan may be
     pub record Posed : Type 0 where
       pub placed : Placed table n lower upper m sizes total sources values modes
       pub aims : Aims (placed .task)
+      pub starts : declaredPart n m (state values modes) ≡ sourceStart (placed .task)
+      pub few : length q ≤ 1_000_000
 
     -- the plan was followed to the goal: the source numbers found, or a refusal
     pub record Reached (r : Followed) : Type 0 where

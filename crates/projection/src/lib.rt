@@ -17,11 +17,13 @@ ghost use Prim.Native.Nat.{ℕ, min, _+_, _-_, _≤_, _<_};
 ghost use lib.Dec.{eqb};
 ghost use lib.ListN.{length, drop, take};
 ghost use Rattle.lists.specs.Answer.{refused};
+ghost use Rattle.lists.specs.Writing.{Room, Wrote};
 ghost use Rattle.lists.specs.Written.{Lent};
 ghost use Rattle.model.specs.Limits.{sourceLimits};
 ghost use Rattle.model.specs.Reading.{verdictOf};
 ghost use Rattle.model.specs.Steps.{integerAt};
-ghost use Rattle.model.specs.Plans.{planNumbers};
+ghost use Rattle.model.specs.Systems.{keep};
+ghost use Rattle.model.specs.Plans.{planBytes, planNumbers};
 ghost use Rattle.model.specs.Judging.{declaredPart, projectBytes};
 ghost use Rattle.model.specs.Following.{strayed, makesMacro};
 ghost use Rattle.actions.specs.Views.{effectIs};
@@ -29,9 +31,9 @@ ghost use Rattle.source.specs.Parts.{effectFits};
 ghost use Rattle.source.specs.Step.{state, actionIs, Shaped};
 ghost use Rattle.source.specs.Judged.{AcceptedWith};
 ghost use Rattle.runs.specs.Strokes.{strokesOf, stepNumbers};
-ghost use Rattle.projection.specs.Sources.{entryAt, Openable, Sourced};
+ghost use Rattle.projection.specs.Sources.{entryAt, sourceIn, Openable, Sourced};
 ghost use Rattle.projection.specs.Following.{opensIn, Answers, Further, Advanced, Placed, PlanFollowed};
-ghost use Rattle.projection.specs.Projecting.{Projectable, SourcesPut, Posed, Reached, Projected, FileProjected};
+ghost use Rattle.projection.specs.Projecting.{Posed, Reached, Projected, FileProjected};
 
 // The most actions that a source task has, and the restricted numbers that a table of them has room for.
 const ACTIONS: usize = 32;
@@ -293,14 +295,12 @@ fn follow_to_goal(
     upper: &[i64; VARIABLES],
     m: usize,
     sizes: &[u16; MODES],
-    values: [i64; VARIABLES],
-    modes: [u16; MODES],
+    values: &mut [i64; VARIABLES],
+    modes: &mut [u16; MODES],
 ) -> Followed
-    requires { ⌜ Placed (table .actions) n (now lower) (now upper) m (now sizes) total (now sources) values modes × (steps ≡ length (planNumbers (now plan))) ⌝ }
-    ensures { λ r. ⌜ Reached (planNumbers (now (plan .entry))) (table .actions) n (now (lower .entry)) (now (upper .entry)) m (now (sizes .entry)) (now (sources .entry)) values modes total goal r ⌝ }
+    requires { ⌜ Placed (table .actions) n (now lower) (now upper) m (now sizes) total (now sources) (now values) (now modes) × (steps ≡ length (planNumbers (now plan))) ⌝ }
+    ensures { λ r. ⌜ Reached (planNumbers (now (plan .entry))) (table .actions) n (now (lower .entry)) (now (upper .entry)) m (now (sizes .entry)) (now (sources .entry)) (now (values .entry)) (now (modes .entry)) total goal r ⌝ }
 {
-    let mut end_values = values;
-    let mut end_modes = modes;
     let followed = follow(
         plan,
         steps,
@@ -312,13 +312,13 @@ fn follow_to_goal(
         upper,
         m,
         sizes,
-        &mut end_values,
-        &mut end_modes,
+        values,
+        modes,
     );
     match followed {
         Followed::Stopped(number, place) => Followed::Stopped(number, place),
         Followed::Ended(found) => {
-            if source::goal_holds(&end_values, n, &end_modes, m, goal) {
+            if source::goal_holds(values, n, modes, m, goal) {
                 return Followed::Ended(found);
             }
             Followed::Stopped(13, steps as u64)
@@ -326,35 +326,26 @@ fn follow_to_goal(
     }
 }
 
-// Writes the source numbers that a plan projects to, from a lent start on. The plan is known to go through, so it is not compared again.
-fn put_sources(
-    plan: &[u8],
-    steps: usize,
-    sources: &[u8; NUMBERS],
-    table: Table,
-    n: usize,
-    lower: &[i64; VARIABLES],
-    upper: &[i64; VARIABLES],
-    m: usize,
-    sizes: &[u16; MODES],
-    values: &mut [i64; VARIABLES],
-    modes: &mut [u16; MODES],
-    out: &mut [u8],
-) -> usize
-    requires { ⌜ Projectable (planNumbers (now plan)) (table .actions) n (now lower) (now upper) m (now sizes) (now sources) (now values) (now modes) (now out) × (steps ≡ length (planNumbers (now plan))) ⌝ }
-    ensures { λ r. ⌜ SourcesPut (planNumbers (now (plan .entry))) (table .actions) n (now (lower .entry)) (now (upper .entry)) m (now (sizes .entry)) (now (sources .entry)) (now (values .entry)) (now (modes .entry)) (now (out .entry)) (now (out .exit)) r ⌝ }
+// Writes the source numbers of a plan's openings, in their order. A number that opens nothing is passed over, and a run of it at once.
+fn put_sources(plan: &[u8], steps: usize, sources: &[u8; NUMBERS], out: &mut [u8]) -> usize
+    requires { ⌜ Room (now out) 0 (planBytes (keep (sourceIn (now sources)) (planNumbers (now plan)))) × (steps ≡ length (planNumbers (now plan))) ⌝ }
+    ensures { λ r. ⌜ Wrote (now (out .entry)) 0 (planBytes (keep (sourceIn (now (sources .entry))) (planNumbers (now (plan .entry))))) (now (out .exit)) r ⌝ }
 {
     let mut place: usize = 0;
     let mut at: usize = 0;
+    let mut last: u16 = 0;
     while at < steps {
-        let opening = planbytes::action_of(plan, at);
-        let number = source_of(sources, opening);
-        let k = wide(number);
-        let action = table.actions[k];
-        let size = prices::price_of(values, n, action) as usize;
-        source::try_action(values, modes, n, lower, upper, m, sizes, action);
-        place = lists::put16(out, place, number as u16);
-        at += size;
+        let number = planbytes::action_of(plan, at);
+        let source = source_of(sources, number);
+        if source < NONE {
+            place = lists::put16(out, place, source as u16);
+            at += 1;
+        } else if number == last {
+            at += planbytes::matches_run(plan, at, number, steps);
+        } else {
+            last = number;
+            at += 1;
+        }
     }
     place
 }
@@ -391,8 +382,8 @@ fn project_from(
         upper,
         m,
         sizes,
-        *values,
-        *modes,
+        values,
+        modes,
     );
     match followed {
         Followed::Stopped(number, place) => Written::Refused(number, place),
@@ -401,20 +392,7 @@ fn project_from(
             if out.len() < needed {
                 return Written::Refused(8, needed as u64);
             }
-            put_sources(
-                plan,
-                steps,
-                sources,
-                table,
-                n,
-                lower,
-                upper,
-                m,
-                sizes,
-                values,
-                modes,
-                out,
-            );
+            put_sources(plan, steps, sources, out);
             Written::Bytes(needed)
         }
     }
@@ -422,7 +400,7 @@ fn project_from(
 
 // Projects a plan of so many steps by an accepted file with so many actions.
 fn project_steps(file: &[u8], count: usize, plan: &[u8], steps: usize, out: &mut [u8]) -> Written
-    requires { ⌜ AcceptedWith (verdictOf sourceLimits (now file)) count × (steps ≡ length (planNumbers (now plan))) ⌝ }
+    requires { ⌜ AcceptedWith (verdictOf sourceLimits (now file)) count × (steps ≡ length (planNumbers (now plan))) × (steps ≤ 1_000_000) ⌝ }
     ensures { λ r. ⌜ FileProjected (now (file .entry)) (planNumbers (now (plan .entry))) (now (out .entry)) (now (out .exit)) r ⌝ }
 {
     let mut lower = [0i64; VARIABLES];

@@ -1,45 +1,27 @@
 -- `planbytes::matches_fours` meets its contract. Assumes nothing.
-use mathlib.Core.Path.{_≡_, sym, _∙_}
-use Prim.Native.Nat.{_+_, _*_, _-_, _<_}
+use mathlib.Core.Path.{refl, _∙_}
+use Prim.Native.Nat.{_-_}
 use native.Mathlib.Omega.{arith}
-use lib.ListN.{length, drop}
+use lib.ListN.{drop}
 use denote.Ref.{now}
 use Rattle.model.specs.Plans.{planNumbers}
-use Rattle.planbytes.specs.Agreeing.{numberAt, Passed}
-use Rattle.planbytes.proofs.Agreeing.{number-at, numbers-from, passed-start, passed-four, four-same}
+use Rattle.planbytes.specs.Agreeing.{Passed}
+use Rattle.planbytes.proofs.Agreeing.{passed-block}
 use borrow.Author.Needs.{needs}
 use Rattle.planbytes.proofs.matches_fours.Statement.{statement}
 use Rattle.planbytes.proofs.matches_fours.Tie as tie
 
 abbrev Inv-loop : tie.InvT-loop
-Inv-loop plan at number most k pattern i₀ i = Passed number (drop at (planNumbers plan)) most i
+Inv-loop plan at number most passed four i₀ i = Passed number (drop at (planNumbers plan)) most i
 
 abbrev μ-loop : tie.MeasureT-loop
-μ-loop plan at number most k pattern i₀ i = most - i
+μ-loop plan at number most passed four i₀ i = most - i
 
-mul-pattern : tie.Need-mul-pattern Inv-loop μ-loop
-mul-pattern c = search needs
-
-add-pattern : tie.Need-add-pattern Inv-loop μ-loop
-add-pattern c = search needs
-
-mul-pattern-2 : tie.Need-mul-pattern-2 Inv-loop μ-loop
-mul-pattern-2 c = search needs
-
-add-pattern-2 : tie.Need-add-pattern-2 Inv-loop μ-loop
-add-pattern-2 c = search needs
-
-mul-pattern-3 : tie.Need-mul-pattern-3 Inv-loop μ-loop
-mul-pattern-3 c = search needs
-
-add-pattern-3 : tie.Need-add-pattern-3 Inv-loop μ-loop
-add-pattern-3 c = search needs
+four-of-requires : tie.Need-four-of-requires Inv-loop μ-loop
+four-of-requires c κs = search needs
 
 loop-holds : tie.Need-loop-holds Inv-loop μ-loop
-loop-holds c =
-    let s = c .before in
-    let l = now (s .args .plan) in
-    passed-start (omega (arith, numbers-from l (s .args .at), s .pre))
+loop-holds c = c .before .before .pre .1
 
 sub-loop : tie.Need-sub-loop Inv-loop μ-loop
 sub-loop c = omega arith
@@ -64,19 +46,9 @@ loop-less c = omega arith
 
 loop-again : tie.Need-loop-again Inv-loop μ-loop
 loop-again c =
-    let s = c .before .before .before .before .before in
-    let l = now (s .args .plan) in
-    let at = s .args .at in
-    let i = c .before .before .before .loop .i in
-    let f = c .before .four-at .ensures in
-    let h : 2 * (at + i + 3) + 1 < length l = omega (arith, s .pre, c .before .before .loop-test .taken) in
-    let e₁ : 2 * (at + (i + 1)) ≡ 2 * (at + i) + 2 = omega arith in
-    let e₂ : 2 * (at + (i + 2)) ≡ 2 * (at + i) + 4 = omega arith in
-    let e₃ : 2 * (at + (i + 3)) ≡ 2 * (at + i) + 6 = omega arith in
-    passed-four (c .before .before .before .loop .inv) (omega arith)
-    (rw (number-at l at i (omega arith), number-at l at (i + 1) (omega arith), number-at l at (i + 2) (omega arith), number-at l at (i + 3) (omega arith), e₁, e₂, e₃)
-    (four-same (s .args .number) (numberAt l (2 * (at + i))) (numberAt l (2 * (at + i) + 2)) (numberAt l (2 * (at + i) + 4)) (numberAt l (2 * (at + i) + 6))
-    (search needs) (f .1) (f .2) (f .3) (f .4) (sym (f .0) ∙ c .if1 .left)))
+    let l = c .before .before .before in
+    let s = l .before .before .before in
+    passed-block (now (s .args .plan)) (s .args .at) (l .loop .inv) (s .pre .0) (omega arith) (search needs) refl (c .before .four-at .ensures) (c .if1 .left ∙ l .before .four-of .ensures)
 
 returns-2 : tie.Need-returns-2 Inv-loop μ-loop
 returns-2 c = c .before .loop .inv
@@ -87,12 +59,7 @@ matches-fours-spec =
     (tie.spec
     Inv-loop
     μ-loop
-    mul-pattern
-    add-pattern
-    mul-pattern-2
-    add-pattern-2
-    mul-pattern-3
-    add-pattern-3
+    four-of-requires
     loop-holds
     sub-loop
     add-four-at

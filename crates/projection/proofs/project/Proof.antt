@@ -6,7 +6,7 @@ use Rattle.model.specs.Limits.{sourceLimits}
 use Rattle.model.specs.Reading.{Verdict, verdictOf}
 use Rattle.source.specs.Judged.{AcceptedWith}
 use Rattle.source.proofs.Judging.{steps-of, no-steps}
-use Rattle.projection.proofs.Accepted.{when-rejected, when-no-plan, when-projected}
+use Rattle.projection.proofs.Accepted.{few-steps, when-rejected, when-no-plan, when-projected}
 use borrow.Author.Needs.{needs}
 use Rattle.projection.proofs.project.Statement.{statement}
 use Rattle.projection.proofs.project.Tie as tie
@@ -41,7 +41,7 @@ project-steps-requires c κs = let t = c .before .before in
     let a = k .before .before in
     let s = a .before .before .before .before .before .before in
     let n = steps-of (now (s .args .plan)) (t .steps .given .0 .0) (rw (t .steps .given .1) at (k .count-steps .ensures)) in
-    (accepted-so a, n .1)
+    (accepted-so a, n .1, few-steps (now (s .args .plan)) (t .steps .given .0 .0) (rw (t .steps .given .1) at (k .count-steps .ensures)))
 
 returns : tie.Need-returns
 returns c = let v = c .before .before .before in

@@ -3,7 +3,7 @@ use native.Mathlib.Omega.{arith}
 use denote.Ref.{now}
 use borrow.Author.Needs.{needs}
 use Rattle.source.proofs.Running.{halves-long}
-use Rattle.projection.proofs.Projecting.{when-stopped, few, when-short, projectable, when-written}
+use Rattle.projection.proofs.Projecting.{when-stopped, few, when-short, puttable, when-written}
 use Rattle.projection.proofs.project_from.Statement.{statement}
 use Rattle.projection.proofs.project_from.Tie as tie
 
@@ -33,11 +33,11 @@ returns c = let k = c .before in
     when-short (f .follow-to-goal .ensures) (now (startOf f .args .out)) (k .before .followed2 .given .1) (c .if1 .taken)
 
 put-sources-requires : tie.Need-put-sources-requires
-put-sources-requires c κs = let i = c .before .before .before in
+put-sources-requires c κs = let i = c .before in
     let k = i .before in
     let f = followOf k in
     let s = startOf f in
-    (projectable (f .follow-to-goal .ensures) (now (s .args .out)) (k .before .followed2 .given .1) (i .if1 .left) (s .pre .0), s .pre .1)
+    (puttable (f .follow-to-goal .ensures) (now (s .args .out)) (k .before .followed2 .given .1) (i .if1 .left) (s .pre .0), s .pre .1)
 
 returns-2 : tie.Need-returns-2
 returns-2 c = let f = c .before .before .before in when-stopped (f .follow-to-goal .ensures) (now (startOf f .args .out)) (c .before .followed .given .1)
@@ -47,10 +47,10 @@ same-length c = search needs
 
 returns-3 : tie.Need-returns-3
 returns-3 c = let p = c .before .before in
-    let i = p .before .before .before .before in
+    let i = p .before .before in
     let k = i .before in
     let f = followOf k in
-    when-written (f .follow-to-goal .ensures) (now (startOf f .args .out)) (k .before .followed2 .given .1) (i .if1 .left) (p .put-sources .ensures)
+    when-written (f .follow-to-goal .ensures) (now (startOf f .args .out)) (k .before .followed2 .given .1) (i .if1 .left) (startOf f .pre .0) (p .put-sources .ensures)
 
 pub project-from-spec : {M : Type 1} → statement M
 project-from-spec =

@@ -80,7 +80,7 @@ project-from-requires c κs = let g = c .before .before .before .before .before 
     let h = source-held zero-room (r .read-source .ensures) t e in
     let y = ready (fileOf r) (file-bytes r) t e (s .args .count) _ _ _ _ _ _ _ n (d .decode-actions .ensures) h in
     let l = lowered y (room d) (o .openings-of .ensures) (f .sources-of .ensures) (w .wide16 .ensures) in
-    (posed h l (goal-is (fileOf r) (file-bytes r) t e (g .decode-goal .result) (s .args .count) n (rw (b .goal-bytes .ensures) at (g .decode-goal .ensures))), s .pre .1)
+    (posed h l (omega (arith, s .pre .1, s .pre .2)) (goal-is (fileOf r) (file-bytes r) t e (g .decode-goal .result) (s .args .count) n (rw (b .goal-bytes .ensures) at (g .decode-goal .ensures))), s .pre .1)
 
 same-length : tie.Need-same-length
 same-length c = search needs
