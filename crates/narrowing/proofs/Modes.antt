@@ -2,16 +2,16 @@
 -- sets what it set before and then that mode.
 -- Assumes nothing.
 use mathlib.Core.Path.{_≡_, refl, sym, ap, ap₂, _∙_}
-use Prim.Native.Nat.{ℕ, zero, suc, min, _+_, _*_, _≤_, _<_}
+use Prim.Native.Nat.{ℕ, _+_, _*_, _≤_, _<_}
 use native.Mathlib.Nat.{mul-zero, mul-one}
 use native.Mathlib.Omega.{arith}
 use mathlib.Core.Logic.{_≢_}
 use mathlib.Core.Bool.{Bool, true, false, cond, _&&_}
 use mathlib.Core.List.{List, [], _∷_, _++_}
 use lib.Dec.{eqb, leb, ltb}
-use lib.ListN.{length, length-take, getD, take, drop, set, length-set}
+use lib.ListN.{length, length-take, take, drop, set, length-set}
 use lib.Seq.{getD-take, getD-set-same, getD-set-other, ext-getD, length-take-le}
-use borrow.Author.Tests.{leb-true, leb-false, ltb-true, ltb-false, eqb-true, eqb-false, le-leb, lt-leb, lt-ltb, le-ltb, eq-eqb, ne-eqb}
+use borrow.Author.Tests.{leb-true, leb-false, ltb-true, ltb-false, eqb-true, eqb-false, le-leb, lt-leb, eq-eqb, ne-eqb}
 use Rattle.integers.specs.All.{All}
 use Rattle.lists.specs.Each.{tabulate}
 use Rattle.lists.specs.Loops.{every}
@@ -20,7 +20,7 @@ use Rattle.model.specs.Steps.{naturalAt, modesHold, setAll}
 use Rattle.model.specs.TaskOk.{ValuesIn}
 use Rattle.source.specs.Parts.{modesBelow}
 use Rattle.source.proofs.Sound.{tabulate-same}
-use Rattle.rows.specs.Row.{modesIn, modesAfter}
+use Rattle.rows.specs.Row.{modesIn}
 use Rattle.narrowing.specs.Narrowed.{cappedMark, raisedMark, held, heldAll, marked, markedAll, SizesFit, SizesPut, ModesPut}
 use Rattle.narrowing.proofs.Tests.{and-pairs, and-right-first, every-narrowed, tabulate-set, length-setIf, setIf-at, setIf-other}
 

@@ -1,12 +1,12 @@
 -- A row of numbers that is narrowed by a condition asks what it asked before and that the condition holds; so it is with all conditions of an action.
 -- Assumes nothing.
 use mathlib.Core.Path.{_≡_, refl, sym, ap, ap₂, _∙_}
-use Prim.Native.Nat.{ℕ, zero, suc, _+_, _≤_, _<_}
+use Prim.Native.Nat.{ℕ, _+_, _≤_, _<_}
 use native.Mathlib.Omega.{arith}
 use mathlib.Core.Logic.{_≢_}
 use mathlib.Core.Bool.{Bool, true, false, cond, _&&_}
 use mathlib.Core.List.{List, [], _∷_}
-use lib.ListN.{length, getD, take, set, length-set}
+use lib.ListN.{length, take, set, length-set}
 use lib.Seq.{getD-take, getD-set-same, getD-set-other}
 use lib.IntN.{ℤ, pos, _+ℤ_, _-ℤ_}
 use lib.Signed.{leZ, ltZ}
@@ -15,7 +15,6 @@ use lib.Dec.{ltb}
 use Rattle.integers.specs.All.{All}
 use Rattle.integers.specs.Relation.{Relation, below, atMost, atLeast, above, related, between}
 use Rattle.integers.proofs.Parts.{ints, add, sub}
-use Rattle.lists.specs.Each.{tabulate}
 use Rattle.lists.specs.Loops.{every}
 use Rattle.model.specs.Tasks.{Measured, variable, weightedSum, NumericCondition}
 use Rattle.model.specs.InTask.{MeasureIn}
@@ -151,9 +150,6 @@ pub bounds-begin : (lower upper numbers : List ℤ) → length numbers ≡ 24 �
 bounds-begin lower upper numbers h = record { long = h; leasts = λ i l. absurd (omega arith); mosts = λ i l. absurd (omega arith); rest = λ j l. refl }
 
 module _ (k : ℕ) (lower upper numbers₀ numbers : List ℤ) (h : BoundsPut k lower upper numbers₀ numbers) (few : k < 8) (a b : ℤ) (isLower : a ≡ integerAt lower k) (isUpper : b ≡ integerAt upper k) where
-  stored : List ℤ
-  stored = set (set numbers k a) (8 + k) b
-
   stored-other : (j : ℕ) → j ≢ k → j ≢ 8 + k → integerAt (set (set numbers k a) (8 + k) b) j ≡ integerAt numbers j
   stored-other j p q = getD-set-other (set numbers k a) (8 + k) j b (pos 0) q ∙ getD-set-other numbers k j a (pos 0) p
 

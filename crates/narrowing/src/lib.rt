@@ -11,7 +11,7 @@ use source::MODES;
 use source::VARIABLES;
 ghost use mathlib.Core.Path.{_≡_};
 ghost use Prim.Native.Nat.{_+_, _<_, _≤_};
-ghost use lib.ListN.{length, take};
+ghost use lib.ListN.{length};
 ghost use lib.IntN.{natAbs};
 ghost use Rattle.integers.specs.Relation.{relationOf};
 ghost use Rattle.model.specs.Limits.{sourceLimits};
@@ -80,11 +80,7 @@ fn narrow_all<'a>(
 }
 
 // The bounds of a task, at the front of a row.
-fn put_bounds<'a>(
-    numbers: &mut [i64; NUMBERS],
-    lower: &'a [i64; VARIABLES],
-    upper: &'a [i64; VARIABLES],
-)
+fn put_bounds(numbers: &mut [i64; NUMBERS], lower: &[i64; VARIABLES], upper: &[i64; VARIABLES])
     requires { ⌜ length (now numbers) ≡ 24 ⌝ }
     ensures { λ _. ⌜ BoundsPut 8 (now (lower .entry)) (now (upper .entry)) (now (numbers .entry)) (now (numbers .exit)) ⌝ }
 {
@@ -99,8 +95,8 @@ fn put_bounds<'a>(
 // Between which values of the variables an action applies, in a task with these bounds.
 pub fn put_ranges<'a>(
     numbers: &mut [i64; NUMBERS],
-    lower: &'a [i64; VARIABLES],
-    upper: &'a [i64; VARIABLES],
+    lower: &[i64; VARIABLES],
+    upper: &[i64; VARIABLES],
     count: usize,
     variables: &'a [u8; CONDITIONS],
     relations: &'a [u8; CONDITIONS],
@@ -206,7 +202,7 @@ fn put_sizes(marks: &mut [u16; MARKS], m: usize, sizes: &[u16; MODES])
 pub fn put_modes<'a>(
     marks: &mut [u16; MARKS],
     m: usize,
-    sizes: &'a [u16; MODES],
+    sizes: &[u16; MODES],
     condition_count: usize,
     condition_modes: &'a [u8; MODE_CONDITIONS],
     condition_values: &'a [u16; MODE_CONDITIONS],
