@@ -1,6 +1,7 @@
 // The judge of plans on a source task: the steps of a plan, by the rows of the task's actions.
 //
 // What a step is and what rows mean is said in crate rows. It prices nothing.
+use declarations::Declared;
 use rows::MARKS;
 use rows::NUMBERS;
 use source::Judgement;
@@ -8,12 +9,47 @@ use source::MODES;
 use source::Progress;
 use source::VARIABLES;
 ghost use mathlib.Core.Path.{_≡_};
-ghost use lib.ListN.{length};
+ghost use lib.ListN.{length, replicate};
+ghost use lib.IntN.{pos};
+ghost use Rattle.model.specs.Judging.{judgeSource};
 ghost use Rattle.model.specs.Plans.{planNumbers};
 ghost use Rattle.model.specs.Limits.{sourceLimits};
 ghost use Rattle.model.specs.Reading.{verdictOf};
-ghost use Rattle.source.specs.Judged.{AcceptedWith, StepsJudged};
+ghost use Rattle.source.specs.Judged.{AcceptedWith, judgementIs, judgementOf, StepsJudged};
 ghost use Rattle.source_judge.specs.Running.{Stands, Taken, AtStart};
+
+// The most actions that a source task has.
+pub const ACTIONS: usize = 32;
+
+// What an accepted file with so many actions declares: its start, into arrays of zeros, and the rows of its actions.
+pub fn read_task(
+    file: &[u8],
+    count: usize,
+    marks: &mut [[u16; MARKS]],
+    numbers: &mut [[i64; NUMBERS]],
+    values: &mut [i64; VARIABLES],
+    modes: &mut [u16; MODES],
+) -> Declared
+    requires { ⌜ AcceptedWith (verdictOf sourceLimits (now file)) count × (length (now marks) ≡ 32) × (length (now numbers) ≡ 32) ⌝ }
+    requires { ⌜ (now values ≡ replicate 8 (pos 0)) × (now modes ≡ replicate 4 0) ⌝ }
+    ensures { λ r. ⌜ AtStart (now (file .entry)) count (now (marks .exit)) (now (numbers .exit)) (r .variables) (r .modes) (now (values .exit)) (now (modes .exit)) ⌝ }
+{
+    let mut lower = [0i64; VARIABLES];
+    let mut upper = [0i64; VARIABLES];
+    let mut sizes = [0u16; MODES];
+    let declared = declarations::read_source(
+        file,
+        &mut lower,
+        &mut upper,
+        values,
+        &mut sizes,
+        modes,
+    );
+    let n = declared.variables;
+    let m = declared.modes;
+    prepared::prepare(file, count, n, &lower, &upper, m, &sizes, marks, numbers);
+    declared
+}
 
 // Takes the steps of a plan in a lent state.
 pub fn run(
@@ -65,4 +101,50 @@ fn judge_rows(
     let met = source::goal_holds(values, n, modes, m, goal);
     let verdict = source::last_verdict(progress, met, steps);
     source::conclude(verdict, *values, *modes)
+}
+
+// Judges a plan of so many steps against an accepted file with so many actions.
+fn judge_steps(file: &[u8], count: usize, plan: &[u8], steps: usize) -> Judgement
+    requires { ⌜ AcceptedWith (verdictOf sourceLimits (now file)) count × (steps ≡ length (planNumbers (now plan))) ⌝ }
+    ensures { λ r. ⌜ StepsJudged (now (file .entry)) (planNumbers (now (plan .entry))) r ⌝ }
+{
+    let mut marks = [[0u16; MARKS]; ACTIONS];
+    let mut numbers = [[0i64; NUMBERS]; ACTIONS];
+    let mut values = [0i64; VARIABLES];
+    let mut modes = [0u16; MODES];
+    let declared = read_task(
+        file,
+        count,
+        &mut marks,
+        &mut numbers,
+        &mut values,
+        &mut modes,
+    );
+    let n = declared.variables;
+    let m = declared.modes;
+    judge_rows(
+        file,
+        count,
+        plan,
+        steps,
+        &marks,
+        &numbers,
+        n,
+        m,
+        &mut values,
+        &mut modes,
+    )
+}
+
+// Judges a plan against a file: the file's refusals first, 10, per step 11 and 12, then 13; else the count of steps and the end state.
+pub fn judge(file: &[u8], plan: &[u8]) -> Judgement
+    ensures { λ r. ⌜ judgementIs r ≡ judgementOf (judgeSource (now (file .entry)) (now (plan .entry))) ⌝ }
+{
+    match tasks::check_source(file) {
+        tasks::Verdict::Rejected(number, place) => source::refuse(number, place),
+        tasks::Verdict::Accepted(_, _, actions) => match planbytes::count_steps(plan) {
+            planbytes::Counted::Refused(number, place) => source::refuse(number, place),
+            planbytes::Counted::Steps(steps) => judge_steps(file, actions as usize, plan, steps),
+        },
+    }
 }
