@@ -1,19 +1,19 @@
 -- The loop that writes an expansion: what is left to write is the expansion of what is left of the plan, from the state reached.
 -- Assumes nothing.
 use mathlib.Core.Path.{_≡_, refl, sym, ap, ap₂, _∙_, subst}
-use Prim.Native.Nat.{ℕ, zero, suc, _+_, _≤_, _<_}
+use Prim.Native.Nat.{ℕ, suc, _+_, _≤_, _<_}
 use native.Mathlib.Numerals.{add-one}
 use native.Mathlib.Omega.{arith}
-use mathlib.Core.Bool.{Bool, true, false, cond}
-use mathlib.Core.Option.{Option, none, some, Option·none-ne-some}
+use mathlib.Core.Bool.{Bool, true, false}
+use mathlib.Core.Option.{Option, some, Option·none-ne-some}
 use mathlib.Core.List.{List, [], _∷_, _++_, append-nil}
-use lib.ListN.{length, getD, getElem?, take, drop, drop-of-length-le}
+use lib.ListN.{length, getD, take, drop, drop-of-length-le}
 use lib.Seq.{drop-cons}
 use lib.IntN.{ℤ}
 use Rattle.lists.specs.Writing.{Room, Wrote}
 use Rattle.lists.proofs.Numbers.{numbers-append}
 use Rattle.lists.proofs.Writing.{Left, start, step, done, recast, room, long}
-use Rattle.model.specs.Tasks.{SourceAction, SourceTask, State}
+use Rattle.model.specs.Tasks.{Effect, SourceAction, SourceTask, State}
 use Rattle.model.specs.Plans.{planBytes}
 use Rattle.model.specs.Systems.{orEmpty, provided, runPlan}
 use Rattle.model.specs.Steps.{integerAt, lowerBounds, upperBounds, sizesOf, soundSource, stepSource}
@@ -22,129 +22,127 @@ use Rattle.model.specs.Expansion.{stageStepsFrom}
 use Rattle.model.specs.Judging.{declaredPart}
 use Rattle.model.proofs.Pairing.{bind-gives, some-injective}
 use Rattle.model.proofs.JudgedPlans.{source-step-counts}
-use Rattle.actions.specs.declared.SourceAction.{SourceAction as DecodedSource}
-use Rattle.source.specs.Parts.{effectFits}
-use Rattle.source.specs.Step.{state, actionIs, stepOf, Shaped, Tried}
-use Rattle.source.specs.Judged.{Ready}
-use Rattle.source.proofs.Steps.{step-of-task}
-use Rattle.runs.specs.declared.Strokes.{Strokes}
-use Rattle.runs.specs.Made.{strokesIs}
-use Rattle.runs.specs.Openings.{actionsIn, Opened}
+use Rattle.source.specs.Step.{state, Shaped}
+use Rattle.rows.specs.Row.{effectAt, Steady, Reads, Usable, Stepped}
+use Rattle.rows.specs.Ready.{marksOf, numbersOf, Ready, Standing}
+use Rattle.rows.proofs.Standing as rows
 use Rattle.runs.specs.Strokes.{strokesOf, macroSteps, stepNumbers}
+use Rattle.strokes.specs.Openings.{Marked, Opened}
 use Rattle.plans.specs.Expanding.{expansionFrom, Writable, Expanded}
 use Rattle.plans.proofs.Lengths.{steps-behind}
 
--- ---- a task's actions are those of the table
-actions-are : (acts : List SourceAction) (table : List DecodedSource) (count : ℕ) (d : DecodedSource) → count ≡ length acts → count ≤ length table
-    → ((k : ℕ) → k < count → getElem? acts k ≡ some (actionIs (getD table k d))) → acts ≡ actionsIn table count
-actions-are [] table zero d e l f = refl
-actions-are [] table (suc count) d e l f = absurd (omega arith)
-actions-are (a ∷ acts) table zero d e l f = absurd (omega arith)
-actions-are (a ∷ acts) [] (suc count) d e l f = absurd (omega arith)
-actions-are (a ∷ acts) (b ∷ table) (suc count) d e l f =
-    ap₂ (λ (x : SourceAction) (xs : List SourceAction). x ∷ xs) (some-injective (f 0 (omega arith))) (actions-are acts table count d (omega arith) (omega arith) (λ k h. f (suc k) (omega arith)))
+-- the rows have the effects of the task's actions
+rows-marked : {t : SourceTask} {count : ℕ} {marks : List (List ℕ)} {numbers : List (List ℤ)} {n : ℕ} {lower upper : List ℤ} {m : ℕ} {sizes : List ℕ} → Ready t count marks numbers n lower upper m sizes → (k : ℕ) → k < count → Marked (t .actions) marks k
+rows-marked {numbers = numbers} r k l = let R = r .rowsAre k l in record { action = R .action; numbers = numbersOf numbers k; found = R .found; effect = R .row .effect }
 
-module _ (p : List ℕ) (count : ℕ) (table : List DecodedSource) (n : ℕ) (lower upper : List ℤ) (m : ℕ) (sizes : List ℕ) (values₀ : List ℤ) (modes₀ : List ℕ) (old : List ℕ) where
+module _ (p : List ℕ) (count : ℕ) (marks : List (List ℕ)) (numbers : List (List ℤ)) (n m : ℕ) (values₀ : List ℤ) (modes₀ : List ℕ) (old : List ℕ) where
   -- the first i steps are written, and the arrays hold the state after them
   pub record Going (values : List ℤ) (modes : List ℕ) (out : List ℕ) (place i : ℕ) : Type 0 where
-    pub able : Writable p count table n lower upper m sizes values₀ modes₀ old
-    pub shaped : Shaped n m values modes sizes
+    pub able : Writable p count marks numbers n m values₀ modes₀ old
+    pub standing : Standing count marks numbers n (able .lower) (able .upper) m (able .sizes) values modes
     pub bound : i ≤ length p
-    pub applies : runPlan (stepSource (able .task)) (drop i p) (declaredPart n m (state values modes)) ≡ some (able .ended)
-    pub left : (t : SourceTask) → Ready t count table n lower upper m sizes
+    pub applies : runPlan (stepSource (able .standing .task)) (drop i p) (declaredPart n m (state values modes)) ≡ some (able .ended)
+    pub left : (lower upper : List ℤ) (sizes : List ℕ) → Shaped n m values₀ modes₀ sizes → (t : SourceTask) → Ready t count marks numbers n lower upper m sizes
         → Left old 0 (planBytes (expansionFrom t p (declaredPart n m (state values₀ modes₀)))) out place (planBytes (expansionFrom t (drop i p) (declaredPart n m (state values modes))) ∷ [])
 
-  pub begins : Writable p count table n lower upper m sizes values₀ modes₀ old → Shaped n m values₀ modes₀ sizes → Going values₀ modes₀ old 0 0
-  begins w s = record { able = w; shaped = s; bound = omega arith; applies = w .applies; left = λ t r. start old 0 (sym (append-nil _)) }
+  pub begins : Writable p count marks numbers n m values₀ modes₀ old → Going values₀ modes₀ old 0 0
+  begins w = record { able = w; standing = w .standing; bound = omega arith; applies = w .applies; left = λ lower upper sizes l t r. start old 0 (sym (append-nil _)) }
 
-module _ {p : List ℕ} {count : ℕ} {table : List DecodedSource} {n : ℕ} {lower upper : List ℤ} {m : ℕ} {sizes : List ℕ} {values₀ : List ℤ} {modes₀ : List ℕ} {old : List ℕ} {values : List ℤ} {modes : List ℕ} {out : List ℕ} {place i : ℕ}
-    (g : Going p count table n lower upper m sizes values₀ modes₀ old values modes out place i) where
-  pub ends : length p ≤ i → Expanded p count table n lower upper m sizes values₀ modes₀ old out place
+module _ {p : List ℕ} {count : ℕ} {marks : List (List ℕ)} {numbers : List (List ℤ)} {n m : ℕ} {values₀ : List ℤ} {modes₀ : List ℕ} {old : List ℕ} {values : List ℤ} {modes : List ℕ} {out : List ℕ} {place i : ℕ}
+    (g : Going p count marks numbers n m values₀ modes₀ old values modes out place i) where
+  abbrev task : SourceTask
+  task = g .able .standing .task
+
+  abbrev ready : Ready task count marks numbers n (g .able .lower) (g .able .upper) m (g .able .sizes)
+  ready = g .able .standing .ready
+
+  abbrev shaped : Shaped n m values₀ modes₀ (g .able .sizes)
+  shaped = g .able .standing .shaped
+
+  abbrev here : State
+  here = declaredPart n m (state values modes)
+
+  pub ends : length p ≤ i → Expanded p count marks numbers n m values₀ modes₀ old out place
   ends h = record {
-    wrote = λ t r. done (recast (append-nil _ ∙ ap (λ (ks : List ℕ). planBytes (expansionFrom t ks (declaredPart n m (state values modes)))) (drop-of-length-le p h)) (g .left t r));
+    wrote = λ lower upper sizes l t r. done (recast (append-nil _ ∙ ap (λ (ks : List ℕ). planBytes (expansionFrom t ks here)) (drop-of-length-le p h)) (g .left lower upper sizes l t r));
   }
 
   pub as-long : length out ≡ length old
-  as-long = long (g .left (g .able .task) (g .able .ready))
+  as-long = long (g .left (g .able .lower) (g .able .upper) (g .able .sizes) shaped task ready)
+
+  pub few : count ≤ 32
+  few = omega (arith, ready .counted, ready .ok .actionsFew)
 
   module _ (h : i < length p) (k : ℕ) (e : k ≡ getD p i 0) where
-    here : drop i p ≡ k ∷ drop (i + 1) p
-    here = drop-cons p i 0 h ∙ ap₂ (λ (j l : ℕ). j ∷ drop l p) (sym e) (sym (add-one i))
+    next : drop i p ≡ k ∷ drop (i + 1) p
+    next = drop-cons p i 0 h ∙ ap₂ (λ (j l : ℕ). j ∷ drop l p) (sym e) (sym (add-one i))
 
-    taken : (z : State) × (stepSource (g .able .task) (declaredPart n m (state values modes)) k ≡ some z) × (runPlan (stepSource (g .able .task)) (drop (i + 1) p) z ≡ some (g .able .ended))
-    taken = bind-gives (stepSource (g .able .task) (declaredPart n m (state values modes)) k) (runPlan (stepSource (g .able .task)) (drop (i + 1) p)) (g .able .ended)
-        (subst (λ (ks : List ℕ). runPlan (stepSource (g .able .task)) ks (declaredPart n m (state values modes)) ≡ some (g .able .ended)) here (g .applies))
+    taken : (z : State) × (stepSource task here k ≡ some z) × (runPlan (stepSource task) (drop (i + 1) p) z ≡ some (g .able .ended))
+    taken = bind-gives (stepSource task here k) (runPlan (stepSource task) (drop (i + 1) p)) (g .able .ended) (subst (λ (ks : List ℕ). runPlan (stepSource task) ks here ≡ some (g .able .ended)) next (g .applies))
 
     -- the step is an action's
     pub named : k < count
-    named =
-        let t = g .able .task in
-        omega (arith, source-step-counts (soundSource (lowerBounds t) (upperBounds t) (sizesOf (t .modes))) (lowerBounds t) (upperBounds t) (t .actions) (declaredPart n m (state values modes)) k (taken .0) (taken .1), g .able .ready .counted)
+    named = omega (arith, source-step-counts (soundSource (lowerBounds task) (upperBounds task) (sizesOf (task .modes))) (lowerBounds task) (upperBounds task) (task .actions) here k (taken .0) (taken .1), ready .counted)
 
-    -- and what its effect reads fits
-    pub fits : (d : DecodedSource) → effectFits (actionIs (getD table k d) .effect) (integerAt (take n values)) ≡ true
-    unfolding stepOf
-    fits d = go _ (effectFits (actionIs (getD table k d) .effect) (integerAt (take n values))) (step-of-task t (g .able .ready .ok) (declaredPart n m (state values modes)) k (actionIs (getD table k d)) (g .able .ready .actionsAre k d named) ∙ taken .1)
-      where
-        t : SourceTask
-        t = g .able .task
+    pub reads : Reads n values (marksOf marks k) (numbersOf numbers k)
+    reads =
+        let s = rows.steady (g .standing) in
+        record { variablesFew = s .variablesFew; near = s .near; usable = rows.usable (g .standing) named }
 
-        go : (o : Option State) (f : Bool) → cond f o none ≡ some (taken .0) → f ≡ true
-        go o true q = refl
-        go o false q = absurd (Option·none-ne-some (taken .0) q)
+    -- ---- what the step becomes
+    module _ (openings : List ℕ) (opens : Opened marks count openings) where
+      abbrev becomes : List ℕ
+      becomes = stepNumbers (getD openings k 0) (strokesOf (effectAt (marksOf marks k) (numbersOf numbers k)) (integerAt (take n values)))
 
-    module _ (d : DecodedSource) {b : Bool} {values′ : List ℤ} {modes′ : List ℕ} (T : Tried n m lower upper sizes values modes (actionIs (getD table k d)) b values′ modes′) where
-      tried : (t : SourceTask) → Ready t count table n lower upper m sizes → stepSource t (declaredPart n m (state values modes)) k ≡ provided b (declaredPart n m (state values′ modes′))
-      tried t r =
-          sym (step-of-task t (r .ok) (declaredPart n m (state values modes)) k (actionIs (getD table k d)) (r .actionsAre k d named))
-          ∙ rw (← r .lowersAre, ← r .uppersAre, ← r .sizesAre) (T .declares)
+      -- the expansion of the rest stands behind it
+      expansion : {lower upper : List ℤ} {sizes : List ℕ} (t : SourceTask) (r : Ready t count marks numbers n lower upper m sizes) (z : State) → stepSource t here k ≡ some z
+          → expansionFrom t (drop i p) here ≡ becomes ++ expansionFrom t (drop (i + 1) p) z
+      expansion t r z s =
+          let R = r .rowsAre k named in
+          let zs = strokesOf (effectAt (marksOf marks k) (numbersOf numbers k)) (integerAt (take n values)) in
+          let o = opening (lowerBounds t) (upperBounds t) (t .actions) k in
+          let number : o ≡ getD openings k 0 = sym (opens .is (t .actions) (rows-marked r) (lowerBounds t) (upperBounds t) k (omega (arith, named))) in
+          let behind : stageStepsFrom (lowerBounds t) (upperBounds t) (t .actions) here k ≡ macroSteps (o + 1) zs =
+          steps-behind t here k (R .action) (R .found) ∙ ap (λ (f : Effect). macroSteps (o + 1) (strokesOf f (integerAt (take n values)))) (sym (R .row .effect)) in
+          ap (λ (ks : List ℕ). expansionFrom t ks here) next
+          ∙ ap₂ (λ (l : List ℕ) (y : Option State). o ∷ (l ++ orEmpty y (expansionFrom t (drop (i + 1) p)))) behind s
+          ∙ ap (λ (j : ℕ). stepNumbers j zs ++ expansionFrom t (drop (i + 1) p) z) number
 
-      -- it applied
-      applied : b ≡ true
-      applied = go b (sym (tried (g .able .task) (g .able .ready)) ∙ taken .1)
-        where
-          go : (c : Bool) → provided c (declaredPart n m (state values′ modes′)) ≡ some (taken .0) → c ≡ true
-          go true q = refl
-          go false q = absurd (Option·none-ne-some (taken .0) q)
+      parts : {lower upper : List ℤ} {sizes : List ℕ} → Shaped n m values₀ modes₀ sizes → (t : SourceTask) (r : Ready t count marks numbers n lower upper m sizes) (z : State) → stepSource t here k ≡ some z
+          → Left old 0 (planBytes (expansionFrom t p (declaredPart n m (state values₀ modes₀)))) out place (planBytes becomes ∷ planBytes (expansionFrom t (drop (i + 1) p) z) ∷ [])
+      parts l t r z s = recast
+          (append-nil _
+          ∙ ap planBytes (expansion t r z s)
+          ∙ numbers-append 2 becomes (expansionFrom t (drop (i + 1) p) z)
+          ∙ ap (λ (b : List ℕ). planBytes becomes ++ b) (sym (append-nil _)))
+          (g .left _ _ _ l t r)
 
-      stepped : (t : SourceTask) → Ready t count table n lower upper m sizes → stepSource t (declaredPart n m (state values modes)) k ≡ some (declaredPart n m (state values′ modes′))
-      stepped t r = tried t r ∙ ap (λ (c : Bool). provided c (declaredPart n m (state values′ modes′))) applied
+      pub has-room : Room out place (planBytes becomes)
+      has-room = room (g .able .room) (parts shaped task ready (taken .0) (taken .1))
 
-      module _ (enough : count ≤ length table) (s : Strokes) (q : strokesIs s ≡ strokesOf (actionIs (getD table k d) .effect) (integerAt (take n values))) (numbers : List ℕ) (opens : Opened table count numbers) where
-        -- what the step becomes, and the expansion of the rest behind it
-        becomes : (t : SourceTask) → Ready t count table n lower upper m sizes
-            → expansionFrom t (drop i p) (declaredPart n m (state values modes)) ≡ stepNumbers (getD numbers k 0) (strokesIs s) ++ expansionFrom t (drop (i + 1) p) (declaredPart n m (state values′ modes′))
-        becomes t r =
-            let x = declaredPart n m (state values modes) in
-            let acts = actions-are (t .actions) table count d (r .counted) enough (λ j l. r .actionsAre j d l) in
-            let o = opening (lowerBounds t) (upperBounds t) (t .actions) k in
-            let number : o ≡ getD numbers k 0 = ap (λ (l : List SourceAction). opening (lowerBounds t) (upperBounds t) l k) acts ∙ sym (opens .is (lowerBounds t) (upperBounds t) k (omega (arith, named))) in
-            let behind : stageStepsFrom (lowerBounds t) (upperBounds t) (t .actions) x k ≡ macroSteps (o + 1) (strokesIs s) = steps-behind t x k (actionIs (getD table k d)) (r .actionsAre k d named) ∙ ap (macroSteps (o + 1)) (sym q) in
-            ap (λ (ks : List ℕ). expansionFrom t ks x) here
-            ∙ ap₂ (λ (l : List ℕ) (y : Option State). o ∷ (l ++ orEmpty y (expansionFrom t (drop (i + 1) p)))) behind (stepped t r)
-            ∙ ap (λ (j : ℕ). stepNumbers j (strokesIs s) ++ expansionFrom t (drop (i + 1) p) (declaredPart n m (state values′ modes′))) number
+      -- ---- and the step taken
+      module _ {b : Bool} {values′ : List ℤ} {modes′ : List ℕ} (T : Stepped n m (marksOf marks k) (numbersOf numbers k) values modes b values′ modes′) where
+        abbrev there : State
+        there = declaredPart n m (state values′ modes′)
 
-        parts : (t : SourceTask) → Ready t count table n lower upper m sizes
-            → Left old 0 (planBytes (expansionFrom t p (declaredPart n m (state values₀ modes₀)))) out place
-            (planBytes (stepNumbers (getD numbers k 0) (strokesIs s)) ∷ planBytes (expansionFrom t (drop (i + 1) p) (declaredPart n m (state values′ modes′))) ∷ [])
-        parts t r = recast
-            (append-nil _
-            ∙ ap planBytes (becomes t r)
-            ∙ numbers-append 2 (stepNumbers (getD numbers k 0) (strokesIs s)) (expansionFrom t (drop (i + 1) p) (declaredPart n m (state values′ modes′)))
-            ∙ ap (λ (l : List ℕ). planBytes (stepNumbers (getD numbers k 0) (strokesIs s)) ++ l) (sym (append-nil _)))
-            (g .left t r)
+        -- it applied
+        applied : b ≡ true
+        applied = go b (sym (rows.step named (g .standing .shaped) T task ready) ∙ taken .1)
+          where
+            go : (c : Bool) → provided c there ≡ some (taken .0) → c ≡ true
+            go true q = refl
+            go false q = absurd (Option·none-ne-some (taken .0) q)
 
-        pub has-room : Room out place (planBytes (stepNumbers (getD numbers k 0) (strokesIs s)))
-        has-room = room (g .able .room) (parts (g .able .task) (g .able .ready))
+        stepped : {lower upper : List ℤ} {sizes : List ℕ} → Shaped n m values₀ modes₀ sizes → (t : SourceTask) → Ready t count marks numbers n lower upper m sizes → stepSource t here k ≡ some there
+        stepped l t r =
+            let s = g .standing .shaped in
+            rows.step named (record { variablesFew = s .variablesFew; modesFew = s .modesFew; valuesLong = s .valuesLong; modesLong = s .modesLong; sizesLong = l .sizesLong }) T t r ∙ ap (λ (c : Bool). provided c there) applied
 
-        pub goes : {after : List ℕ} {next : ℕ} → Wrote out place (planBytes (stepNumbers (getD numbers k 0) (strokesIs s))) after next
-            → Going p count table n lower upper m sizes values₀ modes₀ old values′ modes′ after next (i + 1)
-        goes w =
-            let t = g .able .task in
-            record {
-              able = g .able;
-              shaped = record { variablesFew = g .shaped .variablesFew; modesFew = g .shaped .modesFew; valuesLong = T .valuesLong; modesLong = T .modesLong; sizesLong = g .shaped .sizesLong };
-              bound = omega arith;
-              applies = subst (λ (z : State). runPlan (stepSource t) (drop (i + 1) p) z ≡ some (g .able .ended)) (some-injective (sym (taken .1) ∙ stepped t (g .able .ready))) (taken .2);
-              left = λ t r. step (parts t r) w;
-            }
+        pub goes : {after : List ℕ} {end : ℕ} → Wrote out place (planBytes becomes) after end → Going p count marks numbers n m values₀ modes₀ old values′ modes′ after end (i + 1)
+        goes w = record {
+          able = g .able;
+          standing = rows.stands (g .standing) named T;
+          bound = omega arith;
+          applies = subst (λ (z : State). runPlan (stepSource task) (drop (i + 1) p) z ≡ some (g .able .ended)) (some-injective (sym (taken .1) ∙ stepped shaped task ready)) (taken .2);
+          left = λ lower upper sizes l t r. step (parts l t r there (stepped l t r)) w;
+        }

@@ -28,14 +28,14 @@ use Rattle.model.proofs.JudgedPlans.{judged, capped, within-limit}
 use Rattle.lists.specs.Written.{answerOf, Lent}
 use Rattle.lists.specs.declared.Written.{Written}
 use Rattle.lists.specs.declared.Written.the-variants.{Bytes, Refused}
-use Rattle.actions.specs.declared.SourceAction.{SourceAction as DecodedSource}
 use Rattle.source.specs.declared.Progress.{Progress}
 use Rattle.source.specs.declared.Progress.the-variants.{Through, Stopped}
-use Rattle.source.specs.Step.{state}
-use Rattle.source.specs.Judged.{Ready, onProgress, AcceptedWith}
+use Rattle.source.specs.Step.{state, Shaped}
+use Rattle.source.specs.Judged.{onProgress, AcceptedWith}
 use Rattle.source.proofs.Judging.{task-of, accepted-task}
-use Rattle.prices.specs.declared.Measured.{Measured}
-use Rattle.prices.specs.Measures.{withinPrice, PlanMeasured}
+use Rattle.rows.specs.Ready.{Ready}
+use Rattle.measuring.specs.declared.Measured.{Measured}
+use Rattle.measuring.specs.Measures.{withinPrice, PlanMeasured}
 use Rattle.runs.specs.Strokes.{strokesOf, macroSteps}
 use Rattle.runs.proofs.Walks.{walk-is, steps-length, price-is}
 use Rattle.plans.specs.Expanding.{expansionFrom, lengthAnswer, lastLength, expansionAnswer, StepsExpanded}
@@ -118,16 +118,16 @@ last-counts Through true steps price passing x a h = go (ltb 1_000_000 price) (h
 last-counts Through false steps price passing x a h = refl
 last-counts (Stopped number place) met steps price passing x a h = refl
 
-module _ (t : SourceTask) (p : List ℕ) (count : ℕ) (table : List DecodedSource) (n : ℕ) (lower upper : List ℤ) (m : ℕ) (sizes : List ℕ) (values : List ℤ) (modes : List ℕ) (q : Measured) (values′ : List ℤ) (modes′ : List ℕ) where
-  pub counted-so : Ready t count table n lower upper m sizes → declaredPart n m (state values modes) ≡ sourceStart t → PlanMeasured p count table n lower upper m sizes values modes q values′ modes′
+module _ (t : SourceTask) (p : List ℕ) {count : ℕ} {marks : List (List ℕ)} {numbers : List (List ℤ)} {n : ℕ} {lower upper : List ℤ} {m : ℕ} {sizes : List ℕ} {values : List ℤ} {modes : List ℕ} {q : Measured} {values′ : List ℤ} {modes′ : List ℕ} where
+  pub counted-so : Shaped n m values modes sizes → Ready t count marks numbers n lower upper m sizes → declaredPart n m (state values modes) ≡ sourceStart t → PlanMeasured p count marks numbers n m values modes q values′ modes′
       → (met : Bool) → met ≡ sourceGoalHolds t (declaredPart n m (state values′ modes′)) → (steps : ℕ) → steps ≡ length p
       → answerOf (lastLength (q .progress) met steps (q .price) (q .passing)) ≡ lengthAnswer t p
   unfolding judge
-  counted-so R h M met g steps s =
+  counted-so S R h M met g steps s =
       let x = declaredPart n m (state values′ modes′) in
-      last-counts (q .progress) met steps (q .price) (q .passing) x (priceTask t true p) (λ e. ap (pricesFrom (stepSource t) (priceFrom (t .actions)) true 0 0 p) (sym h) ∙ M .priced t R e true)
+      last-counts (q .progress) met steps (q .price) (q .passing) x (priceTask t true p) (λ e. ap (pricesFrom (stepSource t) (priceFrom (t .actions)) true 0 0 p) (sym h) ∙ M .priced _ _ _ S t R e true)
       ∙ ap₂ (λ (b : Bool) (j : ℕ). then {A = ℕ × State} (onProgress (q .progress) (cond b (given (j, x)) (refused 13 j))) (λ v. then (priceTask t true p) (λ c. given (2 * c)))) g s
-      ∙ ap (λ (o : Answer (ℕ × State)). then o (λ v. then (priceTask t true p) (λ c. given (2 * c)))) (sym (M .ran .judges t R (sourceGoalHolds t)))
+      ∙ ap (λ (o : Answer (ℕ × State)). then o (λ v. then (priceTask t true p) (λ c. given (2 * c)))) (sym (M .taken .ran _ _ _ S .judges t R (sourceGoalHolds t)))
       ∙ ap (λ (x₀ : State). then (judge (length (t .actions)) (stepSource t) (sourceGoalHolds t) 0 p x₀) (λ v. then (priceTask t true p) (λ c. given (2 * c)))) h
 
 -- ---- the ways of expanding

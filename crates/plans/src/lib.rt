@@ -2,29 +2,24 @@
 //
 // A plan is judged and measured first, then written run by run into output that the caller lends. It never writes what it refuses.
 use actions::Goal;
-use actions::SourceAction;
 use lists::Written;
-use runs::Strokes;
+use rows::MARKS;
+use rows::NUMBERS;
 use source::MODES;
 use source::Progress;
-use source::Shape;
-use source::State;
-use source::Table;
 use source::VARIABLES;
+use source_judge::ACTIONS;
 ghost use mathlib.Core.Path.{_≡_};
 ghost use Prim.Native.Nat.{_≤_};
-ghost use mathlib.Core.Bool.{true};
-ghost use lib.ListN.{length, take};
+ghost use lib.ListN.{length};
 ghost use Rattle.lists.specs.Written.{Lent};
 ghost use Rattle.model.specs.Judging.{expandBytes};
 ghost use Rattle.model.specs.Limits.{sourceLimits};
 ghost use Rattle.model.specs.Plans.{planNumbers};
 ghost use Rattle.model.specs.Reading.{verdictOf};
-ghost use Rattle.model.specs.Steps.{integerAt};
-ghost use Rattle.source.specs.Parts.{effectFits};
-ghost use Rattle.source.specs.Step.{actionIs, Shaped};
 ghost use Rattle.source.specs.Judged.{AcceptedWith};
-ghost use Rattle.plans.specs.Expanding.{ShapedFor, lastLength, Counted, WritableFor, ExpandedFor, StepTaken, StepsExpanded};
+ghost use Rattle.source_judge.specs.Running.{Stands, AtStart};
+ghost use Rattle.plans.specs.Expanding.{lastLength, Counted, Writable, Expanded, StepsExpanded};
 
 // How many bytes the expansion of a plan has that goes so far and has such a price, or its refusal.
 fn last_length(progress: Progress, met: bool, steps: usize, price: u64, passing: u64) -> Written
@@ -44,90 +39,115 @@ fn last_length(progress: Progress, met: bool, steps: usize, price: u64, passing:
     }
 }
 
-// How many bytes the expansion of a plan has, or the plan's refusal.
+// How many bytes the expansion of a plan from a state on has, or the plan's refusal.
 fn count_bytes(
     plan: &[u8],
     steps: usize,
     count: usize,
-    table: Table,
+    marks: &[[u16; MARKS]],
+    numbers: &[[i64; NUMBERS]],
     goal: Goal,
-    shape: Shape,
-    start: State,
+    n: usize,
+    m: usize,
+    values: &[i64; VARIABLES],
+    modes: &[u16; MODES],
 ) -> Written
-    requires { ⌜ ShapedFor shape start × (count ≤ 32) × (steps ≡ length (planNumbers (now plan))) × (steps ≤ 1000000) ⌝ }
-    ensures { λ r. ⌜ Counted (planNumbers (now (plan .entry))) count (table .actions) goal shape start r ⌝ }
+    requires { ⌜ Stands count (now marks) (now numbers) n m (now values) (now modes) × (steps ≡ length (planNumbers (now plan))) × (steps ≤ 1000000) ⌝ }
+    ensures { λ r. ⌜ Counted (planNumbers (now (plan .entry))) count (now (marks .entry)) (now (numbers .entry)) goal n m (now (values .entry)) (now (modes .entry)) r ⌝ }
 {
-    let n = shape.variables;
-    let lower = shape.lower;
-    let upper = shape.upper;
-    let m = shape.modes;
-    let sizes = shape.sizes;
-    let mut values = start.values;
-    let mut modes = start.modes;
-    let measured = prices::measure(
+    let mut last_values = *values;
+    let mut last_modes = *modes;
+    let measured = measuring::measure(
         plan,
         steps,
         count,
-        table,
+        marks,
+        numbers,
         n,
-        &lower,
-        &upper,
         m,
-        &sizes,
-        &mut values,
-        &mut modes,
+        &mut last_values,
+        &mut last_modes,
     );
-    let met = source::goal_holds(&values, n, &modes, m, goal);
+    let met = source::goal_holds(&last_values, n, &last_modes, m, goal);
     let progress = measured.progress;
     last_length(progress, met, steps, measured.price, measured.passing)
 }
 
-// Takes a step in a lent state, and gives its strokes, which go by the values before it.
-fn take_step(
-    values: &mut [i64; VARIABLES],
-    modes: &mut [u16; MODES],
-    shape: Shape,
-    action: SourceAction,
-) -> Strokes
-    requires { ⌜ Shaped (shape .variables) (shape .modes) (now values) (now modes) (shape .sizes) × (effectFits (actionIs action .effect) (integerAt (take (shape .variables) (now values))) ≡ true) ⌝ }
-    ensures { λ r. ⌜ StepTaken shape (actionIs action) (now (values .entry)) (now (modes .entry)) r (now (values .exit)) (now (modes .exit)) ⌝ }
-{
-    let n = shape.variables;
-    let lower = shape.lower;
-    let upper = shape.upper;
-    let m = shape.modes;
-    let sizes = shape.sizes;
-    let before = *values;
-    source::try_action(values, modes, n, &lower, &upper, m, &sizes, action);
-    runs::action_strokes(&before, n, action)
-}
-
-// Writes the expansion of a plan whose steps apply, into output that has room.
+// Writes the expansion of a plan whose steps apply, into output that has room, and takes its steps in the lent state.
 fn put_plan(
     out: &mut [u8],
     plan: &[u8],
     steps: usize,
     count: usize,
-    table: Table,
-    shape: Shape,
-    start: State,
+    marks: &[[u16; MARKS]],
+    numbers: &[[i64; NUMBERS]],
+    n: usize,
+    m: usize,
+    values: &mut [i64; VARIABLES],
+    modes: &mut [u16; MODES],
 ) -> usize
-    requires { ⌜ ShapedFor shape start × (count ≤ 32) × (steps ≡ length (planNumbers (now plan))) ⌝ }
-    requires { ⌜ WritableFor (planNumbers (now plan)) count (table .actions) shape start (now out) ⌝ }
-    ensures { λ r. ⌜ ExpandedFor (planNumbers (now (plan .entry))) count (table .actions) shape start (now (out .entry)) (now (out .exit)) r ⌝ }
+    requires { ⌜ (steps ≡ length (planNumbers (now plan))) × Writable (planNumbers (now plan)) count (now marks) (now numbers) n m (now values) (now modes) (now out) ⌝ }
+    ensures { λ r. ⌜ Expanded (planNumbers (now (plan .entry))) count (now (marks .entry)) (now (numbers .entry)) n m (now (values .entry)) (now (modes .entry)) (now (out .entry)) (now (out .exit)) r ⌝ }
 {
-    let openings = runs::openings_of(count, table);
-    let mut values = start.values;
-    let mut modes = start.modes;
+    let openings = strokes::openings_of(count, marks);
     let mut place: usize = 0;
     let mut i: usize = 0;
     while i < steps {
         let k = source::wide16(planbytes::action_of(plan, i));
-        let strokes = take_step(&mut values, &mut modes, shape, table.actions[k]);
-        place = runs::put_step(out, place, openings.numbers[k], strokes);
+        place = strokes::put_step(
+            out,
+            place,
+            openings.numbers[k],
+            values,
+            n,
+            &marks[k],
+            &numbers[k],
+        );
+        rows::take(values, modes, n, m, &marks[k], &numbers[k]);
         i += 1;
     }
     place
+}
+
+// Expands a plan of so many steps from the start of an accepted file's task, which is lent with the rows of its actions.
+fn expand_rows(
+    file: &[u8],
+    count: usize,
+    plan: &[u8],
+    steps: usize,
+    marks: &[[u16; MARKS]],
+    numbers: &[[i64; NUMBERS]],
+    n: usize,
+    m: usize,
+    values: &mut [i64; VARIABLES],
+    modes: &mut [u16; MODES],
+    out: &mut [u8],
+) -> Written
+    requires { ⌜ AcceptedWith (verdictOf sourceLimits (now file)) count × AtStart (now file) count (now marks) (now numbers) n m (now values) (now modes) × (steps ≡ length (planNumbers (now plan))) × (steps ≤ 1000000) ⌝ }
+    ensures { λ r. ⌜ StepsExpanded (now (file .entry)) (planNumbers (now (plan .entry))) (now (out .entry)) (now (out .exit)) r ⌝ }
+{
+    let goal = actions::decode_goal(actions::goal_bytes(file, count));
+    match count_bytes(
+        plan,
+        steps,
+        count,
+        marks,
+        numbers,
+        goal,
+        n,
+        m,
+        values,
+        modes,
+    ) {
+        Written::Refused(number, place) => Written::Refused(number, place),
+        Written::Bytes(bytes) => {
+            if out.len() < bytes {
+                return Written::Refused(8, bytes as u64);
+            }
+            put_plan(out, plan, steps, count, marks, numbers, n, m, values, modes);
+            Written::Bytes(bytes)
+        }
+    }
 }
 
 // Expands a plan of so many steps against an accepted file with so many actions.
@@ -135,21 +155,33 @@ fn expand_steps(file: &[u8], count: usize, plan: &[u8], steps: usize, out: &mut 
     requires { ⌜ AcceptedWith (verdictOf sourceLimits (now file)) count × (steps ≡ length (planNumbers (now plan))) × (steps ≤ 1000000) ⌝ }
     ensures { λ r. ⌜ StepsExpanded (now (file .entry)) (planNumbers (now (plan .entry))) (now (out .entry)) (now (out .exit)) r ⌝ }
 {
-    let setting = source::read_setting(file);
-    let shape = setting.shape;
-    let start = setting.start;
-    let table = source::decode_actions(file, count);
-    let goal = actions::decode_goal(actions::goal_bytes(file, count));
-    match count_bytes(plan, steps, count, table, goal, shape, start) {
-        Written::Refused(number, place) => Written::Refused(number, place),
-        Written::Bytes(bytes) => {
-            if out.len() < bytes {
-                return Written::Refused(8, bytes as u64);
-            }
-            put_plan(out, plan, steps, count, table, shape, start);
-            Written::Bytes(bytes)
-        }
-    }
+    let mut marks = [[0u16; MARKS]; ACTIONS];
+    let mut numbers = [[0i64; NUMBERS]; ACTIONS];
+    let mut values = [0i64; VARIABLES];
+    let mut modes = [0u16; MODES];
+    let declared = source_judge::read_task(
+        file,
+        count,
+        &mut marks,
+        &mut numbers,
+        &mut values,
+        &mut modes,
+    );
+    let n = declared.variables;
+    let m = declared.modes;
+    expand_rows(
+        file,
+        count,
+        plan,
+        steps,
+        &marks,
+        &numbers,
+        n,
+        m,
+        &mut values,
+        &mut modes,
+        out,
+    )
 }
 
 // Writes the expansion of a plan of a file's task into lent output. It refuses a plan that isn't valid for the task, an expansion of over

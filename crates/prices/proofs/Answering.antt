@@ -18,7 +18,7 @@ use Rattle.model.specs.Limits.{sourceLimits}
 use Rattle.model.specs.Tasks.{Effect, noEffect, addEffect, linearEffect, quotientEffect, residueEffect, SourceAction, SourceTask, State}
 use Rattle.model.specs.TaskOk.{AmountOk, EffectOk, SourceActionOk}
 use Rattle.model.specs.Systems.{orZero}
-use Rattle.model.specs.Steps.{integerAt, linear, stepSource, sizesOf, sourceGoalHolds}
+use Rattle.model.specs.Steps.{integerAt, linear, stepSource, sizesOf, sourceStart, sourceGoalHolds}
 use Rattle.model.specs.Expansion.{magnitudes, priceOfEffect, priceFrom}
 use Rattle.model.specs.Judging.{judge, ifApplies, declaredPart, withRest, stepAlone, judgeSourceTask, pricesFrom, priceTask, priceStep, pricePlan}
 use Rattle.model.specs.Plans.{readPlan}
@@ -34,13 +34,14 @@ use Rattle.declarations.specs.declared.Declared.{Declared}
 use Rattle.declarations.specs.Holding.{HoldsSource}
 use Rattle.source.specs.declared.Progress.{Progress}
 use Rattle.source.specs.declared.Progress.the-variants.{Through, Stopped}
-use Rattle.source.specs.Step.{state, actionIs, Tried}
+use Rattle.source.specs.Step.{state, actionIs, Shaped, Tried}
 use Rattle.source.specs.Alone.{stepVerdict, verdictOver}
-use Rattle.source.specs.Judged.{Ready, onProgress, AcceptedWith}
+use Rattle.source.specs.Judged.{onProgress, AcceptedWith}
 use Rattle.source.proofs.Judging.{task-of, accepted-task, counted-task, action-is}
 use Rattle.source.proofs.Alone.{step-taken}
-use Rattle.prices.specs.declared.Measured.{Measured}
-use Rattle.prices.specs.Measures.{PlanMeasured}
+use Rattle.rows.specs.Ready.{Ready}
+use Rattle.measuring.specs.declared.Measured.{Measured}
+use Rattle.measuring.specs.Measures.{PlanMeasured}
 use Rattle.prices.specs.declared.Priced.{Priced}
 use Rattle.prices.specs.Answers.{pricedIs, lastPrice, StepPriced, StepsPriced}
 
@@ -96,17 +97,17 @@ last-is Through true steps price x a h = sym (h refl)
 last-is Through false steps price x a h = refl
 last-is (Stopped number place) met steps price x a h = refl
 
-module _ (t : SourceTask) (p : List ℕ) (count : ℕ) (table : List DecodedSource) (r : Declared) (lower upper : List ℤ) (sizes : List ℕ) (values : List ℤ) (modes : List ℕ) (q : Measured) (values′ : List ℤ) (modes′ : List ℕ) where
-  pub priced-so : HoldsSource t r lower upper values sizes modes → Ready t count table (r .variables) lower upper (r .modes) sizes → PlanMeasured p count table (r .variables) lower upper (r .modes) sizes values modes q values′ modes′
-      → (met : Bool) → met ≡ sourceGoalHolds t (declaredPart (r .variables) (r .modes) (state values′ modes′)) → (steps : ℕ) → steps ≡ length p
+module _ (t : SourceTask) (p : List ℕ) {count : ℕ} {marks : List (List ℕ)} {numbers : List (List ℤ)} {n : ℕ} {lower upper : List ℤ} {m : ℕ} {sizes : List ℕ} {values : List ℤ} {modes : List ℕ} {q : Measured} {values′ : List ℤ} {modes′ : List ℕ} where
+  pub priced-so : Shaped n m values modes sizes → Ready t count marks numbers n lower upper m sizes → declaredPart n m (state values modes) ≡ sourceStart t → PlanMeasured p count marks numbers n m values modes q values′ modes′
+      → (met : Bool) → met ≡ sourceGoalHolds t (declaredPart n m (state values′ modes′)) → (steps : ℕ) → steps ≡ length p
       → pricedIs (lastPrice (q .progress) met steps (q .price)) ≡ then (judgeSourceTask t p) (λ v. priceTask t false p)
   unfolding judge
-  priced-so h R M met m steps s =
-      let x = declaredPart (r .variables) (r .modes) (state values′ modes′) in
-      last-is (q .progress) met steps (q .price) x (priceTask t false p) (λ e. ap (pricesFrom (stepSource t) (priceFrom (t .actions)) false 0 0 p) (sym (h .startIs)) ∙ M .priced t R e false)
-      ∙ ap₂ (λ (b : Bool) (n : ℕ). then {A = ℕ × State} (onProgress (q .progress) (cond b (given (n, x)) (refused 13 n))) (λ v. priceTask t false p)) m s
-      ∙ ap (λ (o : Answer (ℕ × State)). then o (λ v. priceTask t false p)) (sym (M .ran .judges t R (sourceGoalHolds t)))
-      ∙ ap (λ (x₀ : State). then (judge (length (t .actions)) (stepSource t) (sourceGoalHolds t) 0 p x₀) (λ v. priceTask t false p)) (h .startIs)
+  priced-so S R h M met g steps s =
+      let x = declaredPart n m (state values′ modes′) in
+      last-is (q .progress) met steps (q .price) x (priceTask t false p) (λ e. ap (pricesFrom (stepSource t) (priceFrom (t .actions)) false 0 0 p) (sym h) ∙ M .priced _ _ _ S t R e false)
+      ∙ ap₂ (λ (b : Bool) (j : ℕ). then {A = ℕ × State} (onProgress (q .progress) (cond b (given (j, x)) (refused 13 j))) (λ v. priceTask t false p)) g s
+      ∙ ap (λ (o : Answer (ℕ × State)). then o (λ v. priceTask t false p)) (sym (M .taken .ran _ _ _ S .judges t R (sourceGoalHolds t)))
+      ∙ ap (λ (x₀ : State). then (judge (length (t .actions)) (stepSource t) (sourceGoalHolds t) 0 p x₀) (λ v. priceTask t false p)) h
 
 -- ---- the ways of pricing a step
 abbrev priceStepOf : Answer SourceTask → State → ℕ → Answer ℕ

@@ -5,11 +5,13 @@ use actions::Effect;
 use actions::SourceAction;
 use actions::TERMS;
 use actions::Term;
+use rows::MARKS;
+use rows::NUMBERS;
 use source::MODES;
 use source::Progress;
 use source::State;
-use source::Table;
 use source::VARIABLES;
+use source_judge::ACTIONS;
 ghost use mathlib.Core.Path.{_≡_};
 ghost use mathlib.Core.Bool.{true, _&&_};
 ghost use Prim.Native.Nat.{_<_, _≤_};
@@ -23,12 +25,12 @@ ghost use Rattle.model.specs.Plans.{planNumbers};
 ghost use Rattle.model.specs.Limits.{sourceLimits};
 ghost use Rattle.model.specs.Reading.{verdictOf};
 ghost use Rattle.model.specs.Judging.{priceStep, pricePlan};
-ghost use Rattle.source.specs.Step.{actionIs, wholeIs, Shaped};
+ghost use Rattle.source.specs.Step.{actionIs, wholeIs};
 ghost use Rattle.source.specs.Judged.{AcceptedWith};
 ghost use Rattle.source.specs.Parts.{termsIn, effectIn, small, divides, termFits, effectFits};
+ghost use Rattle.source_judge.specs.Running.{AtStart};
 ghost use Rattle.prices.specs.Prices.{divisionPrice};
 ghost use Rattle.prices.specs.Answers.{pricedIs, lastPrice, StepPriced, StepsPriced};
-ghost use Rattle.prices.specs.Measures.{firstPassing, Halted, PlanMeasured};
 
 // |z| of a number that is not large.
 fn size(z: i64) -> u64
@@ -124,81 +126,6 @@ pub fn price_of(values: &[i64; VARIABLES], n: usize, a: SourceAction) -> u64
     price(values, n, effect, a.term_count, terms)
 }
 
-// The most steps that an expansion has.
-const MOST: u64 = 1_000_000;
-
-// How far a plan goes, the sum of its prices, and the first step with which the sum passes 1,000,000 (where it does).
-pub struct Measured {
-    pub progress: Progress,
-    pub price: u64,
-    pub passing: u64,
-}
-
-// That step, once step i has brought the sum to `after`.
-fn first_passing(passing: u64, sum: u64, after: u64, i: u64) -> u64
-    ensures { λ r. ⌜ r ≡ firstPassing passing sum after i ⌝ }
-{
-    if MOST < sum {
-        return passing;
-    }
-    if MOST < after {
-        return i;
-    }
-    passing
-}
-
-fn stopped(number: u8, place: u64, price: u64) -> Measured
-    ensures { λ r. ⌜ Halted number place price r ⌝ }
-{
-    Measured {
-        progress: Progress::Stopped(number, place),
-        price,
-        passing: 0,
-    }
-}
-
-// Takes the steps of a plan in a lent state, and sums their prices.
-pub fn measure(
-    plan: &[u8],
-    steps: usize,
-    count: usize,
-    table: Table,
-    n: usize,
-    lower: &[i64; VARIABLES],
-    upper: &[i64; VARIABLES],
-    m: usize,
-    sizes: &[u16; MODES],
-    values: &mut [i64; VARIABLES],
-    modes: &mut [u16; MODES],
-) -> Measured
-    requires { ⌜ Shaped n m (now values) (now modes) (now sizes) × (count ≤ 32) × (steps ≡ length (planNumbers (now plan))) × (steps ≤ 1000000) ⌝ }
-    ensures { λ r. ⌜ PlanMeasured (planNumbers (now (plan .entry))) count (table .actions) n (now (lower .entry)) (now (upper .entry)) m (now (sizes .entry)) (now (values .entry)) (now (modes .entry)) r (now (values .exit)) (now (modes .exit)) ⌝ }
-{
-    let mut price: u64 = 0;
-    let mut passing: u64 = 0;
-    let mut i: usize = 0;
-    while i < steps {
-        let k = source::wide16(planbytes::action_of(plan, i));
-        if count <= k {
-            return stopped(11, i as u64, price);
-        }
-        let action = table.actions[k];
-        let before = *values;
-        if !source::try_action(values, modes, n, lower, upper, m, sizes, action) {
-            return stopped(12, i as u64, price);
-        }
-        let sum = price;
-        price = sum + price_of(&before, n, action);
-        passing = first_passing(passing, sum, price, i as u64);
-        i += 1;
-    }
-    Measured {
-        progress: Progress::Through,
-        price,
-        passing,
-    }
-}
-
 // What pricing answers: a price, or a refusal.
 pub enum Priced {
     Price(u64),
@@ -274,44 +201,60 @@ fn last_price(progress: Progress, met: bool, steps: usize, price: u64) -> Priced
     }
 }
 
+// Prices a plan of so many steps from the start of an accepted file's task, which is lent with the rows of its actions.
+fn price_rows(
+    file: &[u8],
+    count: usize,
+    plan: &[u8],
+    steps: usize,
+    marks: &[[u16; MARKS]],
+    numbers: &[[i64; NUMBERS]],
+    n: usize,
+    m: usize,
+    values: &mut [i64; VARIABLES],
+    modes: &mut [u16; MODES],
+) -> Priced
+    requires { ⌜ AcceptedWith (verdictOf sourceLimits (now file)) count × AtStart (now file) count (now marks) (now numbers) n m (now values) (now modes) × (steps ≡ length (planNumbers (now plan))) × (steps ≤ 1000000) ⌝ }
+    ensures { λ r. ⌜ StepsPriced (now (file .entry)) (planNumbers (now (plan .entry))) r ⌝ }
+{
+    let measured = measuring::measure(plan, steps, count, marks, numbers, n, m, values, modes);
+    let goal = actions::decode_goal(actions::goal_bytes(file, count));
+    let met = source::goal_holds(values, n, modes, m, goal);
+    let progress = measured.progress;
+    last_price(progress, met, steps, measured.price)
+}
+
 // Prices a plan of so many steps against an accepted file with so many actions.
 fn price_steps(file: &[u8], count: usize, plan: &[u8], steps: usize) -> Priced
     requires { ⌜ AcceptedWith (verdictOf sourceLimits (now file)) count × (steps ≡ length (planNumbers (now plan))) × (steps ≤ 1000000) ⌝ }
     ensures { λ r. ⌜ StepsPriced (now (file .entry)) (planNumbers (now (plan .entry))) r ⌝ }
 {
-    let mut lower = [0i64; VARIABLES];
-    let mut upper = [0i64; VARIABLES];
+    let mut marks = [[0u16; MARKS]; ACTIONS];
+    let mut numbers = [[0i64; NUMBERS]; ACTIONS];
     let mut values = [0i64; VARIABLES];
-    let mut sizes = [0u16; MODES];
     let mut modes = [0u16; MODES];
-    let declared = declarations::read_source(
+    let declared = source_judge::read_task(
         file,
-        &mut lower,
-        &mut upper,
+        count,
+        &mut marks,
+        &mut numbers,
         &mut values,
-        &mut sizes,
         &mut modes,
     );
     let n = declared.variables;
     let m = declared.modes;
-    let table = source::decode_actions(file, count);
-    let measured = measure(
+    price_rows(
+        file,
+        count,
         plan,
         steps,
-        count,
-        table,
+        &marks,
+        &numbers,
         n,
-        &lower,
-        &upper,
         m,
-        &sizes,
         &mut values,
         &mut modes,
-    );
-    let goal = actions::decode_goal(actions::goal_bytes(file, count));
-    let met = source::goal_holds(&values, n, &modes, m, goal);
-    let progress = measured.progress;
-    last_price(progress, met, steps, measured.price)
+    )
 }
 
 // The price of a plan, from the file's start on.

@@ -20,14 +20,13 @@ last-length-requires c κs = search needs
 
 returns : tie.Need-returns
 returns c =
-    let s = c .before .before .before .before .before .before .before .before .before .before .before .before .before .before .before .before in
+    let s = c .before .before .before .before .before .before .before .before .before .before in
     let g = c .before .goal-holds in
-    let h = s .args .shape in
     let M = c .before .before .before .before .measure in
     record {
-      is = λ t r goal e.
+      is = λ lower upper sizes S t r goal e.
           rw (c .last-length .ensures)
-          (counted-so t (planNumbers (now (s .args .plan))) (s .args .count) _ _ _ _ _ _ (s .args .start .values) (s .args .start .modes) (M .result) _ _ r e (M .ensures) _ (g .ensures ∙ goal (declaredPart (h .variables) (h .modes) (state (M .last .1 .1 .1 .1 .1 .1 .1 .1 .1 .0) (M .last .1 .1 .1 .1 .1 .1 .1 .1 .1 .1 .0)))) (s .args .steps) (s .pre .2));
+          (counted-so t (planNumbers (now (s .args .plan))) S r e (M .ensures) _ (g .ensures ∙ goal (declaredPart (s .args .n) (s .args .m) (state (M .last .1 .1 .1 .1 .1 .1 .1 .0) (M .last .1 .1 .1 .1 .1 .1 .1 .1 .0)))) (s .args .steps) (s .pre .1));
     }
 
 pub count-bytes-spec : {M : Type 1} → statement M

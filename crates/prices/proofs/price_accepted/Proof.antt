@@ -4,7 +4,7 @@ use native.Mathlib.Omega.{arith}
 use borrow.Author.Tests.{not-true, not-false}
 use Rattle.declarations.proofs.Accepted.{source-held}
 use Rattle.source.proofs.Judging.{bytes-of, task-of, accepted-task, counted-task, few-actions, zero-room}
-use Rattle.prices.proofs.Measuring.{fitted}
+use Rattle.prices.proofs.Fitting.{fitted}
 use Rattle.prices.proofs.Answering.{not-priced, priced-alone}
 use borrow.Author.Needs.{needs}
 use Rattle.prices.proofs.price_accepted.Statement.{statement}
