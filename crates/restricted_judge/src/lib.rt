@@ -1,5 +1,5 @@
-// The judge of restricted plans. It reads the file and the plan, takes each run of equal numbers by one call of `repeats`, keeps the decoded
-// actions of a long plan (`kept`), and answers for every input.
+// The judge of restricted plans. It reads the file and the plan, keeps the decoded actions of a long plan (`kept`) and takes
+// its runs of equal numbers at once (`repeats`), and answers for every input.
 use actions::ADDITIONS;
 use actions::CONDITIONS;
 use actions::Goal;
@@ -59,7 +59,7 @@ fn wide16(x: u16) -> usize
     x as usize
 }
 
-// The steps of a plan from step `from` on, as long as they take action k.
+// The steps of a plan from step `from` on one by one, as long as they take action k.
 fn take_decoded(
     values: &mut [i64; VARIABLES],
     modes: &mut [u16; MODES],
@@ -75,30 +75,44 @@ fn take_decoded(
     requires { ⌜ CanRun n m (now sizes) (now values) (now modes) (actionIs action) k (now plan) from steps ⌝ }
     ensures { λ r. ⌜ Ran n m (now (sizes .entry)) (now (values .entry)) (now (modes .entry)) (actionIs action) k (now (plan .entry)) from steps r (now (values .exit)) (now (modes .exit)) ⌝ }
 {
-    repeats::take_run(
-        values,
-        modes,
-        n,
-        m,
-        sizes,
-        action.condition_count,
-        &action.condition_variables,
-        &action.condition_relations,
-        &action.condition_constants,
-        action.mode_condition_count,
-        &action.mode_condition_modes,
-        &action.mode_condition_values,
-        action.mode_effect_count,
-        &action.mode_effect_modes,
-        &action.mode_effect_values,
-        action.addition_count,
-        &action.addition_variables,
-        &action.addition_amounts,
-        k,
-        plan,
-        from,
-        steps,
-    )
+    let mut i = from;
+    while i < steps {
+        if planbytes::action_of(plan, i) != k {
+            return Run::Until(i);
+        }
+        if !restricted::conditions_met(
+            values,
+            modes,
+            n,
+            m,
+            action.condition_count,
+            &action.condition_variables,
+            &action.condition_relations,
+            &action.condition_constants,
+            action.mode_condition_count,
+            &action.mode_condition_modes,
+            &action.mode_condition_values,
+        ) {
+            return Run::Stopped(i);
+        }
+        if !restricted::apply(
+            values,
+            modes,
+            n,
+            m,
+            sizes,
+            action.addition_count,
+            &action.addition_variables,
+            &action.addition_amounts,
+            action.mode_effect_count,
+            &action.mode_effect_modes,
+            &action.mode_effect_values,
+        ) {
+            return Run::Stopped(i);
+        }
+        i += 1;
+    }
+    Run::Until(i)
 }
 
 // All steps of a plan, run by run: an action is decoded where the number changes.
