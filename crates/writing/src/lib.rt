@@ -217,18 +217,6 @@ pub fn put_action(out: &mut [u8], at: usize, action: RestrictedAction) -> usize
     )
 }
 
-// How many bytes an action has.
-pub fn action_size(action: RestrictedAction) -> usize
-    requires { ⌜ Writable action ⌝ }
-    ensures { λ r. ⌜ (r ≡ length (actionBytes (restrictedActionIs action))) × (r ≤ 361) ⌝ }
-{
-    1
-        + 4 * action.mode_condition_count
-        + 7 * action.condition_count
-        + 4 * action.mode_effect_count
-        + 6 * action.addition_count
-}
-
 // The U of the first n of an array.
 fn put_declared_starts(out: &mut [u8], at: usize, n: usize, starts: &[i64; STARTS]) -> usize
     requires { ⌜ (n ≤ 8) × (length (now starts) ≡ 8) ⌝ }

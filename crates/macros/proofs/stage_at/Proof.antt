@@ -47,7 +47,6 @@ stage-with-requires c κs =
     let up : SFits w64 (c .upper-of .result) = search needs in
     let le : c .before .lower-of .result ≡ lowerOf h (targetIs (a .effect)) = c .before .lower-of .ensures ∙ ap (lowerOf h) (c .before .before .target-of .ensures) in
     let ue : c .upper-of .result ≡ upperOf h (targetIs (a .effect)) = c .upper-of .ensures ∙ ap (upperOf h) (c .before .before .target-of .ensures) in
-    let with = stages-with h a k (c .before .lower-of .result) (c .upper-of .result) same le ue in
     let q = c .before .before .before .before .before .pre .0 in
     let l = long (c .before .before .before .before .before) in
     let l′ = toZ-ofZ lo ∙ le in
