@@ -1,0 +1,5 @@
+pub mod Modes
+pub mod Numbers
+pub mod Standing
+pub mod Start
+pub mod Taking

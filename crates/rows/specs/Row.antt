@@ -11,6 +11,7 @@
 use mathlib.Core.Path.{_≡_}
 use Prim.Native.Nat.{ℕ, min, _+_, _*_, _≤_, _<_}
 use mathlib.Core.Bool.{Bool, true, cond, _&&_}
+use mathlib.Core.Option.{Option}
 use mathlib.Core.List.{List, _++_}
 use lib.Dec.{eqb, leb}
 use lib.ListN.{length, take, drop}
@@ -19,7 +20,7 @@ use Rattle.integers.specs.Relation.{between}
 use Rattle.lists.specs.Each.{tabulate}
 use Rattle.lists.specs.Loops.{every}
 use Rattle.model.specs.Tasks.{Effect, noEffect, addEffect, linearEffect, quotientEffect, residueEffect, SourceAction}
-use Rattle.model.specs.Steps.{integerAt, naturalAt, modesHold, conditionsHold, setAll}
+use Rattle.model.specs.Steps.{integerAt, naturalAt, modesHold, conditionsHold, setAll, result, withinBounds}
 use Rattle.source.specs.Parts.{valuesBetween, modesBelow, effectFits}
 use Rattle.source.specs.Step.{Tried}
 
@@ -63,12 +64,29 @@ effectOfKind kind target operand c terms =
 abbrev pub effectAt : List ℕ → List ℤ → Effect
 effectAt marks numbers = effectOfKind (kindAt marks) (targetAt marks) (operandAt marks) (constantAt numbers) (termsAt marks numbers)
 
+-- what the effect gives its target, and whether that lies within the bounds of the row
+abbrev pub outcomeAt : ℕ → List ℕ → List ℤ → List ℤ → Option (ℕ × ℤ)
+outcomeAt n marks numbers values = result (effectAt marks numbers) (integerAt (take n values))
+
+abbrev pub staysIn : List ℤ → Option (ℕ × ℤ) → Bool
+staysIn numbers o = withinBounds (λ i. integerAt numbers 21) (λ i. integerAt numbers 22) o
+
+-- ---- a mode stays as it is or is set, and remains a number of 16 bits
+abbrev pub KeepOrSet : List ℕ → Type 0
+KeepOrSet marks = (i : ℕ) → i < 4 → naturalAt marks (8 + i) * 65535 + naturalAt marks (12 + i) ≤ 65535
+
 -- ---- rows with which no sum, product or quotient leaves its range, in a state whose values do not
 pub record Usable (marks : List ℕ) (numbers : List ℤ) : Type 0 where
-  pub keeps : (i : ℕ) → i < 4 → naturalAt marks (8 + i) * 65535 + naturalAt marks (12 + i) ≤ 65535
+  pub keeps : KeepOrSet marks
   pub factors : (i : ℕ) → i ≤ 4 → natAbs (integerAt numbers (16 + i)) ≤ 10000
   pub divides : 3 ≤ kindAt marks → 1 ≤ natAbs (constantAt numbers)
   pub unweighted : (i : ℕ) → i < 4 → termCountAt marks ≤ i → integerAt numbers (17 + i) ≡ pos 0
+
+-- n values with which they do not
+pub record Reads (n : ℕ) (values : List ℤ) (marks : List ℕ) (numbers : List ℤ) : Type 0 where
+  pub variablesFew : n ≤ 8
+  pub near : (i : ℕ) → natAbs (integerAt (take n values) i) ≤ 10000
+  pub usable : Usable marks numbers
 
 -- the values and modes of a state that can be stepped: so many are declared, and each value is that of a source file
 pub record Steady (n m : ℕ) (values : List ℤ) (modes : List ℕ) : Type 0 where

@@ -3,8 +3,239 @@
 // A row says of every variable and of every mode between which values the action applies, so that a step goes through the declared
 // variables and modes once, whatever conditions the action was written with. Rows are lent; what they mean is said in specs/Row.antt.
 // It never reads a file, and never finds an action by its number.
+use source::MODES;
+use source::VARIABLES;
+ghost use mathlib.Core.Path.{_≡_};
+ghost use mathlib.Core.Option.{some};
+ghost use mathlib.Core.Bool.{cond, _&&_};
+ghost use Prim.Native.Nat.{_+_, _*_, _≤_, _<_};
+ghost use lib.Dec.{leb};
+ghost use lib.ListN.{length, take};
+ghost use lib.IntN.{natAbs, _+ℤ_, _*ℤ_};
+ghost use Rattle.integers.specs.Parts.{Within};
+ghost use Rattle.model.specs.Steps.{integerAt, naturalAt, linear};
+ghost use Rattle.source.specs.Step.{setAt, settled};
+ghost use Rattle.rows.specs.Row.{valuesIn, modesIn, modesAfter, KeepOrSet, kindAt, targetAt, constantAt, termsAt, effectAt, outcomeAt, staysIn, Reads, Usable, Steady, Stepped};
 
 // How long the rows of an action are.
 pub const MARKS: usize = 32;
 
 pub const NUMBERS: usize = 24;
+
+fn wide(x: u16) -> usize
+    ensures { λ r. ⌜ r ≡ x ⌝ }
+{
+    x as usize
+}
+
+// Whether each of n values lies between what a row says.
+fn values_in(values: &[i64; VARIABLES], n: usize, numbers: &[i64; NUMBERS]) -> bool
+    requires { ⌜ n ≤ 8 ⌝ }
+    ensures { λ r. ⌜ r ≡ valuesIn n (now (numbers .entry)) (now (values .entry)) ⌝ }
+{
+    let mut i: usize = 0;
+    while i < n {
+        if !integers::is_between(numbers[i], values[i], numbers[8 + i]) {
+            return false;
+        }
+        i += 1;
+    }
+    true
+}
+
+fn is_mode_between(least: u16, mode: u16, most: u16) -> bool
+    ensures { λ r. ⌜ r ≡ (leb least mode && leb mode most) ⌝ }
+{
+    least <= mode && mode <= most
+}
+
+// Whether each of m modes does.
+fn modes_in(modes: &[u16; MODES], m: usize, marks: &[u16; MARKS]) -> bool
+    requires { ⌜ m ≤ 4 ⌝ }
+    ensures { λ r. ⌜ r ≡ modesIn m (now (marks .entry)) (now (modes .entry)) ⌝ }
+{
+    let mut i: usize = 0;
+    while i < m {
+        if !is_mode_between(marks[i], modes[i], marks[4 + i]) {
+            return false;
+        }
+        i += 1;
+    }
+    true
+}
+
+// Whether a state of n variables and m modes is within the bounds of its task, and the conditions of an action hold in it.
+pub fn holds(
+    values: &[i64; VARIABLES],
+    modes: &[u16; MODES],
+    n: usize,
+    m: usize,
+    marks: &[u16; MARKS],
+    numbers: &[i64; NUMBERS],
+) -> bool
+    requires { ⌜ (n ≤ 8) × (m ≤ 4) ⌝ }
+    ensures { λ r. ⌜ r ≡ (modesIn m (now (marks .entry)) (now (modes .entry)) && valuesIn n (now (numbers .entry)) (now (values .entry))) ⌝ }
+{
+    if !modes_in(modes, m, marks) {
+        return false;
+    }
+    values_in(values, n, numbers)
+}
+
+// A mode that stays, or what it is set to.
+fn mode_after(mode: u16, keep: u16, put: u16) -> u16
+    requires { ⌜ keep * 65535 + put ≤ 65535 ⌝ }
+    ensures { λ r. ⌜ r ≡ mode * keep + put ⌝ }
+{
+    mode * keep + put
+}
+
+// Sets the modes, of m, that an action sets.
+fn set_modes(modes: &mut [u16; MODES], m: usize, marks: &[u16; MARKS])
+    requires { ⌜ (m ≤ 4) × (m ≤ length (now modes)) × KeepOrSet (now marks) ⌝ }
+    ensures { λ _. ⌜ now (modes .exit) ≡ modesAfter m (now (marks .entry)) (now (modes .entry)) ⌝ }
+{
+    let mut i: usize = 0;
+    while i < m {
+        modes[i] = mode_after(modes[i], marks[8 + i], marks[12 + i]);
+        i += 1;
+    }
+}
+
+// The value of a variable, of n; 0 where it is not declared.
+fn value_of(values: &[i64; VARIABLES], n: usize, variable: u16) -> i64
+    requires { ⌜ n ≤ 8 ⌝ }
+    ensures { λ r. ⌜ r ≡ integerAt (take n (now (values .entry))) variable ⌝ }
+{
+    let i = wide(variable);
+    if i < n {
+        return values[i];
+    }
+    0
+}
+
+fn sum(value: i64, constant: i64) -> i64
+    requires { ⌜ (natAbs value ≤ 10000) × (natAbs constant ≤ 10000) ⌝ }
+    ensures { λ r. ⌜ r ≡ value +ℤ constant ⌝ }
+{
+    value + constant
+}
+
+fn plus_product(z: i64, value: i64, weight: i64) -> i64
+    requires { ⌜ Within 1000000000 z × (natAbs value ≤ 10000) × (natAbs weight ≤ 10000) ⌝ }
+    ensures { λ r. ⌜ (r ≡ z +ℤ value *ℤ weight) × (natAbs r ≤ natAbs z + 100000000) ⌝ }
+{
+    z + value * weight
+}
+
+// A sum with one more term. A term that is not there weighs 0.
+fn plus_term(
+    z: i64,
+    values: &[i64; VARIABLES],
+    n: usize,
+    marks: &[u16; MARKS],
+    numbers: &[i64; NUMBERS],
+    i: usize,
+) -> i64
+    requires { ⌜ Reads n (now values) (now marks) (now numbers) × (i < 4) × Within 1000000000 z ⌝ }
+    ensures { λ r. ⌜ (r ≡ z +ℤ integerAt (take n (now (values .entry))) (naturalAt (now (marks .entry)) (20 + i)) *ℤ integerAt (now (numbers .entry)) (17 + i)) × (natAbs r ≤ natAbs z + 100000000) ⌝ }
+{
+    let value = value_of(values, n, marks[20 + i]);
+    plus_product(z, value, numbers[17 + i])
+}
+
+// What an L gives.
+pub fn linear_value(
+    values: &[i64; VARIABLES],
+    n: usize,
+    marks: &[u16; MARKS],
+    numbers: &[i64; NUMBERS],
+) -> i64
+    requires { ⌜ Reads n (now values) (now marks) (now numbers) ⌝ }
+    ensures { λ r. ⌜ (r ≡ linear (constantAt (now (numbers .entry))) (termsAt (now (marks .entry)) (now (numbers .entry))) (integerAt (take n (now (values .entry))))) × Within 1000000000 r ⌝ }
+{
+    let a = plus_term(numbers[16], values, n, marks, numbers, 0);
+    let b = plus_term(a, values, n, marks, numbers, 1);
+    let c = plus_term(b, values, n, marks, numbers, 2);
+    plus_term(c, values, n, marks, numbers, 3)
+}
+
+// What the effect of an action gives its target.
+fn effect_value(
+    values: &[i64; VARIABLES],
+    n: usize,
+    marks: &[u16; MARKS],
+    numbers: &[i64; NUMBERS],
+) -> i64
+    requires { ⌜ Reads n (now values) (now marks) (now numbers) × (1 ≤ kindAt (now marks)) ⌝ }
+    ensures { λ r. ⌜ outcomeAt n (now (marks .entry)) (now (numbers .entry)) (now (values .entry)) ≡ some (targetAt (now (marks .entry)), r) ⌝ }
+{
+    let kind = marks[16];
+    if kind == 1 {
+        return sum(value_of(values, n, marks[17]), numbers[16]);
+    }
+    if kind == 2 {
+        return linear_value(values, n, marks, numbers);
+    }
+    let operand = value_of(values, n, marks[18]);
+    if kind == 3 {
+        return integers::quotient(operand, numbers[16]);
+    }
+    integers::residue(operand, numbers[16])
+}
+
+// Sets a variable, of n; nothing where it is not declared.
+fn set_value(values: &mut [i64; VARIABLES], n: usize, variable: u16, value: i64)
+    requires { ⌜ n ≤ 8 ⌝ }
+    ensures { λ _. ⌜ now (values .exit) ≡ setAt n (now (values .entry)) variable value ⌝ }
+{
+    let i = wide(variable);
+    if i < n {
+        values[i] = value;
+        return;
+    }
+}
+
+// Gives the target of an action's effect its value, which lies within the target's bounds. Whether it does.
+fn settle(
+    values: &mut [i64; VARIABLES],
+    n: usize,
+    marks: &[u16; MARKS],
+    numbers: &[i64; NUMBERS],
+) -> bool
+    requires { ⌜ Reads n (now values) (now marks) (now numbers) ⌝ }
+    ensures { λ r. ⌜ r ≡ staysIn (now (numbers .entry)) (outcomeAt n (now (marks .entry)) (now (numbers .entry)) (now (values .entry))) ⌝ }
+    ensures { λ r. ⌜ now (values .exit) ≡ cond (staysIn (now (numbers .entry)) (outcomeAt n (now (marks .entry)) (now (numbers .entry)) (now (values .entry)))) (settled n (outcomeAt n (now (marks .entry)) (now (numbers .entry)) (now (values .entry))) (now (values .entry))) (now (values .entry)) ⌝ }
+{
+    if marks[16] == 0 {
+        return true;
+    }
+    let value = effect_value(values, n, marks, numbers);
+    if !integers::is_between(numbers[21], value, numbers[22]) {
+        return false;
+    }
+    set_value(values, n, marks[17], value);
+    true
+}
+
+// Takes the action of two rows in a lent state where it applies, and else leaves the state as it was. Whether it applies.
+pub fn take(
+    values: &mut [i64; VARIABLES],
+    modes: &mut [u16; MODES],
+    n: usize,
+    m: usize,
+    marks: &[u16; MARKS],
+    numbers: &[i64; NUMBERS],
+) -> bool
+    requires { ⌜ Steady n m (now values) (now modes) × Usable (now marks) (now numbers) ⌝ }
+    ensures { λ r. ⌜ Stepped n m (now (marks .entry)) (now (numbers .entry)) (now (values .entry)) (now (modes .entry)) r (now (values .exit)) (now (modes .exit)) ⌝ }
+{
+    if !holds(values, modes, n, m, marks, numbers) {
+        return false;
+    }
+    if !settle(values, n, marks, numbers) {
+        return false;
+    }
+    set_modes(modes, m, marks);
+    true
+}

@@ -121,14 +121,14 @@ pub zeros-kept : {file : List ℕ} {r : Declared} {lower upper start : List ℤ}
 zeros-kept s = record { valuesKept = source-variables zero-room s .allStarts .rest; modesKept = source-modes zero-room s .allValues .rest }
 
 -- the declared part in front of zeros
-in-front : {n m : ℕ} {values : List ℤ} {modes sizes : List ℕ} → Shaped n m values modes sizes → Kept n m (replicate 8 (pos 0)) (replicate 4 0) values modes
+pub in-front : {n m : ℕ} {values : List ℤ} {modes sizes : List ℕ} → Shaped n m values modes sizes → Kept n m (replicate 8 (pos 0)) (replicate 4 0) values modes
     → state values modes ≡ withRest (length (take n values)) (length (take m modes)) zeros (declaredPart n m (state values modes))
 in-front {n} {m} {values} {modes} h k = ap₂ state
     (sym (take-append-drop n values) ∙ ap (λ (l : List ℤ). take n values ++ l) (k .valuesKept ∙ ap (λ (i : ℕ). drop i (replicate 8 (pos 0))) (sym (length-take-le n values (omega (arith, h .valuesLong, h .variablesFew))))))
     (sym (take-append-drop m modes) ∙ ap (λ (l : List ℕ). take m modes ++ l) (k .modesKept ∙ ap (λ (i : ℕ). drop i (replicate 4 0)) (sym (length-take-le m modes (omega (arith, h .modesLong, h .modesFew))))))
 
 -- ---- the verdict
-last-is : (pr : Progress) (met : Bool) (steps : ℕ) (x y : State) → x ≡ withRest (length (y .values)) (length (y .modes)) zeros y
+pub last-is : (pr : Progress) (met : Bool) (steps : ℕ) (x y : State) → x ≡ withRest (length (y .values)) (length (y .modes)) zeros y
     → withState (lastVerdict pr met steps) x ≡ judgementOf (onProgress pr (cond met (given (steps, y)) (refused 13 steps)))
 last-is Through true steps x y e = ap (λ (z : State). (given steps, z)) e
 last-is Through false steps x y e = refl

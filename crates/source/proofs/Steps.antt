@@ -146,7 +146,7 @@ module _ (t : SourceTask) (ok : SourceTaskOk t) where
   lows : List ℤ
   lows = each (λ (b : SourceVariable). b .lower) (t .variables)
 
-  values-near : (x : State) → soundSource (lowerBounds t) (upperBounds t) (sizesOf (t .modes)) x ≡ true → (j : ℕ) → natAbs (integerAt (x .values) j) ≤ 10_000
+  pub values-near : (x : State) → soundSource (lowerBounds t) (upperBounds t) (sizesOf (t .modes)) x ≡ true → (j : ℕ) → natAbs (integerAt (x .values) j) ≤ 10_000
   values-near x s =
       bounded (lowerBounds t) (upperBounds t)
       (within-all (λ (b : SourceVariable). b .lower) (t .variables) (all-map (SourceVariableOk sourceLimits) (λ (b : SourceVariable). natAbs (b .lower) ≤ 10_000) (λ b h. h .0) (t .variables) (ok .variablesIn)))

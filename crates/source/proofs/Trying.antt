@@ -46,7 +46,7 @@ last-decides [] true h = refl
 last-decides [] false h = refl
 last-decides (b ∷ bs) last (e, h) = last-decides bs last h ∙ ap (λ (c : Bool). c && every (λ (b : Bool). b) (bs ++ (last ∷ []))) (sym e)
 
-length-setAll : (es : List (ℕ × ℕ)) (l : List ℕ) → length (setAll es l) ≡ length l
+pub length-setAll : (es : List (ℕ × ℕ)) (l : List ℕ) → length (setAll es l) ≡ length l
 length-setAll [] l = refl
 length-setAll (e ∷ es) l = length-setAll es _ ∙ length-set l (e .0) (e .1)
 

@@ -682,7 +682,7 @@ pub struct Judgement {
 }
 
 // The judgement of a plan that is refused.
-fn refuse(number: u8, place: u64) -> Judgement
+pub fn refuse(number: u8, place: u64) -> Judgement
     ensures { λ r. ⌜ judgementIs r ≡ judgementOf (refused number place) ⌝ }
 {
     let values = [0i64; VARIABLES];
@@ -694,7 +694,7 @@ fn refuse(number: u8, place: u64) -> Judgement
 }
 
 // The judgement of a plan with a verdict, over the arrays at its end.
-fn conclude(verdict: Verdict, values: [i64; VARIABLES], modes: [u16; MODES]) -> Judgement
+pub fn conclude(verdict: Verdict, values: [i64; VARIABLES], modes: [u16; MODES]) -> Judgement
     ensures { λ r. ⌜ judgementIs r ≡ withState verdict (state values modes) ⌝ }
 {
     match verdict {
@@ -706,7 +706,7 @@ fn conclude(verdict: Verdict, values: [i64; VARIABLES], modes: [u16; MODES]) -> 
     }
 }
 
-fn last_verdict(progress: Progress, met: bool, steps: usize) -> Verdict
+pub fn last_verdict(progress: Progress, met: bool, steps: usize) -> Verdict
     ensures { λ r. ⌜ r ≡ lastVerdict progress met steps ⌝ }
 {
     match progress {

@@ -1,0 +1,31 @@
+-- `rows::set_value` meets its contract. Assumes nothing.
+use native.Mathlib.Omega.{arith}
+use denote.Ref.{now}
+use mir.Facts.{toZ-ofZ}
+use Rattle.source.proofs.Sound.{store-in, store-out}
+use borrow.Author.Needs.{needs}
+use Rattle.rows.proofs.set_value.Statement.{statement}
+use Rattle.rows.proofs.set_value.Tie as tie
+
+wide-requires : tie.Need-wide-requires
+wide-requires c κs = search needs
+
+mul-value : tie.Need-mul-value
+mul-value c = search (needs, arith)
+
+element-set-from-value : tie.Need-element-set-from-value
+element-set-from-value c = search (needs, arith)
+
+returns : tie.Need-returns
+returns c = let s = c .before .before in
+    let w = c .before .wide in
+    rw (toZ-ofZ (s .fits .value)) (store-in (s .args .n) (now (s .args .values)) (w .result) (s .args .variable) (w .ensures) (s .args .value) (c .if1 .taken))
+
+returns-2 : tie.Need-returns-2
+returns-2 c = let s = c .before .before in
+    let w = c .before .wide in
+    store-out (s .args .n) (now (s .args .values)) (w .result) (s .args .variable) (w .ensures) (s .args .value) (c .if1 .left)
+
+pub set-value-spec : {M : Type 1} → statement M
+set-value-spec =
+    tie.close (tie.spec wide-requires mul-value element-set-from-value returns returns-2)
