@@ -103,7 +103,7 @@ fn set_modes(modes: &mut [u16; MODES], m: usize, marks: &[u16; MARKS])
 }
 
 // The value of a variable, of n; 0 where it is not declared.
-fn value_of(values: &[i64; VARIABLES], n: usize, variable: u16) -> i64
+pub fn value_of(values: &[i64; VARIABLES], n: usize, variable: u16) -> i64
     requires { ⌜ n ≤ 8 ⌝ }
     ensures { λ r. ⌜ r ≡ integerAt (take n (now (values .entry))) variable ⌝ }
 {

@@ -29,7 +29,7 @@ sized a e n q h l = record {
   few = l;
 }
 
-terms-size : (ts : List (ℕ × ℤ)) (ds : List Stage) → countActions (drainTerms ts ds) ≡ 6 * length ts + countActions ds
+pub terms-size : (ts : List (ℕ × ℤ)) (ds : List Stage) → countActions (drainTerms ts ds) ≡ 6 * length ts + countActions ds
 terms-size [] ds = omega arith
 terms-size (t ∷ ts) ds = omega (arith, terms-size ts ds)
 
@@ -38,11 +38,11 @@ linear-size lower upper t w ts n e = omega (arith, terms-size (take termRoom ts)
 
 -- ---- the numbers of the openings
 module _ (lower upper : ℕ → ℤ) where
-  no-opening-before : (acts : List SourceAction) → opening lower upper acts 0 ≡ 0
+  pub no-opening-before : (acts : List SourceAction) → opening lower upper acts 0 ≡ 0
   no-opening-before [] = refl
   no-opening-before (a ∷ acts) = refl
 
-  opening-next : (acts : List SourceAction) (k : ℕ) (a : SourceAction) → getElem? acts k ≡ some a → opening lower upper acts (suc k) ≡ opening lower upper acts k + macroSize lower upper a
+  pub opening-next : (acts : List SourceAction) (k : ℕ) (a : SourceAction) → getElem? acts k ≡ some a → opening lower upper acts (suc k) ≡ opening lower upper acts k + macroSize lower upper a
   opening-next [] k a e = absurd (Option·none-ne-some a e)
   opening-next (b ∷ acts) zero a e =
       let f : macroSize lower upper b ≡ macroSize lower upper a = ap (macroSize lower upper) (some-injective e) in

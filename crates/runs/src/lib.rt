@@ -43,7 +43,7 @@ pub struct Run {
 }
 
 // The strokes of an action that stays one action: none.
-fn no_strokes() -> Strokes
+pub fn no_strokes() -> Strokes
     ensures { λ r. ⌜ Listed [] r ⌝ }
 {
     Strokes {
@@ -53,7 +53,7 @@ fn no_strokes() -> Strokes
 }
 
 // Two strokes more.
-fn with_two(s: Strokes, first: i64, second: i64) -> Strokes
+pub fn with_two(s: Strokes, first: i64, second: i64) -> Strokes
     requires { ⌜ s .count ≤ 8 ⌝ }
     ensures { λ r. ⌜ Two s first second r ⌝ }
 {
@@ -81,7 +81,7 @@ fn divide_strokes(y: i64, c: i64) -> i64
 }
 
 // The strokes of a Q or R: the target before, the operand, what it is divided by, and what Empty and Move take away.
-fn division_strokes(target: i64, y: i64, c: i64, emptied: i64, moved: i64) -> Strokes
+pub fn division_strokes(target: i64, y: i64, c: i64, emptied: i64, moved: i64) -> Strokes
     requires { ⌜ (((small target && small y) && divides c) ≡ true) × Within 1000000000 emptied × Within 1000000000 moved ⌝ }
     ensures { λ r. ⌜ Listed (divisionStrokes target y c emptied moved) r ⌝ }
 {

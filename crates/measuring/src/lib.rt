@@ -1,0 +1,86 @@
+// What steps cost, by the rows of their actions: the price of a step, and of the steps of a plan.
+//
+// A price is counted from the values before a step. It never reads a file, and never copies a row.
+use actions::TERMS;
+use rows::MARKS;
+use rows::NUMBERS;
+use source::VARIABLES;
+ghost use mathlib.Core.Path.{_≡_};
+ghost use mathlib.Core.Bool.{true, _&&_};
+ghost use mathlib.Core.List.{List};
+ghost use Prim.Native.Nat.{_≤_};
+ghost use lib.ListN.{take};
+ghost use lib.IntN.{ℤ};
+ghost use Rattle.model.specs.Steps.{integerAt};
+ghost use Rattle.model.specs.Tasks.{linearEffect};
+ghost use Rattle.model.specs.Expansion.{magnitudes, priceOfEffect};
+ghost use Rattle.source.specs.Parts.{small, divides};
+ghost use Rattle.rows.specs.Row.{targetAt, constantAt, termsAt, effectAt, Reads};
+ghost use Rattle.measuring.specs.Prices.{Near, divisionPrice};
+
+// The sum of |value| of the variables of the terms.
+fn term_sizes(values: &[i64; VARIABLES], n: usize, marks: &[u16; MARKS]) -> u64
+    requires { ⌜ (n ≤ 8) × Near n (now values) ⌝ }
+    ensures { λ r. ⌜ ((weights : List ℤ) → r ≡ magnitudes (termsAt (now (marks .entry)) weights) (integerAt (take n (now (values .entry))))) × (r ≤ 40000) ⌝ }
+{
+    let k = source::lesser(TERMS, source::wide16(marks[19]));
+    let mut sum: u64 = 0;
+    let mut i: usize = 0;
+    while i < k {
+        sum += integers::magnitude(rows::value_of(values, n, marks[20 + i]));
+        i += 1;
+    }
+    sum
+}
+
+// The price of an L with its terms: the target before, and what it gives.
+fn linear_price(
+    values: &[i64; VARIABLES],
+    n: usize,
+    marks: &[u16; MARKS],
+    numbers: &[i64; NUMBERS],
+) -> u64
+    requires { ⌜ Reads n (now values) (now marks) (now numbers) ⌝ }
+    ensures { λ r. ⌜ (r ≡ priceOfEffect (linearEffect (targetAt (now (marks .entry))) (constantAt (now (numbers .entry))) (termsAt (now (marks .entry)) (now (numbers .entry)))) (integerAt (take n (now (values .entry))))) × (r ≤ 4000000000) ⌝ }
+{
+    let k = source::lesser(TERMS, source::wide16(marks[19])) as u64;
+    let sizes = term_sizes(values, n, marks);
+    let before = integers::magnitude(rows::value_of(values, n, marks[17]));
+    let after = integers::magnitude(rows::linear_value(values, n, marks, numbers));
+    3 + 2 * k + 2 * sizes + before + after
+}
+
+// The price of a Q or R: the target before, the operand, and what it is divided by.
+fn division_price(target: i64, operand: i64, c: i64) -> u64
+    requires { ⌜ ((small target && small operand) && divides c) ≡ true ⌝ }
+    ensures { λ r. ⌜ (r ≡ divisionPrice target operand c) × (r ≤ 4000000000) ⌝ }
+{
+    let quotient = integers::magnitude(integers::quotient(operand, c));
+    let residue = integers::magnitude(integers::residue(operand, c));
+    let before = integers::magnitude(target);
+    7 + 2 * integers::magnitude(operand) + 2 * quotient + before + residue
+}
+
+// The price of a step with the effect of a row, over the values before it.
+pub fn price(
+    values: &[i64; VARIABLES],
+    n: usize,
+    marks: &[u16; MARKS],
+    numbers: &[i64; NUMBERS],
+) -> u64
+    requires { ⌜ Reads n (now values) (now marks) (now numbers) ⌝ }
+    ensures { λ r. ⌜ (r ≡ priceOfEffect (effectAt (now (marks .entry)) (now (numbers .entry))) (integerAt (take n (now (values .entry))))) × (r ≤ 4000000000) ⌝ }
+{
+    let kind = marks[16];
+    if kind <= 1 {
+        return 1;
+    }
+    if kind == 2 {
+        return linear_price(values, n, marks, numbers);
+    }
+    division_price(
+        rows::value_of(values, n, marks[17]),
+        rows::value_of(values, n, marks[18]),
+        numbers[16],
+    )
+}

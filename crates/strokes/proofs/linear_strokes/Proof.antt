@@ -1,0 +1,122 @@
+-- `strokes::linear_strokes` meets its contract. The loop's invariant: the strokes made, and behind them those of the terms that are left, are
+-- those of all terms. Assumes nothing.
+use mathlib.Core.Path.{_≡_, ap}
+use Prim.Native.Nat.{ℕ, _+_, _-_}
+use native.Mathlib.Omega.{arith}
+use denote.Ref.{now}
+use mir.Facts.{toZ-ofZ}
+use mir.Syntax.{w64}
+use mir.Val.{SFits}
+use lib.IntN.{ℤ, natAbs}
+use lib.ListN.{take}
+use Rattle.model.specs.Steps.{integerAt, naturalAt}
+use Rattle.source.proofs.Rows.{row-tabulate}
+use Rattle.rows.specs.Row.{termCountAt, termsAt}
+use Rattle.runs.specs.Strokes.{strokesOf}
+use Rattle.runs.proofs.Making.{listed-two, Draining, draining-start, draining-next, draining-end}
+use borrow.Author.Needs.{needs}
+use Rattle.strokes.proofs.linear_strokes.Statement.{statement}
+use Rattle.strokes.proofs.linear_strokes.Tie as tie
+
+abbrev Inv-loop : tie.InvT-loop
+Inv-loop values n marks numbers k s₀ i₀ s i =
+    Draining (integerAt (take n values)) (termsAt marks numbers) (termCountAt marks) (λ j. (naturalAt marks (20 + j), integerAt numbers (17 + j))) s i × (k ≡ termCountAt marks)
+
+abbrev μ-loop : tie.MeasureT-loop
+μ-loop values n marks numbers k s₀ i₀ s i = k - i
+
+element-copy-out-wide16 : tie.Need-element-copy-out-wide16 Inv-loop μ-loop
+element-copy-out-wide16 c = search needs
+
+wide16-requires : tie.Need-wide16-requires Inv-loop μ-loop
+wide16-requires c κs = search needs
+
+lesser-requires : tie.Need-lesser-requires Inv-loop μ-loop
+lesser-requires c κs = search needs
+
+no-strokes-requires : tie.Need-no-strokes-requires Inv-loop μ-loop
+no-strokes-requires c κs = search needs
+
+loop-holds : tie.Need-loop-holds Inv-loop μ-loop
+loop-holds c = (draining-start (row-tabulate _ _) (omega arith) (c .no-strokes .ensures), rw (c .before .before .wide16 .ensures) at (c .before .lesser .ensures))
+
+add-value-of : tie.Need-add-value-of Inv-loop μ-loop
+add-value-of c = search (needs, arith)
+
+mul-value-of : tie.Need-mul-value-of Inv-loop μ-loop
+mul-value-of c = omega (arith, c .before .loop .inv .1, c .loop-test .taken)
+
+element-copy-out-value-of : tie.Need-element-copy-out-value-of Inv-loop μ-loop
+element-copy-out-value-of c = search (needs, arith)
+
+value-of-requires : tie.Need-value-of-requires Inv-loop μ-loop
+value-of-requires c κs = search needs
+
+with-two-requires : tie.Need-with-two-requires Inv-loop μ-loop
+with-two-requires c κs = let h = c .before .before in omega (arith, h .before .loop .inv .0 .counted, h .before .loop .inv .1, h .loop-test .taken)
+
+add-i : tie.Need-add-i Inv-loop μ-loop
+add-i c = search (needs, arith)
+
+loop-less : tie.Need-loop-less Inv-loop μ-loop
+loop-less c = omega arith
+
+loop-again : tie.Need-loop-again Inv-loop μ-loop
+loop-again c =
+    let h = c .before .before .before in
+    let s = h .before .before .before .before .before .before in
+    let v = c .before .value-of in
+    let a : SFits w64 (v .result) = search needs in
+    let l = h .before .loop .inv in
+    let n = s .pre .near (naturalAt (now (s .args .marks)) (20 + h .before .loop .i)) in
+    (draining-next (l .0) (omega (arith, l .1, h .loop-test .taken)) (v .ensures) (record { within = omega (arith, ap natAbs (v .ensures), n) }) (simp (toZ-ofZ, a) at (c .with-two .ensures)), l .1)
+
+element-copy-out-value-of-2 : tie.Need-element-copy-out-value-of-2 Inv-loop μ-loop
+element-copy-out-value-of-2 c = search needs
+
+value-of-requires-2 : tie.Need-value-of-requires-2 Inv-loop μ-loop
+value-of-requires-2 c κs = search needs
+
+linear-value-requires : tie.Need-linear-value-requires Inv-loop μ-loop
+linear-value-requires c κs = search needs
+
+with-two-requires-2 : tie.Need-with-two-requires-2 Inv-loop μ-loop
+with-two-requires-2 c κs = let l = c .before .before .before .before .loop .inv .0 in omega (arith, l .counted, l .few, l .left .bound)
+
+returns : tie.Need-returns Inv-loop μ-loop
+unfolding strokesOf
+returns c =
+    let e = c .before .before .before .before in
+    let s = e .before .before .before .before .before .before in
+    let v = c .before .before .value-of2 in
+    let l = c .before .linear-value in
+    let a : SFits w64 (v .result) = search needs in
+    let b : SFits w64 (l .result) = search needs in
+    let n = s .pre .near (naturalAt (now (s .args .marks)) 17) in
+    rw (v .ensures, l .ensures .0) at (listed-two (draining-end (e .before .loop .inv .0) (omega (arith, e .before .loop .inv .1, e .loop-test .left))) (simp (toZ-ofZ, a, b) at (c .with-two2 .ensures)) (with-two-requires-2 (c .before) tt)
+    (record { within = omega (arith, ap natAbs (v .ensures), n) }) (l .ensures .1))
+
+pub linear-strokes-spec : {M : Type 1} → statement M
+linear-strokes-spec =
+    tie.close
+    (tie.spec
+    Inv-loop
+    μ-loop
+    element-copy-out-wide16
+    wide16-requires
+    lesser-requires
+    no-strokes-requires
+    loop-holds
+    add-value-of
+    mul-value-of
+    element-copy-out-value-of
+    value-of-requires
+    with-two-requires
+    add-i
+    loop-less
+    loop-again
+    element-copy-out-value-of-2
+    value-of-requires-2
+    linear-value-requires
+    with-two-requires-2
+    returns)
