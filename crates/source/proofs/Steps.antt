@@ -98,7 +98,7 @@ effect-in (Quotient t o c) ts = refl
 effect-in (Residue t o c) ts = refl
 
 -- ---- a task that keeps to the rules on source files: a step by its action is the model's step by number
-within-all : (f : SourceVariable → ℤ) (vs : List SourceVariable) → All (λ (b : SourceVariable). natAbs (f b) ≤ 10_000) vs → (j : ℕ) → natAbs (integerAt (each f vs) j) ≤ 10_000
+pub within-all : (f : SourceVariable → ℤ) (vs : List SourceVariable) → All (λ (b : SourceVariable). natAbs (f b) ≤ 10_000) vs → (j : ℕ) → natAbs (integerAt (each f vs) j) ≤ 10_000
 within-all f [] h j = omega arith
 within-all f (b ∷ vs) (h, hs) zero = h
 within-all f (b ∷ vs) (h, hs) (suc j) = within-all f vs hs j
@@ -126,7 +126,7 @@ terms-near : (n : ℕ) (v : ℕ → ℤ) → ((j : ℕ) → natAbs (v j) ≤ 10_
 terms-near n v h [] o = refl
 terms-near n v h (t ∷ ts) (o, os) = both _ _ (both _ _ (near (v (t .0)) (h (t .0))) (near (t .1) (o .1 .1))) (terms-near n v h ts os)
 
-effect-near : (n : ℕ) (v : ℕ → ℤ) → ((j : ℕ) → natAbs (v j) ≤ 10_000) → (e : Effect) → EffectOk sourceLimits n e → effectFits e v ≡ true
+pub effect-near : (n : ℕ) (v : ℕ → ℤ) → ((j : ℕ) → natAbs (v j) ≤ 10_000) → (e : Effect) → EffectOk sourceLimits n e → effectFits e v ≡ true
 effect-near n v h noEffect o = refl
 effect-near n v h (addEffect t c) o = both _ _ (near (v t) (h t)) (near c (o .1 .1))
 effect-near n v h (linearEffect t w ts) o = both _ _ (both _ _ (near (v t) (h t)) (near w (o .1))) (terms-near n v h ts (o .3 .0))

@@ -1,0 +1,3 @@
+pub mod Modes
+pub mod Tests
+pub mod Values

@@ -1,0 +1,3 @@
+pub mod Effects
+pub mod Making
+pub mod Preparing

@@ -1,0 +1,238 @@
+// The rows of all actions of an accepted source file, made ready for many steps.
+//
+// The file is walked once, and each action is decoded once: its conditions and mode effects become ranges and marks (crate narrowing), its
+// numeric effect stands behind them. What rows mean is said in crate rows, specs/Row.antt. It never takes a step.
+use actions::Effect;
+use actions::SourceAction;
+use actions::TERMS;
+use actions::Term;
+use rows::MARKS;
+use rows::NUMBERS;
+use source::MODES;
+use source::VARIABLES;
+ghost use mathlib.Core.Path.{_≡_};
+ghost use Prim.Native.Nat.{_+_, _<_, _≤_};
+ghost use lib.ListN.{length, replicate};
+ghost use lib.IntN.{pos};
+ghost use Rattle.model.specs.Tasks.{linearEffect};
+ghost use Rattle.model.specs.Limits.{sourceLimits};
+ghost use Rattle.model.specs.Reading.{verdictOf};
+ghost use Rattle.model.specs.Decoding.{sourceActionOf};
+ghost use Rattle.model.specs.ActionBytes.{actionPart, decodeAction};
+ghost use Rattle.model.specs.TaskOk.{EffectOk};
+ghost use Rattle.actions.specs.Views.{sourceActionIs, fittingSource, effectIs, termsIs};
+ghost use Rattle.source.specs.Judged.{AcceptedWith};
+ghost use Rattle.rows.specs.Row.{RowOf};
+ghost use Rattle.rows.specs.Ready.{Prepared};
+ghost use Rattle.prepared.specs.Made.{termAt, TermsPut, HeadPut, Blank, EffectPut, RowFits, PlacedAt, Declares};
+
+// The places of the actions of a file, and that of its goal.
+const PLACES: usize = 33;
+
+fn wide(x: u8) -> u16
+    ensures { λ r. ⌜ r ≡ x ⌝ }
+{
+    x as u16
+}
+
+// The variables and the weights of the first k terms of an L.
+fn put_terms(marks: &mut [u16; MARKS], numbers: &mut [i64; NUMBERS], k: usize, terms: [Term; TERMS])
+    requires { ⌜ (k ≤ 4) × (length (now marks) ≡ 32) × (length (now numbers) ≡ 24) ⌝ }
+    ensures { λ _. ⌜ TermsPut k (termAt terms) (now (marks .entry)) (now (numbers .entry)) (now (marks .exit)) (now (numbers .exit)) ⌝ }
+{
+    let mut i: usize = 0;
+    while i < k {
+        let term = terms[i];
+        let weight = term.weight;
+        marks[20 + i] = wide(term.variable);
+        numbers[17 + i] = weight;
+        i += 1;
+    }
+}
+
+// What an effect is but for its terms, and the bounds of its target.
+fn put_head(
+    marks: &mut [u16; MARKS],
+    numbers: &mut [i64; NUMBERS],
+    n: usize,
+    lower: &[i64; VARIABLES],
+    upper: &[i64; VARIABLES],
+    kind: u16,
+    target: u8,
+    operand: u8,
+    count: u16,
+    constant: i64,
+)
+    requires { ⌜ n ≤ 8 ⌝ }
+    ensures { λ _. ⌜ HeadPut n (now (lower .entry)) (now (upper .entry)) kind target operand count constant (now (marks .entry)) (now (numbers .entry)) (now (marks .exit)) (now (numbers .exit)) ⌝ }
+{
+    marks[16] = kind;
+    marks[17] = wide(target);
+    marks[18] = wide(operand);
+    marks[19] = count;
+    numbers[16] = constant;
+    numbers[21] = source::value_at(lower, n, target);
+    numbers[22] = source::value_at(upper, n, target);
+}
+
+// An L, with its terms.
+fn put_linear(
+    marks: &mut [u16; MARKS],
+    numbers: &mut [i64; NUMBERS],
+    n: usize,
+    lower: &[i64; VARIABLES],
+    upper: &[i64; VARIABLES],
+    target: u8,
+    constant: i64,
+    count: usize,
+    terms: [Term; TERMS],
+)
+    requires { ⌜ (n ≤ 8) × Blank (now marks) (now numbers) × EffectOk sourceLimits n (linearEffect target constant (termsIs count terms)) ⌝ }
+    ensures { λ _. ⌜ EffectPut n (now (lower .entry)) (now (upper .entry)) (linearEffect target constant (termsIs count terms)) (now (marks .entry)) (now (numbers .entry)) (now (marks .exit)) (now (numbers .exit)) ⌝ }
+{
+    let k = source::lesser(TERMS, count);
+    put_terms(marks, numbers, k, terms);
+    put_head(
+        marks,
+        numbers,
+        n,
+        lower,
+        upper,
+        2,
+        target,
+        0,
+        k as u16,
+        constant,
+    );
+}
+
+// The numeric effect of an action.
+fn put_effect(
+    marks: &mut [u16; MARKS],
+    numbers: &mut [i64; NUMBERS],
+    n: usize,
+    lower: &[i64; VARIABLES],
+    upper: &[i64; VARIABLES],
+    effect: Effect,
+    count: usize,
+    terms: [Term; TERMS],
+)
+    requires { ⌜ (n ≤ 8) × Blank (now marks) (now numbers) × EffectOk sourceLimits n (effectIs effect (termsIs count terms)) ⌝ }
+    ensures { λ _. ⌜ EffectPut n (now (lower .entry)) (now (upper .entry)) (effectIs effect (termsIs count terms)) (now (marks .entry)) (now (numbers .entry)) (now (marks .exit)) (now (numbers .exit)) ⌝ }
+{
+    match effect {
+        Effect::None => {}
+        Effect::Add(target, c) => put_head(marks, numbers, n, lower, upper, 1, target, 0, 0, c),
+        Effect::Linear(target, c) => put_linear(
+            marks,
+            numbers,
+            n,
+            lower,
+            upper,
+            target,
+            c,
+            count,
+            terms,
+        ),
+        Effect::Quotient(target, operand, c) => put_head(
+            marks,
+            numbers,
+            n,
+            lower,
+            upper,
+            3,
+            target,
+            operand,
+            0,
+            c,
+        ),
+        Effect::Residue(target, operand, c) => put_head(
+            marks,
+            numbers,
+            n,
+            lower,
+            upper,
+            4,
+            target,
+            operand,
+            0,
+            c,
+        ),
+    }
+}
+
+// The rows of an action, in the place of zeros.
+fn put_row(
+    marks: &mut [u16; MARKS],
+    numbers: &mut [i64; NUMBERS],
+    n: usize,
+    lower: &[i64; VARIABLES],
+    upper: &[i64; VARIABLES],
+    m: usize,
+    sizes: &[u16; MODES],
+    a: SourceAction,
+)
+    requires { ⌜ (now marks ≡ replicate 32 0) × (now numbers ≡ replicate 24 (pos 0)) × RowFits n m (now lower) (now upper) (now sizes) a ⌝ }
+    ensures { λ _. ⌜ RowOf n m (now (lower .entry)) (now (upper .entry)) (now (sizes .entry)) (now (marks .exit)) (now (numbers .exit)) (sourceActionIs a) ⌝ }
+{
+    narrowing::put_ranges(
+        numbers,
+        lower,
+        upper,
+        a.condition_count,
+        &a.condition_variables,
+        &a.condition_relations,
+        &a.condition_constants,
+    );
+    narrowing::put_modes(
+        marks,
+        m,
+        sizes,
+        a.mode_condition_count,
+        &a.mode_condition_modes,
+        &a.mode_condition_values,
+        a.mode_effect_count,
+        &a.mode_effect_modes,
+        &a.mode_effect_values,
+    );
+    let effect = a.effect;
+    let terms = a.terms;
+    put_effect(marks, numbers, n, lower, upper, effect, a.term_count, terms);
+}
+
+// Action k of a file, by the places of its actions.
+fn decode_placed(file: &[u8], places: &[usize; PLACES], k: usize) -> SourceAction
+    requires { ⌜ (k < 32) × PlacedAt (now file) (now places) k ⌝ }
+    ensures { λ r. ⌜ sourceActionIs r ≡ fittingSource (sourceActionOf (decodeAction (actionPart (now (file .entry)) k))) ⌝ }
+{
+    actions::decode_source(actions::part(file, places[k], places[k + 1]))
+}
+
+// The rows of the actions of an accepted file, of which there are `count`, by what it declares. Rows behind them are left as they were.
+pub fn prepare(
+    file: &[u8],
+    count: usize,
+    n: usize,
+    lower: &[i64; VARIABLES],
+    upper: &[i64; VARIABLES],
+    m: usize,
+    sizes: &[u16; MODES],
+    marks: &mut [[u16; MARKS]],
+    numbers: &mut [[i64; NUMBERS]],
+)
+    requires { ⌜ AcceptedWith (verdictOf sourceLimits (now file)) count × Declares (now file) n (now lower) (now upper) m (now sizes) × (length (now marks) ≡ 32) × (length (now numbers) ≡ 32) ⌝ }
+    ensures { λ _. ⌜ Prepared (now (file .entry)) count n (now (lower .entry)) (now (upper .entry)) m (now (sizes .entry)) (now (marks .exit)) (now (numbers .exit)) ⌝ }
+{
+    let mut places = [0usize; PLACES];
+    actions::action_places(file, &mut places);
+    let mut k: usize = 0;
+    while k < count {
+        let action = decode_placed(file, &places, k);
+        let mut row = [0u16; MARKS];
+        let mut line = [0i64; NUMBERS];
+        put_row(&mut row, &mut line, n, lower, upper, m, sizes, action);
+        marks[k] = row;
+        numbers[k] = line;
+        k += 1;
+    }
+}
