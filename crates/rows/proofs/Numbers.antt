@@ -1,11 +1,11 @@
 -- What an effect reads and makes: of numbers within 10,000 nothing leaves 64 bits; terms that are not there, at weight 0, add nothing; the effect of each kind.
 -- Assumes nothing.
 use mathlib.Core.Path.{_≡_, refl, sym, ap, _∙_}
-use Prim.Native.Nat.{ℕ, zero, suc, min, _+_, _≤_, _<_}
+use Prim.Native.Nat.{ℕ, zero, suc, _+_, _≤_, _<_}
 use native.Mathlib.Omega.{arith}
 use mathlib.Core.Bool.{Bool, true, false, _&&_}
 use mathlib.Core.Option.{Option, none, some}
-use mathlib.Core.List.{List, [], _∷_}
+use mathlib.Core.List.{List}
 use lib.ListN.{take}
 use lib.IntN.{ℤ, pos, natAbs, _+ℤ_, _*ℤ_}
 use borrow.Author.Tests.{le-leb, ne-eqb}
@@ -13,7 +13,7 @@ use Rattle.integers.specs.Parts.{Within}
 use Rattle.integers.specs.Division.{quotientOf, residueOf}
 use Rattle.integers.proofs.Parts.{ints, add, mul}
 use Rattle.lists.specs.Each.{tabulate}
-use Rattle.model.specs.Tasks.{Effect, noEffect, addEffect, linearEffect, quotientEffect, residueEffect}
+use Rattle.model.specs.Tasks.{Effect, residueEffect}
 use Rattle.model.specs.Steps.{integerAt, naturalAt, linear, result}
 use Rattle.source.specs.Parts.{small}
 use Rattle.rows.specs.Row.{kindAt, targetAt, operandAt, termCountAt, constantAt, termsAt, effectOfKind, outcomeAt, Usable}

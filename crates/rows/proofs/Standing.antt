@@ -1,13 +1,13 @@
 -- What a loop over the steps of a plan needs of rows: in a state within the bounds of its task a step can be taken, and it is the model's step; the state after lies within the bounds too.
 -- Assumes nothing.
 use mathlib.Core.Path.{_≡_, refl, sym, ap, ap₂, _∙_}
-use Prim.Native.Nat.{ℕ, _≤_, _<_}
+use Prim.Native.Nat.{ℕ, _<_}
 use native.Mathlib.Omega.{arith}
 use mathlib.Core.Bool.{Bool, true, false, cond, _&&_}
 use mathlib.Core.Option.{Option, none, some}
 use mathlib.Core.List.{List}
-use lib.ListN.{length, take}
-use lib.IntN.{ℤ, natAbs}
+use lib.ListN.{take}
+use lib.IntN.{ℤ}
 use Rattle.lists.proofs.Loops.{and-left, and-right}
 use Rattle.model.specs.Tasks.{Effect, SourceAction, SourceTask, State}
 use Rattle.model.specs.Systems.{bind, provided}
@@ -20,7 +20,7 @@ use Rattle.source.proofs.Sound.{values-sound, modes-sound}
 use Rattle.source.proofs.Steps.{values-near, step-of-task}
 use Rattle.source.proofs.Trying.{tried-keeps}
 use Rattle.rows.specs.Row.{valuesIn, modesIn, effectAt, Usable, Steady, Stepped}
-use Rattle.rows.specs.Ready.{marksOf, numbersOf, RowAt, Ready, Standing}
+use Rattle.rows.specs.Ready.{marksOf, numbersOf, Ready, Standing}
 
 -- what a step leaves passes the test that it makes last
 last-passed : {A : Type 0} (f s : Bool) (o : Option A) (ok : A → Bool) (y : A) → cond f (bind o (λ z. cond s (cond (ok z) (some z) none) none)) none ≡ some y → ok y ≡ true

@@ -1,9 +1,9 @@
 -- A step by rows is the step of the action that they are the rows of.
 -- Assumes nothing.
 use mathlib.Core.Path.{_≡_, refl, sym, ap, ap₂, _∙_}
-use Prim.Native.Nat.{ℕ, zero, suc, _≤_, _<_}
+use Prim.Native.Nat.{ℕ, zero, suc, _≤_}
 use native.Mathlib.Omega.{arith}
-use mathlib.Core.Bool.{Bool, true, false, cond, _&&_, false≢true}
+use mathlib.Core.Bool.{Bool, true, false, _&&_, false≢true}
 use mathlib.Core.Option.{Option, none, some}
 use mathlib.Core.List.{List, [], _∷_, _++_}
 use lib.ListN.{length, length-append, length-drop, length-set, take, drop}
@@ -11,7 +11,7 @@ use lib.Seq.{length-take-le, take-at}
 use lib.IntN.{ℤ}
 use Rattle.integers.specs.All.{All}
 use Rattle.lists.proofs.Loops.{and-left, and-right}
-use Rattle.model.specs.Tasks.{Effect, SourceAction, State}
+use Rattle.model.specs.Tasks.{Effect, SourceAction}
 use Rattle.model.specs.Steps.{integerAt, naturalAt, modesHold, conditionsHold, withinBounds, result, putResult, setAll, modesBelowSizes}
 use Rattle.model.specs.Judging.{declaredPart}
 use Rattle.source.specs.Parts.{effectFits, valuesBetween, modesBelow}
@@ -19,8 +19,8 @@ use Rattle.source.specs.Step.{state, stepOf, handedBack, settled, Tried}
 use Rattle.source.proofs.Sound.{length-setAt, values-sound, modes-sound, settled-is}
 use Rattle.source.proofs.Steps.{after, asked, one-fails, all-pass, step-asks}
 use Rattle.source.proofs.Trying.{length-setAll}
-use Rattle.rows.specs.Row.{valuesIn, modesIn, modesAfter, kindAt, targetAt, effectAt, outcomeAt, staysIn, Steady, RowOf, Stepped}
-use Rattle.rows.proofs.Numbers.{Gives, gives, outcome-none}
+use Rattle.rows.specs.Row.{valuesIn, modesIn, modesAfter, kindAt, outcomeAt, staysIn, Steady, RowOf, Stepped}
+use Rattle.rows.proofs.Numbers.{gives, outcome-none}
 
 -- four tests in the order of the rows and in that of the model
 four-fail : {A : Type 0} (v m p c : Bool) (rest : List Bool) (y : A) → ((m && p) && (v && c)) ≡ false → asked (v ∷ m ∷ p ∷ c ∷ rest) y ≡ none

@@ -15,7 +15,7 @@ ghost use lib.IntN.{natAbs, _+ℤ_, _*ℤ_};
 ghost use Rattle.integers.specs.Parts.{Within};
 ghost use Rattle.model.specs.Steps.{integerAt, naturalAt, linear};
 ghost use Rattle.source.specs.Step.{setAt, settled};
-ghost use Rattle.rows.specs.Row.{valuesIn, modesIn, modesAfter, KeepOrSet, kindAt, targetAt, constantAt, termsAt, effectAt, outcomeAt, staysIn, Reads, Usable, Steady, Stepped};
+ghost use Rattle.rows.specs.Row.{valuesIn, modesIn, modesAfter, KeepOrSet, kindAt, targetAt, constantAt, termsAt, outcomeAt, staysIn, Reads, Usable, Steady, Stepped};
 
 // How long the rows of an action are.
 pub const MARKS: usize = 32;

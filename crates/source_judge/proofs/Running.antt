@@ -20,8 +20,8 @@ use Rattle.model.specs.Judging.{judge, ifApplies, declaredPart}
 use Rattle.source.specs.declared.Progress.the-variants.{Through, Stopped}
 use Rattle.source.specs.Step.{state, Shaped, Kept}
 use Rattle.source.proofs.Trying.{kept-same, kept-then}
-use Rattle.rows.specs.Row.{Steady, Usable, Stepped}
-use Rattle.rows.specs.Ready.{marksOf, numbersOf, Ready, Standing}
+use Rattle.rows.specs.Row.{Stepped}
+use Rattle.rows.specs.Ready.{marksOf, numbersOf, Ready}
 use Rattle.rows.proofs.Standing as standing
 use Rattle.source_judge.specs.Running.{Stands, Taken}
 

@@ -1,7 +1,5 @@
 -- `rows::mode_after` meets its contract. Assumes nothing.
 use native.Mathlib.Omega.{arith}
-use native.Mathlib.Nat.{mul-le-mul, mul-comm}
-use Prim.Native.Nat.{_*_, _≤_}
 use borrow.Author.Needs.{needs}
 use Rattle.rows.proofs.mode_after.Statement.{statement}
 use Rattle.rows.proofs.mode_after.Tie as tie

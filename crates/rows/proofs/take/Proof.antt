@@ -5,7 +5,6 @@ use denote.Ref.{now}
 use borrow.Author.Tests.{not-true, not-false}
 use Rattle.source.proofs.Trying.{chosen-first, chosen-second}
 use Rattle.rows.proofs.Taking.{not-held, out-of-bounds, taken}
-use borrow.Author.Needs.{needs}
 use Rattle.rows.proofs.take.Statement.{statement}
 use Rattle.rows.proofs.take.Tie as tie
 
