@@ -26,7 +26,7 @@ use Rattle.rows.proofs.Standing as standing
 use Rattle.source_judge.specs.Running.{Stands, Taken}
 
 -- with other sizes
-reshaped : {n m : ℕ} {values₀ values : List ℤ} {modes₀ modes sizes₀ sizes : List ℕ} → Shaped n m values modes sizes₀ → Shaped n m values₀ modes₀ sizes → Shaped n m values modes sizes
+pub reshaped : {n m : ℕ} {values₀ values : List ℤ} {modes₀ modes sizes₀ sizes : List ℕ} → Shaped n m values modes sizes₀ → Shaped n m values₀ modes₀ sizes → Shaped n m values modes sizes
 reshaped h z = record { variablesFew = h .variablesFew; modesFew = h .modesFew; valuesLong = h .valuesLong; modesLong = h .modesLong; sizesLong = z .sizesLong }
 
 module _ {count : ℕ} {marks : List (List ℕ)} {numbers : List (List ℤ)} {n m : ℕ} {values : List ℤ} {modes : List ℕ} (S : Stands count marks numbers n m values modes) where

@@ -5,7 +5,6 @@ use Prim.Native.Nat.{ℕ, suc, _+_, _*_, _≤_, _<_}
 use native.Mathlib.Numerals.{add-one}
 use native.Mathlib.Omega.{arith}
 use mathlib.Core.Bool.{Bool, true, false}
-use mathlib.Core.Option.{some}
 use mathlib.Core.List.{List, _∷_, []}
 use lib.Dec.{ltb}
 use lib.ListN.{length, getD, set, length-set, replicate}
@@ -13,10 +12,10 @@ use lib.Seq.{getD-set-same, getD-set-other}
 use lib.IntN.{ℤ}
 use borrow.Author.Tests.{ltb-true, ltb-false}
 use Rattle.lists.proofs.Each.{length-tabulate}
-use Rattle.model.specs.Tasks.{Effect, linearEffect, SourceAction}
+use Rattle.model.specs.Tasks.{Effect, SourceAction}
 use Rattle.model.specs.Steps.{integerAt, naturalAt}
-use Rattle.model.specs.Stages.{countActions, clear, move, helperA, stagesOf, macroSize, opening}
-use Rattle.rows.specs.Row.{kindAt, targetAt, termCountAt, constantAt, termsAt, effectAt}
+use Rattle.model.specs.Stages.{countActions, clear, move, helperA, stagesOf, opening}
+use Rattle.rows.specs.Row.{kindAt, targetAt, termCountAt, termsAt, effectAt}
 use Rattle.rows.specs.Ready.{marksOf}
 use Rattle.measuring.proofs.Effects.{single-kind, linear-kind, division-kind}
 use Rattle.runs.proofs.Sizes.{terms-size, no-opening-before, opening-next}

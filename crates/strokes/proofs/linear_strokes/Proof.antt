@@ -1,13 +1,13 @@
 -- `strokes::linear_strokes` meets its contract. The loop's invariant: the strokes made, and behind them those of the terms that are left, are
 -- those of all terms. Assumes nothing.
 use mathlib.Core.Path.{_≡_, ap}
-use Prim.Native.Nat.{ℕ, _+_, _-_}
+use Prim.Native.Nat.{_+_, _-_}
 use native.Mathlib.Omega.{arith}
 use denote.Ref.{now}
 use mir.Facts.{toZ-ofZ}
 use mir.Syntax.{w64}
 use mir.Val.{SFits}
-use lib.IntN.{ℤ, natAbs}
+use lib.IntN.{natAbs}
 use lib.ListN.{take}
 use Rattle.model.specs.Steps.{integerAt, naturalAt}
 use Rattle.source.proofs.Rows.{row-tabulate}
