@@ -1,8 +1,1 @@
 pub mod Accepted
-pub mod Advancing
-pub mod Filling
-pub mod Going
-pub mod Numbers
-pub mod Projecting
-pub mod Putting
-pub mod Turn

@@ -1,3 +1,1 @@
-pub mod Following
 pub mod Projecting
-pub mod Sources

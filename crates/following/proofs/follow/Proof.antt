@@ -1,0 +1,136 @@
+-- `following::follow` meets its contract. The loop's invariant is `Going`: what is left projects to what the whole projects to. Assumes nothing.
+use mathlib.Core.Path.{_≡_, _∙_}
+use Prim.Native.Nat.{_-_, _<_}
+use native.Mathlib.Omega.{arith}
+use lib.ListN.{length, getD}
+use denote.Ref.{now}
+use Rattle.model.specs.Plans.{planNumbers}
+use Rattle.source.proofs.Running.{halves-long}
+use Rattle.following.specs.Sources.{entryAt}
+use Rattle.following.proofs.Going.{Going, begins, over, no-action, number-small, rows-here, steady-now, owned-now, stopped, rises, goes}
+use borrow.Author.Needs.{needs}
+use Rattle.following.proofs.follow.Statement.{statement}
+use Rattle.following.proofs.follow.Tie as tie
+
+abbrev Inv-loop : tie.InvT-loop
+Inv-loop plan steps total sources marks numbers n m values₀ modes₀ found₀ at₀ values modes found at =
+    Going (planNumbers plan) marks numbers n m total sources values₀ modes₀ values modes at found
+
+abbrev μ-loop : tie.MeasureT-loop
+μ-loop plan steps total sources marks numbers n m values₀ modes₀ found₀ at₀ values modes found at = steps - at
+
+abbrev loopOf : tie.After-wide Inv-loop μ-loop → tie.At-loop Inv-loop μ-loop
+loopOf w = w .before .before .before .before
+
+abbrev startOf : tie.After-wide Inv-loop μ-loop → tie.Start Inv-loop μ-loop
+startOf w = loopOf w .before .before
+
+number-is : (w : tie.After-wide Inv-loop μ-loop) → w .before .before .action-of .result ≡ getD (planNumbers (now (startOf w .args .plan))) (loopOf w .loop .at) 0
+number-is w = w .before .before .action-of .ensures
+
+inside : (w : tie.After-wide Inv-loop μ-loop) → loopOf w .loop .at < length (planNumbers (now (startOf w .args .plan)))
+inside w = omega (arith, w .before .before .before .loop-test .taken, startOf w .pre .1)
+
+entry-is : (w : tie.After-wide Inv-loop μ-loop) → w .wide .result ≡ entryAt (now (startOf w .args .sources)) (w .before .before .action-of .result)
+entry-is w = w .wide .ensures ∙ w .before .source-of .ensures
+
+loop-holds : tie.Need-loop-holds Inv-loop μ-loop
+loop-holds c = let s = c .before in
+    begins (planNumbers (now (s .args .plan))) (now (s .args .marks)) (now (s .args .numbers)) (s .args .n) (s .args .m) (s .args .total) (now (s .args .sources)) (now (s .args .values)) (now (s .args .modes)) (s .pre .0)
+
+action-of-requires : tie.Need-action-of-requires Inv-loop μ-loop
+action-of-requires c κs = let s = c .before .before .before in omega (arith, halves-long (now (s .args .plan)), c .loop-test .taken, s .pre .1)
+
+source-of-requires : tie.Need-source-of-requires Inv-loop μ-loop
+source-of-requires c κs = search needs
+
+wide-requires : tie.Need-wide-requires Inv-loop μ-loop
+wide-requires c κs = search needs
+
+astray-requires : tie.Need-astray-requires Inv-loop μ-loop
+astray-requires c κs = startOf (c .before) .pre .1
+
+returns : tie.Need-returns Inv-loop μ-loop
+returns c = let w = c .before .before in
+    no-action (loopOf w .loop .inv) (w .before .before .action-of .result) (number-is w) (inside w) (entry-is w) (c .before .if1 .taken) (c .astray .result) (c .astray .ensures)
+
+mul-advance : tie.Need-mul-advance Inv-loop μ-loop
+mul-advance c = search (needs, arith)
+
+shared-slice-element-advance : tie.Need-shared-slice-element-advance Inv-loop μ-loop
+shared-slice-element-advance c = let w = c .before in rows-here (loopOf w .loop .inv) (w .before .before .action-of .result) (number-is w) (inside w) (entry-is w) (c .if1 .left) .0
+
+mul-advance-2 : tie.Need-mul-advance-2 Inv-loop μ-loop
+mul-advance-2 c = search (needs, arith)
+
+shared-slice-element-advance-2 : tie.Need-shared-slice-element-advance-2 Inv-loop μ-loop
+shared-slice-element-advance-2 c = let f = c .before in
+    let w = f .before in
+    rows-here (loopOf w .loop .inv) (w .before .before .action-of .result) (number-is w) (inside w) (entry-is w) (f .if1 .left) .1
+
+advance-requires : tie.Need-advance-requires Inv-loop μ-loop
+advance-requires c κs = let f = c .before .before .before .before in
+    let w = f .before in
+    let g = loopOf w .loop .inv in
+    let k = w .before .before .action-of .result in
+    ((steady-now g, owned-now g k (number-is w) (inside w) (entry-is w) (f .if1 .left)), (startOf w .pre .1, omega (arith, inside w, startOf w .pre .1), number-small g k (number-is w) (inside w) (entry-is w) (f .if1 .left), number-is w))
+
+enum-known-next : tie.Need-enum-known-next Inv-loop μ-loop
+enum-known-next c = search needs
+
+returns-2 : tie.Need-returns-2 Inv-loop μ-loop
+returns-2 c = let a = c .before .before .before in
+    let f = a .before .before .before .before .before in
+    let w = f .before in
+    stopped (loopOf w .loop .inv) (w .before .before .action-of .result) (number-is w) (inside w) (entry-is w) (f .if1 .left) (a .advance .ensures) (c .before .next .given .1)
+
+enum-known-next-2 : tie.Need-enum-known-next-2 Inv-loop μ-loop
+enum-known-next-2 c = search needs
+
+add-found : tie.Need-add-found Inv-loop μ-loop
+add-found c = let w = c .before .before .before .before .before .before .before .before .before in
+    omega (arith, loopOf w .loop .inv .few, w .before .before .before .loop-test .taken)
+
+abbrev advancedOf : tie.After-known-told2 Inv-loop μ-loop → tie.After-advance Inv-loop μ-loop
+advancedOf c = c .before .before .before
+
+loop-less : tie.Need-loop-less Inv-loop μ-loop
+loop-less c = let a = advancedOf c in
+    let f = a .before .before .before .before .before in
+    let w = f .before in
+    let r = rises (loopOf w .loop .inv) (w .before .before .action-of .result) (number-is w) (inside w) (entry-is w) (f .if1 .left) (a .advance .ensures) (c .before .next2 .given .1) in
+    omega (arith, r .0, r .1, startOf w .pre .1)
+
+loop-again : tie.Need-loop-again Inv-loop μ-loop
+loop-again c = let a = advancedOf c in
+    let f = a .before .before .before .before .before in
+    let w = f .before in
+    goes (loopOf w .loop .inv) (w .before .before .action-of .result) (number-is w) (inside w) (entry-is w) (f .if1 .left) (a .advance .ensures) (c .before .next2 .given .1)
+
+returns-3 : tie.Need-returns-3 Inv-loop μ-loop
+returns-3 c = let s = c .before .before .before in over (c .before .loop .inv) (omega (arith, c .loop-test .left, s .pre .1))
+
+pub follow-spec : {M : Type 1} → statement M
+follow-spec =
+    tie.close
+    (tie.spec
+    Inv-loop
+    μ-loop
+    loop-holds
+    action-of-requires
+    source-of-requires
+    wide-requires
+    astray-requires
+    returns
+    mul-advance
+    shared-slice-element-advance
+    mul-advance-2
+    shared-slice-element-advance-2
+    advance-requires
+    enum-known-next
+    returns-2
+    enum-known-next-2
+    add-found
+    loop-less
+    loop-again
+    returns-3)
