@@ -6,6 +6,7 @@ use native.Mathlib.Omega.{arith}
 use mathlib.Core.Bool.{false}
 use mathlib.Core.List.{List}
 use lib.ListN.{length, length-append}
+use lib.IntN.{ℤ}
 use Rattle.integers.specs.Numbers.{Bytes}
 use Rattle.lists.specs.Answer.{Answer, given, refused, then}
 use Rattle.lists.specs.Written.{Lent}
@@ -20,14 +21,12 @@ use Rattle.model.specs.Judging.{judgeSourceTask, priceTask, pricePlan}
 use Rattle.model.specs.Listing.{stepLines, goalLine, refusedLine, textOf, listing}
 use Rattle.model.proofs.JudgedPlans.{plan-read}
 use Rattle.planbytes.specs.Counted.{countOf}
-use Rattle.source.specs.declared.Table.{Table}
-use Rattle.source.specs.declared.Shape.{Shape}
-use Rattle.source.specs.declared.State.{State as StateByValue}
-use Rattle.source.specs.Step.{Shaped}
-use Rattle.source.specs.Judged.{Decoded, AcceptedWith}
-use Rattle.source.proofs.Judging.{task-of, accepted-task, counted-task, ready, steps-of}
-use Rattle.source.specs.Setting.{SettingIs}
-use Rattle.listing.specs.Listed.{ReadyIn, ListableIn, textFrom, actionsOf}
+use Rattle.source.specs.Judged.{AcceptedWith}
+use Rattle.source.proofs.Judging.{task-of, accepted-task, steps-of}
+use Rattle.rows.specs.Ready.{Prepared}
+use Rattle.rows.proofs.Start.{start-shaped, prepared-starts}
+use Rattle.prepared.specs.Made.{Declares}
+use Rattle.listing.specs.Listed.{ReadyAt, Listable, textFrom, actionsOf, Starting}
 
 -- ---- the text
 pub lent-as : {old : List ℕ} {a b : Answer (List ℕ)} {after : List ℕ} {r : Written} → a ≡ b → Lent old a after r → Lent old b after r
@@ -36,18 +35,19 @@ lent-as {old} {after = after} {r} e l = subst (λ (c : Answer (List ℕ)). Lent 
 pub text-long : (t : SourceTask) (p : List ℕ) (total : ℕ) (x : State) → length (textFrom t p total x) ≡ 24 + length (stepLines t 0 p x) + length (goalLine total)
 text-long t p total x = omega (arith, length-append (stepLines t 0 p x) (goalLine total))
 
--- ---- an accepted file
-module _ (file : List ℕ) (bytes : Bytes file) (count : ℕ) (a : AcceptedWith (verdictOf sourceLimits file) count) (table : Table) (decoded : Decoded file count (table .actions)) (h : Shape) (x : StateByValue) (S : SettingIs file h x) where
-  pub set-ready : (t : SourceTask) → readSource file ≡ given t → ReadyIn t count table h
-  set-ready t e = ready file bytes t e count (table .actions) _ (h .lower) (h .upper) (x .values) (h .sizes) (x .modes) (counted-task file count bytes a t e) decoded (S .holds t e)
+-- ---- an accepted file, whose start is held with the rows of its actions
+module _ {file : List ℕ} {n : ℕ} {lower upper : List ℤ} {m : ℕ} {sizes : List ℕ} {values : List ℤ} {modes : List ℕ} (S : Starting file n lower upper m sizes values modes) where
+  pub starting-declares : Declares file n lower upper m sizes
+  starting-declares = record { starts = values; modes = modes; holds = S .holds }
 
-  pub set-shaped : Shaped (h .variables) (h .modes) (x .values) (x .modes) (h .sizes)
-  set-shaped =
-      let held = S .holds (task-of file count) (accepted-task file count a) in
-      record { variablesFew = held .variablesFew; modesFew = held .modesFew; valuesLong = held .room .startLong; modesLong = held .room .valuesLong; sizesLong = held .room .sizesLong }
+  module _ {count : ℕ} {marks : List (List ℕ)} {numbers : List (List ℤ)} (P : Prepared file count n lower upper m sizes marks numbers) where
+    pub starting-ready : (t : SourceTask) → readSource file ≡ given t → ReadyAt t count marks numbers n m values modes
+    starting-ready t e = record { lower = lower; upper = upper; sizes = sizes; shaped = start-shaped (S .holds t e); ready = P .ready t e }
 
-  pub set-listable : (p : List ℕ) (steps : ℕ) → steps ≡ length p → steps ≤ 1_000_000 → ListableIn p steps count table h x
-  set-listable p steps e l = record { task = task-of file count; ready = set-ready (task-of file count) (accepted-task file count a); shaped = set-shaped; counted = e; few = l }
+    pub starting-listable : AcceptedWith (verdictOf sourceLimits file) count → {p : List ℕ} {steps : ℕ} → steps ≡ length p → steps ≤ 1_000_000 → Listable p steps count marks numbers n m values modes
+    starting-listable a c l =
+        let e = accepted-task file count a in
+        record { stands = record { lower = lower; upper = upper; sizes = sizes; standing = prepared-starts (S .holds (task-of file count) e) e P }; counted = c; few = l }
 
 -- ---- a refusal of the plan's price is the listing's
 then-refused : {A B X : Type 0} {number place : ℕ} (o : Answer A) (k : A → Answer B) (l : A → Answer X) → ((x : A) → k x ≡ refused number place → l x ≡ refused number place) → then o k ≡ refused number place → then o l ≡ refused number place

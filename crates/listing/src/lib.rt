@@ -2,11 +2,9 @@
 // that names the refusal.
 //
 // The text is written into output that a caller lends, its length counted first. Nothing is written where it does not fit.
-use actions::SourceAction;
+use rows::MARKS;
+use rows::NUMBERS;
 use source::MODES;
-use source::Shape;
-use source::State;
-use source::Table;
 use source::VARIABLES;
 ghost use mathlib.Core.Path.{_≡_};
 ghost use Prim.Native.Nat.{_≤_};
@@ -21,9 +19,13 @@ ghost use Rattle.model.specs.Listing.{fieldsOf, goalLine, refusedLine, listing}
 ghost use Rattle.model.specs.Judging.{pricePlan};
 ghost use Rattle.model.specs.Plans.{planNumbers};
 ghost use Rattle.model.specs.Reading.{verdictOf};
-ghost use Rattle.source.specs.Step.{actionIs, Shaped};
+ghost use Rattle.source.specs.Judged.{AcceptedWith};
+ghost use Rattle.rows.specs.Row.{Steady, Usable};
 ghost use Rattle.listing.specs.Lines.{field, lineOf};
-ghost use Rattle.listing.specs.Listed.{Turned, Listable, LinesLong, LinesRoom, LinesPut, ListableIn, ListingRoom, ListingPut, ListingWritten, actionsOf};
+ghost use Rattle.listing.specs.Listed.{Turned, Listable, LinesLong, LinesRoom, LinesPut, ListingRoom, ListingPut, ListingWritten, actionsOf, Starting};
+
+// The most actions that a source file has.
+const ACTIONS: usize = 32;
 
 // A text, byte for byte.
 fn put_text(out: &mut [u8], at: usize, text: &[u8]) -> usize
@@ -168,56 +170,43 @@ fn write_refusal(out: &mut [u8], number: u8, place: u64) -> lists::Written
     lists::Written::Bytes(need)
 }
 
-// What a step comes to: whether its action applies, and its price where it does.
+// What a step comes to: whether its action applies, and its price.
 struct Turn {
     applied: bool,
     price: u64,
 }
 
-// Takes an action in a lent state where it applies.
+// Takes the action of a row in a lent state where it applies. The price is counted from the values before.
 fn take_turn(
     values: &mut [i64; VARIABLES],
     modes: &mut [u16; MODES],
     n: usize,
-    lower: &[i64; VARIABLES],
-    upper: &[i64; VARIABLES],
     m: usize,
-    sizes: &[u16; MODES],
-    action: SourceAction,
+    marks: &[u16; MARKS],
+    numbers: &[i64; NUMBERS],
 ) -> Turn
-    requires { ⌜ Shaped n m (now values) (now modes) (now sizes) ⌝ }
-    ensures { λ r. ⌜ Turned n m (now (lower .entry)) (now (upper .entry)) (now (sizes .entry)) (now (values .entry)) (now (modes .entry)) (actionIs action) r (now (values .exit)) (now (modes .exit)) ⌝ }
+    requires { ⌜ Steady n m (now values) (now modes) × Usable (now marks) (now numbers) ⌝ }
+    ensures { λ r. ⌜ Turned n m (now (marks .entry)) (now (numbers .entry)) (now (values .entry)) (now (modes .entry)) r (now (values .exit)) (now (modes .exit)) ⌝ }
 {
-    let before = *values;
-    if !source::try_action(values, modes, n, lower, upper, m, sizes, action) {
-        return Turn {
-            applied: false,
-            price: 0,
-        };
-    }
-    let price = prices::price_of(&before, n, action);
-    Turn {
-        applied: true,
-        price,
-    }
+    let price = measuring::price(values, n, marks, numbers);
+    let applied = rows::take(values, modes, n, m, marks, numbers);
+    Turn { applied, price }
 }
 
 // How long the lines of the steps are, from a lent state on.
-fn lines_length<'a>(
+fn lines_length(
     plan: &[u8],
     steps: usize,
     count: usize,
-    table: Table,
+    marks: &[[u16; MARKS]],
+    numbers: &[[i64; NUMBERS]],
     n: usize,
-    lower: &[i64; VARIABLES],
-    upper: &[i64; VARIABLES],
     m: usize,
-    sizes: &[u16; MODES],
     values: &mut [i64; VARIABLES],
     modes: &mut [u16; MODES],
 ) -> usize
-    requires { ⌜ Listable (planNumbers (now plan)) steps count (table .actions) n (now lower) (now upper) m (now sizes) (now values) (now modes) ⌝ }
-    ensures { λ r. ⌜ LinesLong (planNumbers (now (plan .entry))) count (table .actions) n (now (lower .entry)) (now (upper .entry)) m (now (sizes .entry)) (now (values .entry)) (now (modes .entry)) r ⌝ }
+    requires { ⌜ Listable (planNumbers (now plan)) steps count (now marks) (now numbers) n m (now values) (now modes) ⌝ }
+    ensures { λ r. ⌜ LinesLong (planNumbers (now (plan .entry))) count (now (marks .entry)) (now (numbers .entry)) n m (now (values .entry)) (now (modes .entry)) r ⌝ }
 {
     let mut sum: usize = 0;
     let mut i: usize = 0;
@@ -226,7 +215,7 @@ fn lines_length<'a>(
         if count <= k {
             return sum;
         }
-        let turn = take_turn(values, modes, n, lower, upper, m, sizes, table.actions[k]);
+        let turn = take_turn(values, modes, n, m, &marks[k], &numbers[k]);
         if !turn.applied {
             return sum;
         }
@@ -237,24 +226,22 @@ fn lines_length<'a>(
 }
 
 // The lines of the steps, from a lent state on.
-fn put_lines<'a>(
+fn put_lines(
     out: &mut [u8],
     at: usize,
     plan: &[u8],
     steps: usize,
     count: usize,
-    table: Table,
+    marks: &[[u16; MARKS]],
+    numbers: &[[i64; NUMBERS]],
     n: usize,
-    lower: &[i64; VARIABLES],
-    upper: &[i64; VARIABLES],
     m: usize,
-    sizes: &[u16; MODES],
     values: &mut [i64; VARIABLES],
     modes: &mut [u16; MODES],
 ) -> usize
-    requires { ⌜ Listable (planNumbers (now plan)) steps count (table .actions) n (now lower) (now upper) m (now sizes) (now values) (now modes) ⌝ }
-    requires { ⌜ LinesRoom (planNumbers (now plan)) count (table .actions) n (now lower) (now upper) m (now sizes) (now values) (now modes) (now out) at ⌝ }
-    ensures { λ r. ⌜ LinesPut (planNumbers (now (plan .entry))) count (table .actions) n (now (lower .entry)) (now (upper .entry)) m (now (sizes .entry)) (now (values .entry)) (now (modes .entry)) (now (out .entry)) at (now (out .exit)) r ⌝ }
+    requires { ⌜ Listable (planNumbers (now plan)) steps count (now marks) (now numbers) n m (now values) (now modes) ⌝ }
+    requires { ⌜ LinesRoom (planNumbers (now plan)) count (now marks) (now numbers) n m (now values) (now modes) (now out) at ⌝ }
+    ensures { λ r. ⌜ LinesPut (planNumbers (now (plan .entry))) count (now (marks .entry)) (now (numbers .entry)) n m (now (values .entry)) (now (modes .entry)) (now (out .entry)) at (now (out .exit)) r ⌝ }
 {
     let mut place = at;
     let mut i: usize = 0;
@@ -263,7 +250,7 @@ fn put_lines<'a>(
         if count <= k {
             return place;
         }
-        let turn = take_turn(values, modes, n, lower, upper, m, sizes, table.actions[k]);
+        let turn = take_turn(values, modes, n, m, &marks[k], &numbers[k]);
         if !turn.applied {
             return place;
         }
@@ -279,19 +266,18 @@ fn put_listing(
     plan: &[u8],
     steps: usize,
     count: usize,
-    table: Table,
-    shape: Shape,
-    start: State,
+    marks: &[[u16; MARKS]],
+    numbers: &[[i64; NUMBERS]],
+    n: usize,
+    m: usize,
+    values: &mut [i64; VARIABLES],
+    modes: &mut [u16; MODES],
     total: u64,
 ) -> usize
-    requires { ⌜ ListableIn (planNumbers (now plan)) steps count table shape start × ListingRoom (planNumbers (now plan)) count table shape start total (now out) ⌝ }
-    ensures { λ r. ⌜ ListingPut (planNumbers (now (plan .entry))) count table shape start total (now (out .entry)) (now (out .exit)) r ⌝ }
+    requires { ⌜ Listable (planNumbers (now plan)) steps count (now marks) (now numbers) n m (now values) (now modes) ⌝ }
+    requires { ⌜ ListingRoom (planNumbers (now plan)) count (now marks) (now numbers) n m (now values) (now modes) total (now out) ⌝ }
+    ensures { λ r. ⌜ ListingPut (planNumbers (now (plan .entry))) count (now (marks .entry)) (now (numbers .entry)) n m (now (values .entry)) (now (modes .entry)) total (now (out .entry)) (now (out .exit)) r ⌝ }
 {
-    let lower = shape.lower;
-    let upper = shape.upper;
-    let sizes = shape.sizes;
-    let mut values = start.values;
-    let mut modes = start.modes;
     let lines_at = put_text(out, 0, b"step action cost values\n");
     let goal_at = put_lines(
         out,
@@ -299,14 +285,12 @@ fn put_listing(
         plan,
         steps,
         count,
-        table,
-        shape.variables,
-        &lower,
-        &upper,
-        shape.modes,
-        &sizes,
-        &mut values,
-        &mut modes,
+        marks,
+        numbers,
+        n,
+        m,
+        values,
+        modes,
     );
     put_goal_line(out, goal_at, total)
 }
@@ -317,37 +301,47 @@ fn write_listing(
     plan: &[u8],
     steps: usize,
     count: usize,
-    table: Table,
-    shape: Shape,
-    start: State,
+    marks: &[[u16; MARKS]],
+    numbers: &[[i64; NUMBERS]],
+    n: usize,
+    m: usize,
+    values: &mut [i64; VARIABLES],
+    modes: &mut [u16; MODES],
     total: u64,
 ) -> lists::Written
-    requires { ⌜ ListableIn (planNumbers (now plan)) steps count table shape start ⌝ }
-    ensures { λ r. ⌜ ListingWritten (planNumbers (now (plan .entry))) count table shape start total (now (out .entry)) (now (out .exit)) r ⌝ }
+    requires { ⌜ Listable (planNumbers (now plan)) steps count (now marks) (now numbers) n m (now values) (now modes) ⌝ }
+    ensures { λ r. ⌜ ListingWritten (planNumbers (now (plan .entry))) count (now (marks .entry)) (now (numbers .entry)) n m (now (values .entry)) (now (modes .entry)) total (now (out .entry)) (now (out .exit)) r ⌝ }
 {
-    let lower = shape.lower;
-    let upper = shape.upper;
-    let sizes = shape.sizes;
-    let mut values = start.values;
-    let mut modes = start.modes;
+    let mut counted_values = *values;
+    let mut counted_modes = *modes;
     let lines = lines_length(
         plan,
         steps,
         count,
-        table,
-        shape.variables,
-        &lower,
-        &upper,
-        shape.modes,
-        &sizes,
-        &mut values,
-        &mut modes,
+        marks,
+        numbers,
+        n,
+        m,
+        &mut counted_values,
+        &mut counted_modes,
     );
     let need = 24 + lines + goal_line_length(total);
     if out.len() < need {
         return lists::Written::Refused(8, need as u64);
     }
-    put_listing(out, plan, steps, count, table, shape, start, total);
+    put_listing(
+        out,
+        plan,
+        steps,
+        count,
+        marks,
+        numbers,
+        n,
+        m,
+        values,
+        modes,
+        total,
+    );
     lists::Written::Bytes(need)
 }
 
@@ -361,17 +355,85 @@ fn count_actions(file: &[u8]) -> usize
     }
 }
 
+// Lists a valid plan, whose price is known, from the start of an accepted file's task, which is lent with its bounds and sizes.
+fn list_from(
+    file: &[u8],
+    count: usize,
+    plan: &[u8],
+    total: u64,
+    out: &mut [u8],
+    n: usize,
+    lower: &[i64; VARIABLES],
+    upper: &[i64; VARIABLES],
+    m: usize,
+    sizes: &[u16; MODES],
+    values: &mut [i64; VARIABLES],
+    modes: &mut [u16; MODES],
+) -> lists::Written
+    requires { ⌜ (pricePlan (now file) (now plan) ≡ given total) × AcceptedWith (verdictOf sourceLimits (now file)) count × Starting (now file) n (now lower) (now upper) m (now sizes) (now values) (now modes) ⌝ }
+    ensures { λ r. ⌜ Lent (now (out .entry)) (given (listing (now (file .entry)) (now (plan .entry)))) (now (out .exit)) r ⌝ }
+{
+    let mut marks = [[0u16; MARKS]; ACTIONS];
+    let mut numbers = [[0i64; NUMBERS]; ACTIONS];
+    prepared::prepare(
+        file,
+        count,
+        n,
+        lower,
+        upper,
+        m,
+        sizes,
+        &mut marks,
+        &mut numbers,
+    );
+    write_listing(
+        out,
+        plan,
+        plan.len() / 2,
+        count,
+        &marks,
+        &numbers,
+        n,
+        m,
+        values,
+        modes,
+        total,
+    )
+}
+
 // Lists a valid plan, whose price is known.
 fn list_valid(file: &[u8], plan: &[u8], total: u64, out: &mut [u8]) -> lists::Written
     requires { ⌜ pricePlan (now file) (now plan) ≡ given total ⌝ }
     ensures { λ r. ⌜ Lent (now (out .entry)) (given (listing (now (file .entry)) (now (plan .entry)))) (now (out .exit)) r ⌝ }
 {
     let count = count_actions(file);
-    let setting = source::read_setting(file);
-    let shape = setting.shape;
-    let start = setting.start;
-    let table = source::decode_actions(file, count);
-    write_listing(out, plan, plan.len() / 2, count, table, shape, start, total)
+    let mut lower = [0i64; VARIABLES];
+    let mut upper = [0i64; VARIABLES];
+    let mut values = [0i64; VARIABLES];
+    let mut sizes = [0u16; MODES];
+    let mut modes = [0u16; MODES];
+    let declared = declarations::read_source(
+        file,
+        &mut lower,
+        &mut upper,
+        &mut values,
+        &mut sizes,
+        &mut modes,
+    );
+    list_from(
+        file,
+        count,
+        plan,
+        total,
+        out,
+        declared.variables,
+        &lower,
+        &upper,
+        declared.modes,
+        &sizes,
+        &mut values,
+        &mut modes,
+    )
 }
 
 // The whole listing of a task and a plan, a refusal's line included. The only refusal is 8: the output lent is shorter than the text.

@@ -5,23 +5,28 @@ use native.Mathlib.Omega.{arith}
 use lib.ListN.{length}
 use denote.Ref.{now}
 use Rattle.lists.proofs.Lent.{too-short, written}
-use Rattle.model.specs.Tasks.{SourceTask}
+use Rattle.model.specs.Tasks.{SourceTask, State}
+use Rattle.model.specs.Judging.{declaredPart}
 use Rattle.model.specs.Plans.{planNumbers}
-use Rattle.listing.specs.Listed.{ReadyIn, textFrom, declaredIn}
+use Rattle.source.specs.Step.{state}
+use Rattle.listing.specs.Listed.{ReadyAt, textFrom}
 use Rattle.listing.proofs.Listing.{text-long}
 use borrow.Author.Needs.{needs}
 use Rattle.listing.proofs.write_listing.Statement.{statement}
 use Rattle.listing.proofs.write_listing.Tie as tie
 
+abbrev first : tie.Start → State
+first s = declaredPart (s .args .n) (s .args .m) (state (now (s .args .values)) (now (s .args .modes)))
+
 -- what is counted is the length of the text
-counted : (c : tie.After-goal-line-length) (t : SourceTask) → let s = c .before .before .before .before .before .before .before .before .before .before .before .before .before .before in ReadyIn t (s .args .count) (s .args .table) (s .args .shape)
-    → 24 + c .before .lines-length .result + c .goal-line-length .result ≡ length (textFrom t (planNumbers (now (s .args .plan))) (s .args .total) (declaredIn (s .args .shape) (s .args .start)))
+counted : (c : tie.After-goal-line-length) (t : SourceTask) → let s = c .before .before .before .before .before .before .before .before in ReadyAt t (s .args .count) (now (s .args .marks)) (now (s .args .numbers)) (s .args .n) (s .args .m) (now (s .args .values)) (now (s .args .modes))
+    → 24 + c .before .lines-length .result + c .goal-line-length .result ≡ length (textFrom t (planNumbers (now (s .args .plan))) (s .args .total) (first s))
 counted c t r =
-    let s = c .before .before .before .before .before .before .before .before .before .before .before .before .before .before in
-    omega (arith, text-long t (planNumbers (now (s .args .plan))) (s .args .total) (declaredIn (s .args .shape) (s .args .start)), c .before .lines-length .ensures .long t r, c .goal-line-length .ensures .0)
+    let s = c .before .before .before .before .before .before .before .before in
+    omega (arith, text-long t (planNumbers (now (s .args .plan))) (s .args .total) (first s), c .before .lines-length .ensures .long t r, c .goal-line-length .ensures .0)
 
 lines-length-requires : tie.Need-lines-length-requires
-lines-length-requires c κs = c .before .before .before .before .before .before .before .before .before .before .before .before .pre
+lines-length-requires c κs = search needs
 
 add-need : tie.Need-add-need
 add-need c = omega (arith, c .lines-length .ensures .few)
@@ -36,13 +41,13 @@ returns : tie.Need-returns
 returns c = record { written = λ t r. too-short refl (counted (c .before) t r) (c .if1 .taken) }
 
 put-listing-requires : tie.Need-put-listing-requires
-put-listing-requires c κs = let s = c .before .before .before .before .before .before .before .before .before .before .before .before .before .before .before .before in (s .pre, record { room = λ t r. record { fits = omega (arith, counted (c .before .before) t r, c .before .if1 .left) } })
+put-listing-requires c κs = let s = c .before .before .before .before .before .before .before .before .before .before .before .before in (s .pre, record { room = λ t r. record { fits = omega (arith, counted (c .before .before .before .before) t r, c .before .before .before .if1 .left) } })
 
 same-length : tie.Need-same-length
 same-length c = search needs
 
 returns-2 : tie.Need-returns-2
-returns-2 c = record { written = λ t r. written refl (counted (c .before .before .before .before .before) t r) (c .before .before .before .before .if1 .left) (c .before .before .put-listing .ensures .put t r) }
+returns-2 c = record { written = λ t r. written refl (counted (c .before .before .before .before .before .before .before) t r) (c .before .before .before .before .before .before .if1 .left) (c .before .before .put-listing .ensures .put t r) }
 
 pub write-listing-spec : {M : Type 1} → statement M
 write-listing-spec =
