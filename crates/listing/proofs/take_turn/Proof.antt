@@ -1,12 +1,4 @@
-<<<<<<< HEAD
--- `listing::take_turn` meets its contract: an action that applied had an effect that fits, so that it has a price. Assumes nothing.
-use borrow.Author.Tests.{not-true, not-false}
-use mathlib.Core.Bool.{true, false, false≢true}
-use Rattle.prices.proofs.Fitting.{fitted}
-use Rattle.listing.proofs.Lining.{tried-as}
-=======
 -- `listing::take_turn` meets its contract: the price is that of the values before the step. Assumes nothing.
->>>>>>> listing
 use borrow.Author.Needs.{needs}
 use Rattle.listing.proofs.take_turn.Statement.{statement}
 use Rattle.listing.proofs.take_turn.Tie as tie
