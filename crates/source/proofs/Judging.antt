@@ -18,8 +18,8 @@ use Rattle.model.specs.TaskOk.{SourceActionOk, SourceTaskOk}
 use Rattle.model.specs.Reading.{Verdict as FileVerdict, Accepted, Rejected, verdictOf, commandsOf}
 use Rattle.model.specs.Decoding.{draftOf, sourceActionOf, sourceTaskOf, onVerdict, readSource}
 use Rattle.model.specs.ActionBytes.{actionPart, decodeAction}
-use Rattle.model.specs.Steps.{stepSource, sizesOf, goalHolds, sourceGoalHolds}
-use Rattle.model.specs.Judging.{judge, declaredPart, withRest, judgeSourceTask, judgeSource}
+use Rattle.model.specs.Steps.{sizesOf, goalHolds, sourceGoalHolds}
+use Rattle.model.specs.Judging.{declaredPart, withRest, judgeSourceTask, judgeSource}
 use Rattle.model.specs.Plans.{readPlan, planNumbers}
 use Rattle.planbytes.specs.Counted.{countOf}
 use Rattle.model.proofs.ReadingLaws.{length-each}
@@ -35,14 +35,13 @@ use Rattle.actions.proofs.Fits.{source-fits}
 use Rattle.actions.proofs.Accepted.{source-action-decoded, source-goal-conditions, source-goal-modes}
 use Rattle.declarations.specs.declared.Declared.{Declared}
 use Rattle.declarations.specs.Stored.{SourceStored}
-use Rattle.declarations.specs.Holding.{SourceRoom, HoldsSource}
+use Rattle.declarations.specs.Holding.{SourceRoom}
 use Rattle.declarations.proofs.Accepted.{source-variables, source-modes}
 use Rattle.source.specs.declared.Progress.{Progress}
 use Rattle.source.specs.declared.Progress.the-variants.{Through, Stopped}
 use Rattle.source.specs.declared.Judgement.{Judgement}
 use Rattle.source.specs.Step.{state, actionIs, Shaped, Kept}
-use Rattle.source.specs.Judged.{Decoded, Ready, Ran, onProgress, goalConditionsIn, goalModesIn, AcceptedWith, lastVerdict, zeros, judgementIs, judgementOf, withState, StepsJudged}
-use Rattle.source.proofs.Trying.{kept-then}
+use Rattle.source.specs.Judged.{onProgress, goalConditionsIn, goalModesIn, AcceptedWith, lastVerdict, zeros, judgementIs, judgementOf, withState, StepsJudged}
 
 -- the bytes of a slice
 pub bytes-of : (s : List ℕ) → ((i : ℕ) → getD s i 0 < 256) → Bytes s
@@ -89,17 +88,6 @@ module _ (file : List ℕ) (bytes : Bytes file) (t : SourceTask) (is : readSourc
       ap some (source-fits (length (t .variables)) (sizesOf (t .modes)) (sourceActionIs a) (all-get (SourceActionOk sourceLimits (length (t .variables)) (sizesOf (t .modes))) (t .actions) k (sourceActionIs a) (ok .actionsOk) d)
       (omega (arith, ok .modesFew, length-each (λ (m : ℕ × ℕ). m .0) (t .modes))))
 
-  pub ready : (count : ℕ) (table : List DecodedSource) (r : Declared) (lower upper start : List ℤ) (sizes values : List ℕ) → count ≡ length (t .actions) → Decoded file count table
-      → HoldsSource t r lower upper start sizes values → Ready t count table (r .variables) lower upper (r .modes) sizes
-  ready count table r lower upper start sizes values c d h = record {
-    ok = ok;
-    counted = c;
-    actionsAre = λ k e l. source-action-decoded file bytes t is k (omega (arith, c, l)) (getD table k e) (d k e l) ∙ sym (action-is k (getD table k e) (omega (arith, c, l)) (d k e l));
-    lowersAre = h .lowersAre;
-    uppersAre = h .uppersAre;
-    sizesAre = h .sizesAre;
-  }
-
   module _ (g : Goal) (count : ℕ) (c : count ≡ length (t .actions)) (decoded : GoalDecoded (goalPart file count) g) where
     decoded′ : GoalDecoded (goalPart file (length (t .actions))) g
     decoded′ = subst (λ (n : ℕ). GoalDecoded (goalPart file n) g) c decoded
@@ -133,18 +121,6 @@ pub last-is : (pr : Progress) (met : Bool) (steps : ℕ) (x y : State) → x ≡
 last-is Through true steps x y e = ap (λ (z : State). (given steps, z)) e
 last-is Through false steps x y e = refl
 last-is (Stopped number place) met steps x y e = refl
-
-module _ (t : SourceTask) (p : List ℕ) (count : ℕ) (table : List DecodedSource) (r : Declared) (lower upper : List ℤ) (sizes : List ℕ) (values : List ℤ) (modes : List ℕ) (pr : Progress) (values′ : List ℤ) (modes′ : List ℕ) where
-  pub judged-so : HoldsSource t r lower upper values sizes modes → Kept (r .variables) (r .modes) (replicate 8 (pos 0)) (replicate 4 0) values modes → Ready t count table (r .variables) lower upper (r .modes) sizes
-      → Ran p count table (r .variables) lower upper (r .modes) sizes values modes pr values′ modes′
-      → (met : Bool) → met ≡ sourceGoalHolds t (declaredPart (r .variables) (r .modes) (state values′ modes′)) → (steps : ℕ) → steps ≡ length p
-      → withState (lastVerdict pr met steps) (state values′ modes′) ≡ judgementOf (judgeSourceTask t p)
-  unfolding judge
-  judged-so h k R N met m steps s =
-      let x = declaredPart (r .variables) (r .modes) (state values′ modes′) in
-      last-is pr met steps (state values′ modes′) x (in-front (N .shaped) (kept-then k (N .kept)))
-      ∙ ap₂ (λ (b : Bool) (n : ℕ). judgementOf (onProgress pr (cond b (given (n, x)) (refused 13 n)))) m s
-      ∙ ap judgementOf (sym (N .judges t R (sourceGoalHolds t)) ∙ ap (judge (length (t .actions)) (stepSource t) (sourceGoalHolds t) 0 p) (h .startIs))
 
 -- ---- the plan
 pub steps-of : (plan : List ℕ) (n : ℕ) → given n ≡ countOf plan → (readPlan plan ≡ given (planNumbers plan)) × (n ≡ length (planNumbers plan))

@@ -2,4 +2,3 @@ pub mod Alone
 pub mod Judged
 pub mod Parts
 pub mod Step
-pub mod Setting

@@ -1,4 +1,4 @@
-// States of a source task, what a step makes of one, and the judge of whole plans.
+// States of a source task, and what a step makes of one.
 //
 // A state is passed and returned by value. The work is done by functions on lent arrays, which cite the same definitions. What steps cost is not known here.
 use actions::CONDITIONS;
@@ -13,7 +13,7 @@ ghost use mathlib.Core.Path.{_≡_};
 ghost use mathlib.Core.Bool.{true, cond, _&&_};
 ghost use mathlib.Core.List.{_++_};
 ghost use Prim.Native.Nat.{min, _+_, _<_, _≤_};
-ghost use lib.ListN.{length, take, drop};
+ghost use lib.ListN.{take, drop};
 ghost use lib.IntN.{natAbs, _+ℤ_, _*ℤ_};
 ghost use Rattle.integers.specs.Parts.{Within};
 ghost use Rattle.integers.specs.Relation.{between};
@@ -22,15 +22,13 @@ ghost use Rattle.lists.specs.Loops.{every};
 ghost use Rattle.model.specs.Steps.{integerAt, naturalAt, conditionsHold, modesHold, setAll, linear, result, withinBounds, goalHolds};
 ghost use Rattle.source.specs.Parts.{conditionsIn, modeConditionsIn, modeEffectsIn, termsIn, effectIn, small, divides, termFits, effectFits, outcomeIs, valuesBetween, modesBelow};
 ghost use Rattle.source.specs.Step.{state, setAt, settled, Shaped, appliesBefore, Tried, actionIs, wholeIs, steppedIs, stepped};
-ghost use Rattle.source.specs.Setting.{SettingIs};
-ghost use Rattle.source.specs.Judged.{Decoded, Ran, goalModesIn, goalConditionsIn, AcceptedWith, lastVerdict, judgementIs, judgementOf, withState, StepsJudged};
+ghost use Rattle.source.specs.Judged.{goalModesIn, goalConditionsIn, AcceptedWith, lastVerdict, judgementIs, judgementOf, withState};
 ghost use Rattle.source.specs.Alone.{stepVerdict, stepAnswerIs, returned, StepTaken};
 ghost use Rattle.model.specs.Limits.{sourceLimits};
 ghost use Rattle.model.specs.Reading.{verdictOf};
-ghost use Rattle.model.specs.Judging.{declaredPart, judgeSource, stepSourceAlone};
+ghost use Rattle.model.specs.Judging.{declaredPart, stepSourceAlone};
 ghost use Rattle.model.specs.Decoding.{sourceActionOf};
 ghost use Rattle.model.specs.ActionBytes.{actionPart, decodeAction};
-ghost use Rattle.model.specs.Plans.{planNumbers};
 ghost use Rattle.actions.specs.Views.{sourceActionIs, fittingSource};
 
 // The most variables and modes that a source task declares.
@@ -522,52 +520,6 @@ impl State {
     }
 }
 
-// What a file declares, by value: the shape of its states, and its start.
-pub struct Setting {
-    pub shape: Shape,
-    pub start: State,
-}
-
-// The declarations of a file.
-pub fn read_setting(file: &[u8]) -> Setting
-    ensures { λ r. ⌜ SettingIs (now (file .entry)) (r .shape) (r .start) ⌝ }
-{
-    let mut lower = [0i64; VARIABLES];
-    let mut upper = [0i64; VARIABLES];
-    let mut start = [0i64; VARIABLES];
-    let mut sizes = [0u16; MODES];
-    let mut modes = [0u16; MODES];
-    let declared = declarations::read_source(
-        file,
-        &mut lower,
-        &mut upper,
-        &mut start,
-        &mut sizes,
-        &mut modes,
-    );
-    Setting {
-        shape: Shape {
-            variables: declared.variables,
-            lower,
-            upper,
-            modes: declared.modes,
-            sizes,
-        },
-        start: State {
-            values: start,
-            modes,
-        },
-    }
-}
-
-// The most actions that a source task has.
-const ACTIONS: usize = 32;
-
-// The actions of a task, decoded.
-pub struct Table {
-    pub actions: [SourceAction; ACTIONS],
-}
-
 // Action k of a file, decoded.
 pub fn decode_action(file: &[u8], k: usize) -> SourceAction
     requires { ⌜ k < 4294967296 ⌝ }
@@ -576,23 +528,6 @@ pub fn decode_action(file: &[u8], k: usize) -> SourceAction
     let start = actions::find_edge(file, k);
     let end = actions::find_edge(file, k + 1);
     actions::decode_source(actions::part(file, start, end))
-}
-
-// The first `count` actions of a file.
-pub fn decode_actions(file: &[u8], count: usize) -> Table
-    requires { ⌜ count ≤ 32 ⌝ }
-    ensures { λ r. ⌜ Decoded (now (file .entry)) count (r .actions) ⌝ }
-{
-    let first = decode_action(file, 0);
-    let mut table = Table {
-        actions: [first; ACTIONS],
-    };
-    let mut k: usize = 0;
-    while k < count {
-        table.actions[k] = decode_action(file, k);
-        k += 1;
-    }
-    table
 }
 
 pub fn wide16(x: u16) -> usize
