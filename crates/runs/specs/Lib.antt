@@ -1,3 +1,2 @@
 pub mod Made
-pub mod Openings
 pub mod Strokes

@@ -2,12 +2,6 @@
 // the turn. The strokes say how long each run is. Expanding writes these runs and projecting compares a plan with them.
 //
 // It never tests whether a step applies, and never takes one: the strokes go by the values before the step.
-use actions::Effect;
-use actions::SourceAction;
-use actions::TERMS;
-use actions::Term;
-use source::Table;
-use source::VARIABLES;
 ghost use mathlib.Core.Path.{_≡_};
 ghost use mathlib.Core.Bool.{true, _&&_};
 ghost use Prim.Native.Nat.{_+_, _≤_, _<_};
@@ -18,13 +12,9 @@ ghost use Rattle.integers.specs.Division.{unitLess, floor};
 ghost use Rattle.integers.specs.Parts.{Within};
 ghost use Rattle.lists.specs.Writing.{Room, Wrote};
 ghost use Rattle.model.specs.Plans.{planBytes, planNumbers};
-ghost use Rattle.model.specs.Steps.{integerAt};
-ghost use Rattle.model.specs.Tasks.{linearEffect};
 ghost use Rattle.model.specs.Following.{agreeing};
-ghost use Rattle.source.specs.Step.{actionIs};
-ghost use Rattle.source.specs.Parts.{termsIn, effectIn, small, divides, effectFits};
-ghost use Rattle.runs.specs.Strokes.{strokesOf, stageSteps, macroSteps, stepNumbers};
-ghost use Rattle.runs.specs.Openings.{Sized, Opened};
+ghost use Rattle.source.specs.Parts.{small, divides};
+ghost use Rattle.runs.specs.Strokes.{stageSteps, macroSteps, stepNumbers};
 ghost use Rattle.runs.specs.Made.{strokesIs, Listed, Two, RunOf, divisionStrokes};
 
 // The most stages of a macro.
@@ -88,79 +78,6 @@ pub fn division_strokes(target: i64, y: i64, c: i64, emptied: i64, moved: i64) -
     let drained = with_two(no_strokes(), y, y);
     let divided = with_two(drained, divide_strokes(y, c), emptied);
     with_two(divided, target, moved)
-}
-
-// The strokes of an L with its terms: each term drained and filled again, the target before, and what it gives.
-fn linear_strokes(
-    values: &[i64; VARIABLES],
-    n: usize,
-    target: u8,
-    c: i64,
-    count: usize,
-    terms: [Term; TERMS],
-) -> Strokes
-    requires { ⌜ (n ≤ 8) × (effectFits (linearEffect target c (termsIn count terms)) (integerAt (take n (now values))) ≡ true) ⌝ }
-    ensures { λ r. ⌜ Listed (strokesOf (linearEffect target c (termsIn count terms)) (integerAt (take n (now (values .entry))))) r ⌝ }
-{
-    let k = source::lesser(TERMS, count);
-    let mut s = no_strokes();
-    let mut i: usize = 0;
-    while i < k {
-        let term = terms[i];
-        let value = source::value_at(values, n, term.variable);
-        s = with_two(s, value, value);
-        i += 1;
-    }
-    let before = source::value_at(values, n, target);
-    with_two(s, before, source::linear_of(values, n, c, count, terms))
-}
-
-// The strokes of an effect, over the values before the step.
-pub fn strokes_of(
-    values: &[i64; VARIABLES],
-    n: usize,
-    effect: Effect,
-    count: usize,
-    terms: [Term; TERMS],
-) -> Strokes
-    requires { ⌜ (n ≤ 8) × (effectFits (effectIn effect count terms) (integerAt (take n (now values))) ≡ true) ⌝ }
-    ensures { λ r. ⌜ Listed (strokesOf (effectIn effect count terms) (integerAt (take n (now (values .entry))))) r ⌝ }
-{
-    match effect {
-        Effect::None => no_strokes(),
-        Effect::Add(_, _) => no_strokes(),
-        Effect::Linear(target, c) => linear_strokes(values, n, target, c, count, terms),
-        Effect::Quotient(target, operand, c) => {
-            let y = source::value_at(values, n, operand);
-            division_strokes(
-                source::value_at(values, n, target),
-                y,
-                c,
-                integers::residue(y, c),
-                integers::quotient(y, c),
-            )
-        }
-        Effect::Residue(target, operand, c) => {
-            let y = source::value_at(values, n, operand);
-            division_strokes(
-                source::value_at(values, n, target),
-                y,
-                c,
-                integers::quotient(y, c),
-                integers::residue(y, c),
-            )
-        }
-    }
-}
-
-// The strokes of an action, over the values before the step.
-pub fn action_strokes(values: &[i64; VARIABLES], n: usize, action: SourceAction) -> Strokes
-    requires { ⌜ (n ≤ 8) × (effectFits (actionIs action .effect) (integerAt (take n (now values))) ≡ true) ⌝ }
-    ensures { λ r. ⌜ Listed (strokesOf (actionIs action .effect) (integerAt (take n (now (values .entry))))) r ⌝ }
-{
-    let effect = action.effect;
-    let terms = action.terms;
-    strokes_of(values, n, effect, action.term_count, terms)
 }
 
 // The strokes of a stage as a run, its actions being numbered from `first`.
@@ -269,37 +186,7 @@ pub fn matches_step(plan: &[u8], at: usize, opening: u16, s: Strokes) -> usize
     1 + matches_stages(plan, at + 1, opening + 1, s)
 }
 
-// How many restricted actions an action becomes: at most 31.
-pub fn macro_size(action: SourceAction) -> u16
-    ensures { λ r. ⌜ Sized (actionIs action) r ⌝ }
-{
-    let effect = action.effect;
-    match effect {
-        Effect::None => 1,
-        Effect::Add(_, _) => 1,
-        Effect::Linear(_, _) => 7 + 6 * (source::lesser(TERMS, action.term_count) as u16),
-        Effect::Quotient(_, _, _) => 19,
-        Effect::Residue(_, _, _) => 19,
-    }
-}
-
 // The number of the first restricted action of each source action, and behind the last the count of all.
 pub struct Openings {
     pub numbers: [u16; 33],
-}
-
-// Of the first `count` actions of a table.
-pub fn openings_of(count: usize, table: Table) -> Openings
-    requires { ⌜ count ≤ 32 ⌝ }
-    ensures { λ r. ⌜ Opened (table .actions) count (r .numbers) ⌝ }
-{
-    let mut o = Openings { numbers: [0; 33] };
-    let mut next: u16 = 0;
-    let mut k: usize = 0;
-    while k < count {
-        next += macro_size(table.actions[k]);
-        k += 1;
-        o.numbers[k] = next;
-    }
-    o
 }
