@@ -32,7 +32,7 @@ use Rattle.plans.specs.Expanding.{expansionFrom, Writable, Expanded}
 use Rattle.plans.proofs.Lengths.{steps-behind}
 
 -- the rows have the effects of the task's actions
-rows-marked : {t : SourceTask} {count : ℕ} {marks : List (List ℕ)} {numbers : List (List ℤ)} {n : ℕ} {lower upper : List ℤ} {m : ℕ} {sizes : List ℕ} → Ready t count marks numbers n lower upper m sizes → (k : ℕ) → k < count → Marked (t .actions) marks k
+pub rows-marked : {t : SourceTask} {count : ℕ} {marks : List (List ℕ)} {numbers : List (List ℤ)} {n : ℕ} {lower upper : List ℤ} {m : ℕ} {sizes : List ℕ} → Ready t count marks numbers n lower upper m sizes → (k : ℕ) → k < count → Marked (t .actions) marks k
 rows-marked {numbers = numbers} r k l = let R = r .rowsAre k l in record { action = R .action; numbers = numbersOf numbers k; found = R .found; effect = R .row .effect }
 
 module _ (p : List ℕ) (count : ℕ) (marks : List (List ℕ)) (numbers : List (List ℤ)) (n m : ℕ) (values₀ : List ℤ) (modes₀ : List ℕ) (old : List ℕ) where

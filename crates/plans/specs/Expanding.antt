@@ -1,11 +1,12 @@
 -- What the parts of expanding make, in the words of the model.
 -- Assumes nothing.
 use mathlib.Core.Path.{_≡_}
-use Prim.Native.Nat.{ℕ, _*_}
+use Prim.Native.Nat.{ℕ, _*_, _<_}
 use mathlib.Core.Bool.{Bool, true, cond}
 use mathlib.Core.Option.{some}
 use mathlib.Core.List.{List}
 use lib.Dec.{ltb}
+use lib.ListN.{length, getD}
 use lib.IntN.{ℤ}
 use Rattle.lists.specs.Answer.{Answer, given, then}
 use Rattle.lists.specs.Writing.{Room, Wrote}
@@ -13,7 +14,7 @@ use Rattle.lists.specs.Written.{answerOf, Lent}
 use Rattle.lists.specs.declared.Written.{Written}
 use Rattle.lists.specs.declared.Written.the-variants.{Bytes, Refused}
 use Rattle.model.specs.Tasks.{SourceTask, State}
-use Rattle.model.specs.Decoding.{readSource}
+use Rattle.model.specs.Decoding.{each, readSource}
 use Rattle.model.specs.Plans.{planBytes}
 use Rattle.model.specs.Systems.{runPlan, expandFrom}
 use Rattle.model.specs.Steps.{lowerBounds, upperBounds, sourceStart, stepSource, goalHolds, sourceGoalHolds}
@@ -26,6 +27,7 @@ use Rattle.source.specs.declared.Progress.the-variants.{Through, Stopped}
 use Rattle.source.specs.Step.{state, Shaped}
 use Rattle.source.specs.Judged.{goalModesIn, goalConditionsIn}
 use Rattle.rows.specs.Ready.{Ready, Standing}
+use Rattle.strokes.specs.Openings.{Opened}
 
 -- ---- how many bytes an expansion has, or why there is none
 abbrev pub lengthAnswer : SourceTask → List ℕ → Answer ℕ
@@ -59,6 +61,20 @@ pub record Writable (p : List ℕ) (count : ℕ) (marks : List (List ℕ)) (numb
 pub record Expanded (p : List ℕ) (count : ℕ) (marks : List (List ℕ)) (numbers : List (List ℤ)) (n m : ℕ) (values : List ℤ) (modes : List ℕ) (old after : List ℕ) (r : ℕ) : Type 0 where
   pub wrote : (lower upper : List ℤ) (sizes : List ℕ) → Shaped n m values modes sizes → (t : SourceTask) → Ready t count marks numbers n lower upper m sizes
       → Wrote old 0 (planBytes (expansionFrom t p (declaredPart n m (state values modes)))) after r
+
+-- ---- a plan each step of which becomes one number: that of its opening
+abbrev pub openingIn : List ℕ → ℕ → ℕ
+openingIn openings k = getD openings k 0
+
+-- each step is one of so many actions
+abbrev pub Named : List ℕ → ℕ → Type 0
+Named p count = (i : ℕ) → i < length p → getD p i 0 < count
+
+-- the openings of its steps were written
+pub record OpeningsPut (p : List ℕ) (count : ℕ) (marks : List (List ℕ)) (old after : List ℕ) (r : ℕ) : Type 0 where
+  pub openings : List ℕ
+  pub opens : Opened marks count openings
+  pub wrote : Wrote old 0 (planBytes (each (openingIn openings) p)) after r
 
 -- ---- a plan of the task of an accepted file was expanded
 abbrev pub expansionAnswer : SourceTask → List ℕ → Answer (List ℕ)

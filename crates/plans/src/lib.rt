@@ -10,7 +10,7 @@ use source::Progress;
 use source::VARIABLES;
 use source_judge::ACTIONS;
 ghost use mathlib.Core.Path.{_≡_};
-ghost use Prim.Native.Nat.{_≤_};
+ghost use Prim.Native.Nat.{_*_, _≤_};
 ghost use lib.ListN.{length};
 ghost use Rattle.lists.specs.Written.{Lent};
 ghost use Rattle.model.specs.Judging.{expandBytes};
@@ -19,7 +19,7 @@ ghost use Rattle.model.specs.Plans.{planNumbers};
 ghost use Rattle.model.specs.Reading.{verdictOf};
 ghost use Rattle.source.specs.Judged.{AcceptedWith};
 ghost use Rattle.source_judge.specs.Running.{Stands, AtStart};
-ghost use Rattle.plans.specs.Expanding.{lastLength, Counted, Writable, Expanded, StepsExpanded};
+ghost use Rattle.plans.specs.Expanding.{lastLength, Counted, Writable, Expanded, Named, OpeningsPut, StepsExpanded};
 
 // How many bytes the expansion of a plan has that goes so far and has such a price, or its refusal.
 fn last_length(progress: Progress, met: bool, steps: usize, price: u64, passing: u64) -> Written
@@ -109,6 +109,28 @@ fn put_plan(
     place
 }
 
+// Writes the expansion of a plan each step of which becomes one number, that of its opening, whatever the state.
+fn put_openings(
+    out: &mut [u8],
+    plan: &[u8],
+    steps: usize,
+    count: usize,
+    marks: &[[u16; MARKS]],
+) -> usize
+    requires { ⌜ (steps ≡ length (planNumbers (now plan))) × Named (planNumbers (now plan)) count × (count ≤ 32) × (count ≤ length (now marks)) × (2 * steps ≤ length (now out)) ⌝ }
+    ensures { λ r. ⌜ OpeningsPut (planNumbers (now (plan .entry))) count (now (marks .entry)) (now (out .entry)) (now (out .exit)) r ⌝ }
+{
+    let openings = strokes::openings_of(count, marks);
+    let mut place: usize = 0;
+    let mut i: usize = 0;
+    while i < steps {
+        let k = source::wide16(planbytes::action_of(plan, i));
+        place = lists::put16(out, place, openings.numbers[k]);
+        i += 1;
+    }
+    place
+}
+
 // Expands a plan of so many steps from the start of an accepted file's task, which is lent with the rows of its actions.
 fn expand_rows(
     file: &[u8],
@@ -143,6 +165,10 @@ fn expand_rows(
         Written::Bytes(bytes) => {
             if out.len() < bytes {
                 return Written::Refused(8, bytes as u64);
+            }
+            if bytes == 2 * steps {
+                put_openings(out, plan, steps, count, marks);
+                return Written::Bytes(bytes);
             }
             put_plan(out, plan, steps, count, marks, numbers, n, m, values, modes);
             Written::Bytes(bytes)

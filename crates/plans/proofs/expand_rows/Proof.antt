@@ -1,6 +1,6 @@
 -- `plans::expand_rows` meets its contract: what is counted is the length of what is written. Assumes nothing.
 use mathlib.Core.Path.{_≡_, sym, ap, _∙_}
-use Prim.Native.Nat.{ℕ}
+use Prim.Native.Nat.{ℕ, _≤_}
 use native.Mathlib.Omega.{arith}
 use mathlib.Core.List.{List}
 use lib.ListN.{length}
@@ -9,9 +9,10 @@ use Rattle.integers.specs.Numbers.{Bytes}
 use Rattle.lists.specs.Answer.{given}
 use Rattle.lists.specs.Written.{answerOf}
 use Rattle.lists.proofs.Lent.{refusal, too-short, written}
+use Rattle.lists.proofs.Writing.{wrote-as}
 use Rattle.model.specs.Tasks.{SourceTask}
 use Rattle.model.specs.Decoding.{readSource}
-use Rattle.model.specs.Plans.{planNumbers}
+use Rattle.model.specs.Plans.{planNumbers, planBytes}
 use Rattle.declarations.specs.Holding.{HoldsSource}
 use Rattle.source.specs.Step.{Shaped}
 use Rattle.source.proofs.Judging.{bytes-of, task-of, accepted-task, counted-task, goal-is}
@@ -21,6 +22,7 @@ use Rattle.source_judge.specs.Running.{AtStart}
 use Rattle.source_judge.proofs.Judging.{stands-at-start}
 use Rattle.plans.specs.Expanding.{lengthAnswer}
 use Rattle.plans.proofs.Lengths.{Expands, expands, no-expansion}
+use Rattle.plans.proofs.Singles.{named-all, singles}
 use borrow.Author.Needs.{needs}
 use Rattle.plans.proofs.expand_rows.Statement.{statement}
 use Rattle.plans.proofs.expand_rows.Tie as tie
@@ -84,9 +86,38 @@ returns c =
     let b = c .before .before in
     record { meets = λ t e. let x = expanding b t e in too-short (x .answers) (x .long) (c .if1 .taken) }
 
+mul-if2 : tie.Need-mul-if2
+mul-if2 c = search (needs, arith)
+
+put-openings-requires : tie.Need-put-openings-requires
+put-openings-requires c κs =
+    let b = c .before .before .before .before in
+    let m = b .before .before in
+    let t = task-of (file m) (s m .args .count) in
+    let e = accepted-task (file m) (s m .args .count) (s m .pre .0) in
+    let x = expanding b t e in
+    let r = ready m t e in
+    let l : s m .args .count ≤ 32 = omega (arith, r .counted, r .ok .actionsFew) in
+    (s m .pre .2, rw (r .counted) (named-all t (p m) _ (x .ended) (x .applies)), l, omega (arith, l, r .marksLong), omega (arith, c .before .if2 .taken, c .before .before .if1 .left))
+
+same-length : tie.Need-same-length
+same-length c = search needs
+
+returns-2 : tie.Need-returns-2
+returns-2 c =
+    let b = c .before .before .before .before .before .before .before in
+    let m = b .before .before in
+    let o = c .before .before .put-openings .ensures in
+    record {
+      meets = λ t e.
+          let x = expanding b t e in
+          let q = singles (ready m t e) (o .openings) (o .opens) (p m) _ (x .ended) (x .applies) (omega (arith, x .long, c .before .before .before .before .if2 .taken, s m .pre .2)) in
+          written (x .answers) (x .long) (omega (arith, c .before .before .before .before .before .if1 .left)) (wrote-as (ap planBytes (sym q)) (o .wrote));
+    }
+
 put-plan-requires : tie.Need-put-plan-requires
 put-plan-requires c κs =
-    let b = c .before .before .before .before .before in
+    let b = c .before .before .before .before .before .before in
     let m = b .before .before in
     let t = task-of (file m) (s m .args .count) in
     let e = accepted-task (file m) (s m .args .count) (s m .pre .0) in
@@ -100,27 +131,27 @@ put-plan-requires c κs =
         standing = record { task = t; ready = ready m t e; shaped = shaped m t e; sound = prepared-starts h e (begun m .prepared) .sound };
         ended = x .ended;
         applies = rw (h .startIs) (x .applies);
-        room = record { fits = rw (h .startIs) (omega (arith, x .long, c .before .before .before .if1 .left)) };
+        room = record { fits = rw (h .startIs) (omega (arith, x .long, c .before .before .before .before .if1 .left)) };
       },
     )
 
-returns-2 : tie.Need-returns-2
-returns-2 c =
+returns-3 : tie.Need-returns-3
+returns-3 c =
     let m = c .before .before .before in
     let n = c .before .number .given in
     record { meets = λ t e. refusal (no-expansion t (p m) (n .0 .0) (n .0 .1 .0) (sym (answer m t e) ∙ ap answerOf (n .1))) }
 
-same-length : tie.Need-same-length
-same-length c = search needs
+same-length-2 : tie.Need-same-length-2
+same-length-2 c = search needs
 
-returns-3 : tie.Need-returns-3
-returns-3 c =
-    let b = c .before .before .before .before .before .before .before .before in
+returns-4 : tie.Need-returns-4
+returns-4 c =
+    let b = c .before .before .before .before .before .before .before .before .before in
     let m = b .before .before in
     record {
       meets = λ t e.
           let x = expanding b t e in
-          written (x .answers) (x .long) (omega (arith, c .before .before .before .before .before .before .if1 .left)) (rw (held m t e .startIs) at (c .before .before .put-plan .ensures .wrote (begun m .lower) (begun m .upper) (begun m .sizes) (shaped m t e) t (ready m t e)));
+          written (x .answers) (x .long) (omega (arith, c .before .before .before .before .before .before .before .if1 .left)) (rw (held m t e .startIs) at (c .before .before .put-plan .ensures .wrote (begun m .lower) (begun m .upper) (begun m .sizes) (shaped m t e) t (ready m t e)));
     }
 
 pub expand-rows-spec : {M : Type 1} → statement M
@@ -133,7 +164,11 @@ expand-rows-spec =
     enum-known-number
     enum-known-bytes
     returns
-    put-plan-requires
-    returns-2
+    mul-if2
+    put-openings-requires
     same-length
-    returns-3)
+    returns-2
+    put-plan-requires
+    returns-3
+    same-length-2
+    returns-4)
