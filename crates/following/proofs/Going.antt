@@ -1,12 +1,15 @@
 -- The loop that follows a plan: what is left of it projects to what the whole projects to, behind the source numbers found so far.
 -- Assumes nothing.
-use mathlib.Core.Path.{_≡_, refl, sym, ap, _∙_, subst}
+use mathlib.Core.Path.{_≡_, refl, sym, ap, ap₂, _∙_, subst}
 use Prim.Native.Nat.{ℕ, suc, _+_, _≤_, _<_}
 use native.Mathlib.Omega.{arith}
 use mathlib.Core.Bool.{Bool, true, false, cond}
 use mathlib.Core.List.{List, [], _∷_, _++_, append-assoc, append-nil}
-use lib.ListN.{length, getD, drop, length-drop, length-append, drop-of-length-le}
+use lib.Dec.{ltb}
+use lib.ListN.{length, getD, take, drop, set, length-set, length-drop, length-append, drop-of-length-le}
+use lib.Seq.{take-suc-set}
 use lib.IntN.{ℤ}
+use borrow.Author.Tests.{lt-ltb}
 use Rattle.lists.specs.Answer.{Answer, given, refused, then}
 use Rattle.model.specs.Tasks.{SourceTask}
 use Rattle.model.specs.Steps.{sourceGoalHolds}
@@ -20,7 +23,7 @@ use Rattle.following.specs.declared.Next.{Next}
 use Rattle.following.specs.declared.Next.the-variants.{At, Refused}
 use Rattle.following.specs.declared.Followed.the-variants.{Ended, Stopped}
 use Rattle.following.specs.Sources.{entryAt}
-use Rattle.following.specs.Following.{goesOn, Further, Owned, Advanced, Placed, Stands, PlanFollowed}
+use Rattle.following.specs.Following.{goesOn, Further, Owned, Advanced, Placed, Stands, notedAt, Notes, PlanFollowed}
 use Rattle.following.proofs.Turn.{at-the-end, small-entry, steady-here, rows-there, strays-here, declared, owned-here, placed-after, Behind, turns}
 
 -- ---- numbers in front of what an answer gives
@@ -39,34 +42,51 @@ behind-ended : (ns : List ℕ) (met : Bool) (i j : ℕ) → i ≡ j → behind n
 behind-ended ns true i j e = ap given (append-nil ns)
 behind-ended ns false i j e = ap (refused 13) e
 
+-- ---- the numbers noted
+noted-next : {noted kept : List ℕ} {found : ℕ} → Notes noted kept → length kept ≡ found → (a : ℕ) {noted′ : List ℕ} → noted′ ≡ notedAt noted found a → Notes noted′ (kept ++ (a ∷ []))
+noted-next {noted} {kept} {found} N c a {noted′} w = record { long = ap length w ∙ same (ltb found 512); are = more }
+  where
+    same : (b : Bool) → length (cond b (set noted found a) noted) ≡ 512
+    same true = length-set noted found a ∙ N .long
+    same false = N .long
+
+    more : length (kept ++ (a ∷ [])) ≤ 512 → take (length (kept ++ (a ∷ []))) noted′ ≡ kept ++ (a ∷ [])
+    more h =
+        let l : length (kept ++ (a ∷ [])) ≡ suc found = omega (arith, length-append kept (a ∷ []), c) in
+        ap₂ take l (w ∙ ap (λ (b : Bool). cond b (set noted found a) noted) (lt-ltb found 512 (omega (arith, l, h))))
+        ∙ take-suc-set noted found a (omega (arith, l, h, N .long))
+        ∙ ap (λ (k : ℕ). take k noted ++ (a ∷ [])) (sym c) ∙ ap (λ (l : List ℕ). l ++ (a ∷ [])) (N .are (omega (arith, l, h, c)))
+
 -- ---- the loop
 module _ (q : List ℕ) (marks : List (List ℕ)) (numbers : List (List ℤ)) (n m total : ℕ) (sources : List ℕ) (values₀ : List ℤ) (modes₀ : List ℕ) where
-  pub record Going (values : List ℤ) (modes : List ℕ) (i found : ℕ) : Type 0 where
+  pub record Going (values : List ℤ) (modes noted : List ℕ) (i found : ℕ) : Type 0 where
     pub begun : Stands marks numbers n m total sources values₀ modes₀
     pub stays : (t : SourceTask) → Placed t marks numbers n m total sources values₀ modes₀ → Placed t marks numbers n m total sources values modes
     pub bound : i ≤ length q
     pub kept : List ℕ
+    pub notes : Notes noted kept
     pub counted : length kept ≡ found
     pub few : found ≤ i
     pub left : (t : SourceTask) → Placed t marks numbers n m total sources values₀ modes₀
         → projectFrom t (length q) 0 q (declaredPart n m (state values₀ modes₀)) ≡ behind kept (projectFrom t (length q) i (drop i q) (declaredPart n m (state values modes)))
 
-  pub begins : Stands marks numbers n m total sources values₀ modes₀ → Going values₀ modes₀ 0 0
-  begins s = record { begun = s; stays = λ t p. p; bound = omega arith; kept = []; counted = refl; few = omega arith; left = λ t p. behind-none _ }
+  pub begins : {noted : List ℕ} → Stands marks numbers n m total sources values₀ modes₀ → length noted ≡ 512 → Going values₀ modes₀ noted 0 0
+  begins s l = record { begun = s; stays = λ t p. p; bound = omega arith; kept = []; notes = record { long = l; are = λ h. refl }; counted = refl; few = omega arith; left = λ t p. behind-none _ }
 
-module _ {q : List ℕ} {marks : List (List ℕ)} {numbers : List (List ℤ)} {n m total : ℕ} {sources : List ℕ} {values₀ : List ℤ} {modes₀ : List ℕ} {values : List ℤ} {modes : List ℕ} {i found : ℕ}
-    (g : Going q marks numbers n m total sources values₀ modes₀ values modes i found) where
+module _ {q : List ℕ} {marks : List (List ℕ)} {numbers : List (List ℤ)} {n m total : ℕ} {sources : List ℕ} {values₀ : List ℤ} {modes₀ : List ℕ} {values : List ℤ} {modes noted : List ℕ} {i found : ℕ}
+    (g : Going q marks numbers n m total sources values₀ modes₀ values modes noted i found) where
   placed-now : Placed (g .begun .task) marks numbers n m total sources values modes
   placed-now = g .stays (g .begun .task) (g .begun .placed)
 
   pub steady-now : Steady n m values modes
   steady-now = steady-here placed-now
 
-  pub over : length q ≤ i → PlanFollowed q marks numbers n m total sources values₀ modes₀ (Ended found) values modes
+  pub over : length q ≤ i → PlanFollowed q marks numbers n m total sources values₀ modes₀ (Ended found) values modes noted
   over h =
       let b = g .bound in
       record {
         kept = g .kept;
+        notes = g .notes;
         counted = sym (g .counted);
         few = omega (arith, g .counted, g .few);
         meets = λ t p. let x = declaredPart n m (state values modes) in
@@ -78,9 +98,10 @@ module _ {q : List ℕ} {marks : List (List ℕ)} {numbers : List (List ℤ)} {n
 
   module _ (k : ℕ) (is : k ≡ getD q i 0) (h : i < length q) {a : ℕ} (e : a ≡ entryAt sources k) where
     -- no source action stands here
-    pub no-action : 32 ≤ a → (number : ℕ) → strayed {A = List ℕ} total i (drop i q) ≡ refused number i → PlanFollowed q marks numbers n m total sources values₀ modes₀ (Stopped number i) values modes
+    pub no-action : 32 ≤ a → (number : ℕ) → strayed {A = List ℕ} total i (drop i q) ≡ refused number i → PlanFollowed q marks numbers n m total sources values₀ modes₀ (Stopped number i) values modes noted
     no-action l number s = record {
       kept = g .kept;
+      notes = g .notes;
       counted = refl;
       few = omega (arith, g .counted, g .few);
       meets = λ t p. g .left t p ∙ ap (behind (g .kept)) (strays-here (g .stays t p) k e q i (declaredPart n m (state values modes)) is h l ∙ s);
@@ -103,9 +124,10 @@ module _ {q : List ℕ} {marks : List (List ℕ)} {numbers : List (List ℤ)} {n
         turned : (t : SourceTask) (p : Placed t marks numbers n m total sources values₀ modes₀) → projectFrom t (length q) i (drop i q) (declaredPart n m (state values modes)) ≡ goesOn r q (after t p)
         turned t p = turns (g .stays t p) k e l (A .stepped) q i is h ∙ sym (A .answers (after t p))
 
-        pub stopped : {number place : ℕ} → r ≡ Refused number place → PlanFollowed q marks numbers n m total sources values₀ modes₀ (Stopped number place) values′ modes′
+        pub stopped : {number place : ℕ} → r ≡ Refused number place → PlanFollowed q marks numbers n m total sources values₀ modes₀ (Stopped number place) values′ modes′ noted
         stopped f = record {
           kept = g .kept;
+          notes = g .notes;
           counted = refl;
           few = omega (arith, g .counted, g .few);
           meets = λ t p. g .left t p ∙ ap (behind (g .kept)) (turned t p ∙ ap (λ (o : Next). goesOn o q (after t p)) f);
@@ -118,14 +140,15 @@ module _ {q : List ℕ} {marks : List (List ℕ)} {numbers : List (List ℤ)} {n
           pub rises : (i < j) × (j ≤ length q)
           rises = (further .1, further .2)
 
-          pub goes : Going q marks numbers n m total sources values₀ modes₀ values′ modes′ j (found + 1)
-          goes =
+          pub goes : {noted′ : List ℕ} → noted′ ≡ notedAt noted found a → Going q marks numbers n m total sources values₀ modes₀ values′ modes′ noted′ j (found + 1)
+          goes w =
               let b : i < j = further .1 in
               record {
                 begun = g .begun;
                 stays = λ t p. placed-after (g .stays t p) k e l (A .stepped);
                 bound = further .2;
                 kept = g .kept ++ (a ∷ []);
+                notes = noted-next (g .notes) (g .counted) a w;
                 counted = omega (arith, length-append (g .kept) (a ∷ []), g .counted);
                 few = omega (arith, g .few);
                 left = λ t p. let y = declaredPart n m (state values′ modes′) in

@@ -1,6 +1,6 @@
 -- What a plan comes to once it is followed, in lent output: a refusal, or the numbers found.
 -- Assumes nothing.
-use mathlib.Core.Path.{_≡_, refl, sym, ap, _∙_}
+use mathlib.Core.Path.{_≡_, refl, sym, ap, _∙_, subst}
 use Prim.Native.Nat.{ℕ, _*_, _≤_, _<_}
 use native.Mathlib.Omega.{arith}
 use mathlib.Core.Bool.{Bool, true, false, cond}
@@ -30,16 +30,17 @@ use Rattle.source.specs.Judged.{goalModesIn, goalConditionsIn}
 use Rattle.following.specs.declared.Followed.{Followed}
 use Rattle.following.specs.declared.Followed.the-variants.{Ended, Stopped}
 use Rattle.following.specs.Sources.{sourceIn}
-use Rattle.following.specs.Following.{followedTo, foundIn, Placed, PlanFollowed}
+use Rattle.following.specs.Following.{followedTo, foundIn, Placed, Notes, PlanFollowed}
 use Rattle.following.specs.Projecting.{asBytes, reachedTo, projected, Aims, Posed, Reached, Projected}
 use Rattle.following.proofs.Putting.{keep-alike}
 
 -- ---- to the goal
-module _ {q : List ℕ} {marks : List (List ℕ)} {numbers : List (List ℤ)} {n m total : ℕ} {sources : List ℕ} {values : List ℤ} {modes : List ℕ} {r : Followed} {values′ : List ℤ} {modes′ : List ℕ}
-    (F : PlanFollowed q marks numbers n m total sources values modes r values′ modes′) (goal : Goal) where
-  pub not-followed : {number place : ℕ} → r ≡ Stopped number place → Reached q marks numbers n m total sources values modes goal (Stopped number place)
+module _ {q : List ℕ} {marks : List (List ℕ)} {numbers : List (List ℤ)} {n m total : ℕ} {sources : List ℕ} {values : List ℤ} {modes : List ℕ} {r : Followed} {values′ : List ℤ} {modes′ noted : List ℕ}
+    (F : PlanFollowed q marks numbers n m total sources values modes r values′ modes′ noted) (goal : Goal) where
+  pub not-followed : {number place : ℕ} → r ≡ Stopped number place → Reached q marks numbers n m total sources values modes goal (Stopped number place) noted
   not-followed e = record {
     kept = F .kept;
+    notes = F .notes;
     counted = refl;
     few = F .few;
     meets = λ t p a. F .meets t p ∙ ap (λ (f : Followed). followedTo f (sourceGoalHolds t (declaredPart n m (state values′ modes′))) (length q) (F .kept)) e;
@@ -53,15 +54,15 @@ module _ {q : List ℕ} {marks : List (List ℕ)} {numbers : List (List ℤ)} {n
         ∙ ap (λ (o : Followed). followedTo o (sourceGoalHolds t (declaredPart n m (state values′ modes′))) (length q) (F .kept)) e
         ∙ ap (λ (b : Bool). cond b (given (F .kept)) (refused 13 (length q))) (sym (a (declaredPart n m (state values′ modes′))) ∙ sym is ∙ f)
 
-    pub goal-met : met ≡ true → Reached q marks numbers n m total sources values modes goal (Ended found)
-    goal-met f = record { kept = F .kept; counted = ap (λ (o : Followed). foundIn o (length (F .kept))) (sym e) ∙ F .counted; few = F .few; meets = comes f }
+    pub goal-met : met ≡ true → Reached q marks numbers n m total sources values modes goal (Ended found) noted
+    goal-met f = record { kept = F .kept; notes = F .notes; counted = ap (λ (o : Followed). foundIn o (length (F .kept))) (sym e) ∙ F .counted; few = F .few; meets = comes f }
 
-    pub goal-unmet : met ≡ false → {steps : ℕ} → steps ≡ length q → Reached q marks numbers n m total sources values modes goal (Stopped 13 steps)
-    goal-unmet f s = record { kept = F .kept; counted = refl; few = F .few; meets = λ t p a. comes f t p a ∙ ap (refused 13) (sym s) }
+    pub goal-unmet : met ≡ false → {steps : ℕ} → steps ≡ length q → Reached q marks numbers n m total sources values modes goal (Stopped 13 steps) noted
+    goal-unmet f s = record { kept = F .kept; notes = F .notes; counted = refl; few = F .few; meets = λ t p a. comes f t p a ∙ ap (refused 13) (sym s) }
 
 -- ---- into the output
-module _ {q : List ℕ} {marks : List (List ℕ)} {numbers : List (List ℤ)} {n m total : ℕ} {sources : List ℕ} {values : List ℤ} {modes : List ℕ} {goal : Goal} {r : Followed}
-    (F : Reached q marks numbers n m total sources values modes goal r) (old : List ℕ) where
+module _ {q : List ℕ} {marks : List (List ℕ)} {numbers : List (List ℤ)} {n m total : ℕ} {sources : List ℕ} {values : List ℤ} {modes : List ℕ} {goal : Goal} {r : Followed} {noted : List ℕ}
+    (F : Reached q marks numbers n m total sources values modes goal r noted) (old : List ℕ) where
   pub when-stopped : {number place : ℕ} → r ≡ Stopped number place → Projected q marks numbers n m total sources values modes goal old old (Refused number place)
   when-stopped e = record { meets = λ t p a. refusal (ap asBytes (F .meets t p a ∙ ap (λ (f : Followed). reachedTo f (F .kept)) e)) }
 
@@ -92,6 +93,9 @@ module _ {q : List ℕ} {marks : List (List ℕ)} {numbers : List (List ℤ)} {n
 
       pub puttable : Room old 0 (planBytes (keep (sourceIn sources) q))
       puttable = record { fits = omega (arith, bytes-needed, ap (λ (l : List ℕ). length (planBytes l)) kept) }
+
+      pub noted-so : Notes noted (keep (sourceIn sources) q) × (found ≡ length (keep (sourceIn sources) q))
+      noted-so = (subst (Notes noted) kept (F .notes), counted ∙ ap length kept)
 
       pub when-written : {after : List ℕ} {next : ℕ} → Wrote old 0 (planBytes (keep (sourceIn sources) q)) after next → Projected q marks numbers n m total sources values modes goal old after (Bytes (2 * found))
       when-written w = record { meets = λ t p a. written (ap asBytes (reaches t p a)) bytes-needed h (wrote-as (ap planBytes (sym kept)) w) }

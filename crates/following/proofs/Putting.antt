@@ -8,17 +8,19 @@ use mathlib.Core.Bool.{Bool, true, false, cond}
 use mathlib.Core.Option.{Option, none, some}
 use mathlib.Core.List.{List, [], _∷_, _++_, append-assoc, append-nil}
 use lib.Dec.{eqb}
-use lib.ListN.{length, getD, drop, replicate, length-drop, drop-of-length-le}
+use lib.ListN.{length, getD, take, drop, replicate, length-drop, drop-of-length-le}
 use lib.Seq.{drop-cons, drop-drop}
 use borrow.Author.Tests.{eqb-true, eq-eqb, lt-ltb, le-ltb}
 use Rattle.integers.specs.Numbers.{bytesOf}
 use Rattle.lists.specs.Writing.{Room, Wrote}
+use Rattle.lists.proofs.Loops.{There, there-all, rest-more, rest-none}
 use Rattle.lists.proofs.Writing.{Left, start, step, done, recast, room}
 use Rattle.model.specs.Systems.{orEmpty, keep}
 use Rattle.model.specs.Plans.{planBytes}
 use Rattle.model.specs.Following.{agreeing}
 use Rattle.model.proofs.FollowingWalks.{agreeing-there}
 use Rattle.following.specs.Sources.{entryAt, named, sourceIn}
+use Rattle.following.specs.Following.{Notes}
 
 -- ---- what is kept of a list that begins with a number
 module _ (rename : ℕ → Option ℕ) where
@@ -102,3 +104,31 @@ module _ {q sources out₀ out : List ℕ} {place i : ℕ} (g : Putting q source
           left = recast (ap (λ (m : List ℕ). planBytes m ++ []) (keep-past (sourceIn sources) k opens-nothing most (drop i q)
               ∙ ap (λ (j : ℕ). keep (sourceIn sources) (drop j (drop i q))) (sym run) ∙ ap (keep (sourceIn sources)) (drop-drop r i q))) (g .left);
         }
+
+-- ---- the numbers noted, of which so many are found
+module _ (noted : List ℕ) (found : ℕ) (out₀ : List ℕ) where
+  pub record Copying (out : List ℕ) (place i : ℕ) : Type 0 where
+    pub here : There found noted found
+    pub bound : i ≤ found
+    pub left : Left out₀ 0 (planBytes (take found noted)) out place (planBytes (drop i (take found noted)) ∷ [])
+
+  pub copying : found ≤ length noted → Copying out₀ 0 0
+  copying h = record { here = there-all found noted h; bound = omega arith; left = start out₀ 0 (sym (append-nil (planBytes (take found noted)))) }
+
+pub noted-are : {noted xs : List ℕ} {found : ℕ} → Notes noted xs → found ≡ length xs → found ≤ 512 → take found noted ≡ xs
+noted-are {noted} N e h = ap (λ (k : ℕ). take k noted) e ∙ N .are (omega (arith, e))
+
+module _ {noted : List ℕ} {found : ℕ} {out₀ out : List ℕ} {place i : ℕ} (g : Copying noted found out₀ out place i) where
+  pub copied : found ≤ i → Wrote out₀ 0 (planBytes (take found noted)) out place
+  copied h = done (recast (ap (λ (l : List ℕ). planBytes l ++ []) (rest-none (g .here) (g .bound) h)) (g .left))
+
+  module _ {a : ℕ} (is : a ≡ getD noted i 0) (h : i < found) where
+    copy-parts : Left out₀ 0 (planBytes (take found noted)) out place (bytesOf 2 a ∷ planBytes (drop (i + 1) (take found noted)) ∷ [])
+    copy-parts = recast (ap (λ (l : List ℕ). planBytes l ++ []) (rest-more 0 (g .here) h ∙ ap (λ (k : ℕ). k ∷ drop (i + 1) (take found noted)) (sym is))
+        ∙ append-assoc (bytesOf 2 a) (planBytes (drop (i + 1) (take found noted))) []) (g .left)
+
+    pub copy-room : Room out₀ 0 (planBytes (take found noted)) → Room out place (bytesOf 2 a)
+    copy-room r = room r copy-parts
+
+    pub copies : {out′ : List ℕ} {next : ℕ} → Wrote out place (bytesOf 2 a) out′ next → Copying noted found out₀ out′ next (i + 1)
+    copies w = record { here = g .here; bound = omega arith; left = step copy-parts w }

@@ -4,7 +4,8 @@ use mathlib.Core.Path.{_≡_}
 use Prim.Native.Nat.{ℕ, _<_, _≤_}
 use mathlib.Core.Bool.{Bool, true, cond, _&&_}
 use mathlib.Core.List.{List}
-use lib.ListN.{length, drop, take}
+use lib.Dec.{ltb}
+use lib.ListN.{length, drop, take, set}
 use lib.IntN.{ℤ}
 use Rattle.lists.specs.Answer.{Answer, given, refused}
 use Rattle.model.specs.Tasks.{SourceAction, SourceTask}
@@ -79,6 +80,14 @@ pub record Stands (marks : List (List ℕ)) (numbers : List (List ℤ)) (n m tot
   pub task : SourceTask
   pub placed : Placed task marks numbers n m total sources values modes
 
+-- ---- the first source numbers that are found, noted in a list of 512
+abbrev pub notedAt : List ℕ → ℕ → ℕ → List ℕ
+notedAt noted i a = cond (ltb i 512) (set noted i a) noted
+
+pub record Notes (noted kept : List ℕ) : Type 0 where
+  pub long : length noted ≡ 512
+  pub are : length kept ≤ 512 → take (length kept) noted ≡ kept
+
 -- what a plan comes to once its steps are followed: the source numbers found, where the goal is met
 abbrev pub followedTo : Followed → Bool → ℕ → List ℕ → Answer (List ℕ)
 followedTo (Ended found) met steps numbers = cond met (given numbers) (refused 13 steps)
@@ -90,8 +99,9 @@ foundIn (Stopped number place) n = n
 
 module _ (q : List ℕ) (marks : List (List ℕ)) (numbers : List (List ℤ)) (n m total : ℕ) (sources : List ℕ) (values : List ℤ) (modes : List ℕ) where
   -- a plan was followed: r, and the arrays after; `kept` are the source numbers found
-  pub record PlanFollowed (r : Followed) (values′ : List ℤ) (modes′ : List ℕ) : Type 0 where
+  pub record PlanFollowed (r : Followed) (values′ : List ℤ) (modes′ noted : List ℕ) : Type 0 where
     pub kept : List ℕ
+    pub notes : Notes noted kept
     pub counted : foundIn r (length kept) ≡ length kept
     pub few : length kept ≤ length q
     pub meets : (t : SourceTask) → Placed t marks numbers n m total sources values modes

@@ -18,7 +18,7 @@ use Rattle.source.specs.Step.{state}
 use Rattle.source.specs.Judged.{goalModesIn, goalConditionsIn}
 use Rattle.following.specs.declared.Followed.{Followed}
 use Rattle.following.specs.declared.Followed.the-variants.{Ended, Stopped}
-use Rattle.following.specs.Following.{foundIn, Placed}
+use Rattle.following.specs.Following.{foundIn, Placed, Notes}
 
 -- an answer's numbers as bytes
 abbrev pub asBytes : Answer (List ℕ) → Answer (List ℕ)
@@ -47,8 +47,9 @@ module _ (q : List ℕ) (marks : List (List ℕ)) (numbers : List (List ℤ)) (n
     pub few : length q ≤ 1_000_000
 
   -- the plan was followed to the goal: the source numbers found, or a refusal
-  pub record Reached (r : Followed) : Type 0 where
+  pub record Reached (r : Followed) (noted : List ℕ) : Type 0 where
     pub kept : List ℕ
+    pub notes : Notes noted kept
     pub counted : foundIn r (length kept) ≡ length kept
     pub few : length kept ≤ length q
     pub meets : (t : SourceTask) → Placed t marks numbers n m total sources values modes → Aims goal t → projected t ≡ reachedTo r kept

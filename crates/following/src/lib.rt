@@ -14,7 +14,7 @@ ghost use mathlib.Core.Bool.{true, false, cond};
 ghost use mathlib.Core.List.{List};
 ghost use Prim.Native.Nat.{ℕ, min, _+_, _-_, _≤_, _<_};
 ghost use lib.Dec.{eqb};
-ghost use lib.ListN.{length, drop, getD};
+ghost use lib.ListN.{length, take, drop, getD};
 ghost use Rattle.lists.specs.Answer.{refused};
 ghost use Rattle.lists.specs.Writing.{Room, Wrote};
 ghost use Rattle.model.specs.Systems.{keep};
@@ -22,13 +22,16 @@ ghost use Rattle.model.specs.Plans.{planBytes, planNumbers};
 ghost use Rattle.model.specs.Following.{strayed};
 ghost use Rattle.rows.specs.Row.{kindAt, Steady};
 ghost use Rattle.following.specs.Sources.{entryAt, sourceIn, Openable, Sourced};
-ghost use Rattle.following.specs.Following.{Answers, Further, Owned, Advanced, Stands, PlanFollowed};
+ghost use Rattle.following.specs.Following.{Answers, Further, Owned, Advanced, Stands, notedAt, Notes, PlanFollowed};
 ghost use Rattle.following.specs.Projecting.{Posed, Reached, Projected};
 
 // The most actions that a source task has, and the restricted numbers that a table of them has room for.
 const ACTIONS: usize = 32;
 
 pub const OPENINGS: usize = 1024;
+
+// How many of the source numbers that are found are noted.
+const NOTED: usize = 512;
 
 // What stands in the table for a number that opens no source action.
 const NONE: u8 = 32;
@@ -204,7 +207,17 @@ enum Followed {
     Stopped(u8, u64),
 }
 
-// Takes the source steps that a plan stands for in a lent state.
+// Notes a source number, where there is room for it.
+fn note(noted: &mut [u8; NOTED], found: usize, source: u8)
+    ensures { λ _. ⌜ now (noted .exit) ≡ notedAt (now (noted .entry)) found source ⌝ }
+{
+    if found < NOTED {
+        noted[found] = source;
+        return;
+    }
+}
+
+// Takes the source steps that a plan stands for in a lent state, and notes the first of them.
 fn follow(
     plan: &[u8],
     steps: usize,
@@ -216,15 +229,17 @@ fn follow(
     m: usize,
     values: &mut [i64; VARIABLES],
     modes: &mut [u16; MODES],
+    noted: &mut [u8; NOTED],
 ) -> Followed
-    requires { ⌜ Stands (now marks) (now numbers) n m total (now sources) (now values) (now modes) × (steps ≡ length (planNumbers (now plan))) ⌝ }
-    ensures { λ r. ⌜ PlanFollowed (planNumbers (now (plan .entry))) (now (marks .entry)) (now (numbers .entry)) n m total (now (sources .entry)) (now (values .entry)) (now (modes .entry)) r (now (values .exit)) (now (modes .exit)) ⌝ }
+    requires { ⌜ Stands (now marks) (now numbers) n m total (now sources) (now values) (now modes) × (steps ≡ length (planNumbers (now plan))) × (length (now noted) ≡ 512) ⌝ }
+    ensures { λ r. ⌜ PlanFollowed (planNumbers (now (plan .entry))) (now (marks .entry)) (now (numbers .entry)) n m total (now (sources .entry)) (now (values .entry)) (now (modes .entry)) r (now (values .exit)) (now (modes .exit)) (now (noted .exit)) ⌝ }
 {
     let mut found: usize = 0;
     let mut at: usize = 0;
     while at < steps {
         let opening = planbytes::action_of(plan, at);
-        let k = wide(source_of(sources, opening));
+        let source = source_of(sources, opening);
+        let k = wide(source);
         if ACTIONS <= k {
             return Followed::Stopped(astray(plan, steps, total, at), at as u64);
         }
@@ -249,6 +264,7 @@ fn follow(
                 at = place;
             }
         }
+        note(noted, found, source);
         found += 1;
     }
     Followed::Ended(found)
@@ -267,9 +283,10 @@ fn follow_to_goal(
     m: usize,
     values: &mut [i64; VARIABLES],
     modes: &mut [u16; MODES],
+    noted: &mut [u8; NOTED],
 ) -> Followed
-    requires { ⌜ Stands (now marks) (now numbers) n m total (now sources) (now values) (now modes) × (steps ≡ length (planNumbers (now plan))) ⌝ }
-    ensures { λ r. ⌜ Reached (planNumbers (now (plan .entry))) (now (marks .entry)) (now (numbers .entry)) n m total (now (sources .entry)) (now (values .entry)) (now (modes .entry)) goal r ⌝ }
+    requires { ⌜ Stands (now marks) (now numbers) n m total (now sources) (now values) (now modes) × (steps ≡ length (planNumbers (now plan))) × (length (now noted) ≡ 512) ⌝ }
+    ensures { λ r. ⌜ Reached (planNumbers (now (plan .entry))) (now (marks .entry)) (now (numbers .entry)) n m total (now (sources .entry)) (now (values .entry)) (now (modes .entry)) goal r (now (noted .exit)) ⌝ }
 {
     let followed = follow(
         plan,
@@ -282,6 +299,7 @@ fn follow_to_goal(
         m,
         values,
         modes,
+        noted,
     );
     match followed {
         Followed::Stopped(number, place) => Followed::Stopped(number, place),
@@ -318,6 +336,45 @@ fn put_sources(plan: &[u8], steps: usize, sources: &[u8; OPENINGS], out: &mut [u
     place
 }
 
+fn half(x: u8) -> u16
+    ensures { λ r. ⌜ r ≡ x ⌝ }
+{
+    x as u16
+}
+
+// Writes the first source numbers that are noted.
+fn put_noted(noted: &[u8; NOTED], found: usize, out: &mut [u8]) -> usize
+    requires { ⌜ Room (now out) 0 (planBytes (take found (now noted))) × (found ≤ 512) × (length (now noted) ≡ 512) ⌝ }
+    ensures { λ r. ⌜ Wrote (now (out .entry)) 0 (planBytes (take found (now (noted .entry)))) (now (out .exit)) r ⌝ }
+{
+    let mut place: usize = 0;
+    let mut i: usize = 0;
+    while i < found {
+        place = lists::put16(out, place, half(noted[i]));
+        i += 1;
+    }
+    place
+}
+
+// Writes the source numbers of a plan that has so many: those noted, or those of a scan where there are more.
+fn put_found(
+    plan: &[u8],
+    steps: usize,
+    sources: &[u8; OPENINGS],
+    noted: &[u8; NOTED],
+    found: usize,
+    out: &mut [u8],
+) -> usize
+    requires { ⌜ Room (now out) 0 (planBytes (keep (sourceIn (now sources)) (planNumbers (now plan)))) × (steps ≡ length (planNumbers (now plan))) ⌝ }
+    requires { ⌜ Notes (now noted) (keep (sourceIn (now sources)) (planNumbers (now plan))) × (found ≡ length (keep (sourceIn (now sources)) (planNumbers (now plan)))) ⌝ }
+    ensures { λ r. ⌜ Wrote (now (out .entry)) 0 (planBytes (keep (sourceIn (now (sources .entry))) (planNumbers (now (plan .entry))))) (now (out .exit)) r ⌝ }
+{
+    if found <= NOTED {
+        return put_noted(noted, found, out);
+    }
+    put_sources(plan, steps, sources, out)
+}
+
 // Projects a plan from a lent start into lent output, by the rows of a task's actions.
 pub fn project_rows(
     plan: &[u8],
@@ -336,6 +393,7 @@ pub fn project_rows(
     requires { ⌜ Posed (planNumbers (now plan)) (now marks) (now numbers) n m total (now sources) (now values) (now modes) goal × (steps ≡ length (planNumbers (now plan))) ⌝ }
     ensures { λ r. ⌜ Projected (planNumbers (now (plan .entry))) (now (marks .entry)) (now (numbers .entry)) n m total (now (sources .entry)) (now (values .entry)) (now (modes .entry)) goal (now (out .entry)) (now (out .exit)) r ⌝ }
 {
+    let mut noted = [0u8; NOTED];
     let followed = follow_to_goal(
         plan,
         steps,
@@ -348,6 +406,7 @@ pub fn project_rows(
         m,
         values,
         modes,
+        &mut noted,
     );
     match followed {
         Followed::Stopped(number, place) => Written::Refused(number, place),
@@ -356,7 +415,7 @@ pub fn project_rows(
             if out.len() < needed {
                 return Written::Refused(8, needed as u64);
             }
-            put_sources(plan, steps, sources, out);
+            put_found(plan, steps, sources, &noted, found, out);
             Written::Bytes(needed)
         }
     }

@@ -1,5 +1,5 @@
 -- `following::follow` meets its contract. The loop's invariant is `Going`: what is left projects to what the whole projects to. Assumes nothing.
-use mathlib.Core.Path.{_≡_, _∙_}
+use mathlib.Core.Path.{_≡_, sym, ap, _∙_}
 use Prim.Native.Nat.{_-_, _<_}
 use native.Mathlib.Omega.{arith}
 use lib.ListN.{length, getD}
@@ -7,17 +7,18 @@ use denote.Ref.{now}
 use Rattle.model.specs.Plans.{planNumbers}
 use Rattle.source.proofs.Running.{halves-long}
 use Rattle.following.specs.Sources.{entryAt}
+use Rattle.following.specs.Following.{notedAt}
 use Rattle.following.proofs.Going.{Going, begins, over, no-action, number-small, rows-here, steady-now, owned-now, stopped, rises, goes}
 use borrow.Author.Needs.{needs}
 use Rattle.following.proofs.follow.Statement.{statement}
 use Rattle.following.proofs.follow.Tie as tie
 
 abbrev Inv-loop : tie.InvT-loop
-Inv-loop plan steps total sources marks numbers n m values₀ modes₀ found₀ at₀ values modes found at =
-    Going (planNumbers plan) marks numbers n m total sources values₀ modes₀ values modes at found
+Inv-loop plan steps total sources marks numbers n m values₀ modes₀ noted₀ found₀ at₀ values modes noted found at =
+    Going (planNumbers plan) marks numbers n m total sources values₀ modes₀ values modes noted at found
 
 abbrev μ-loop : tie.MeasureT-loop
-μ-loop plan steps total sources marks numbers n m values₀ modes₀ found₀ at₀ values modes found at = steps - at
+μ-loop plan steps total sources marks numbers n m values₀ modes₀ noted₀ found₀ at₀ values modes noted found at = steps - at
 
 abbrev loopOf : tie.After-wide Inv-loop μ-loop → tie.At-loop Inv-loop μ-loop
 loopOf w = w .before .before .before .before
@@ -36,7 +37,7 @@ entry-is w = w .wide .ensures ∙ w .before .source-of .ensures
 
 loop-holds : tie.Need-loop-holds Inv-loop μ-loop
 loop-holds c = let s = c .before in
-    begins (planNumbers (now (s .args .plan))) (now (s .args .marks)) (now (s .args .numbers)) (s .args .n) (s .args .m) (s .args .total) (now (s .args .sources)) (now (s .args .values)) (now (s .args .modes)) (s .pre .0)
+    begins (planNumbers (now (s .args .plan))) (now (s .args .marks)) (now (s .args .numbers)) (s .args .n) (s .args .m) (s .args .total) (now (s .args .sources)) (now (s .args .values)) (now (s .args .modes)) (s .pre .0) (s .pre .2)
 
 action-of-requires : tie.Need-action-of-requires Inv-loop μ-loop
 action-of-requires c κs = let s = c .before .before .before in omega (arith, halves-long (now (s .args .plan)), c .loop-test .taken, s .pre .1)
@@ -87,25 +88,31 @@ returns-2 c = let a = c .before .before .before in
 enum-known-next-2 : tie.Need-enum-known-next-2 Inv-loop μ-loop
 enum-known-next-2 c = search needs
 
+note-requires : tie.Need-note-requires Inv-loop μ-loop
+note-requires c κs = search needs
+
 add-found : tie.Need-add-found Inv-loop μ-loop
-add-found c = let w = c .before .before .before .before .before .before .before .before .before in
+add-found c = let w = c .before .before .before .before .before .before .before .before .before .before .before in
     omega (arith, loopOf w .loop .inv .few, w .before .before .before .loop-test .taken)
 
 abbrev advancedOf : tie.After-known-told2 Inv-loop μ-loop → tie.After-advance Inv-loop μ-loop
 advancedOf c = c .before .before .before
 
 loop-less : tie.Need-loop-less Inv-loop μ-loop
-loop-less c = let a = advancedOf c in
+loop-less c = let k = c .before .before in
+    let a = advancedOf k in
     let f = a .before .before .before .before .before in
     let w = f .before in
-    let r = rises (loopOf w .loop .inv) (w .before .before .action-of .result) (number-is w) (inside w) (entry-is w) (f .if1 .left) (a .advance .ensures) (c .before .next2 .given .1) in
+    let r = rises (loopOf w .loop .inv) (w .before .before .action-of .result) (number-is w) (inside w) (entry-is w) (f .if1 .left) (a .advance .ensures) (k .before .next2 .given .1) in
     omega (arith, r .0, r .1, startOf w .pre .1)
 
 loop-again : tie.Need-loop-again Inv-loop μ-loop
-loop-again c = let a = advancedOf c in
+loop-again c = let k = c .before .before in
+    let a = advancedOf k in
     let f = a .before .before .before .before .before in
     let w = f .before in
-    goes (loopOf w .loop .inv) (w .before .before .action-of .result) (number-is w) (inside w) (entry-is w) (f .if1 .left) (a .advance .ensures) (c .before .next2 .given .1)
+    let l = loopOf w .loop in
+    goes (l .inv) (w .before .before .action-of .result) (number-is w) (inside w) (entry-is w) (f .if1 .left) (a .advance .ensures) (k .before .next2 .given .1) (c .note .ensures ∙ ap (notedAt (l .noted) (l .found)) (sym (w .wide .ensures)))
 
 returns-3 : tie.Need-returns-3 Inv-loop μ-loop
 returns-3 c = let s = c .before .before .before in over (c .before .loop .inv) (omega (arith, c .loop-test .left, s .pre .1))
@@ -130,6 +137,7 @@ follow-spec =
     enum-known-next
     returns-2
     enum-known-next-2
+    note-requires
     add-found
     loop-less
     loop-again

@@ -5,7 +5,7 @@ use Rattle.following.proofs.follow_to_goal.Statement.{statement}
 use Rattle.following.proofs.follow_to_goal.Tie as tie
 
 abbrev startOf : tie.After-follow → tie.Start
-startOf f = f .before .before .before .before
+startOf f = f .before .before .before .before .before
 
 follow-requires : tie.Need-follow-requires
 follow-requires c κs = search needs

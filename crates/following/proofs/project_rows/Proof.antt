@@ -3,12 +3,12 @@ use native.Mathlib.Omega.{arith}
 use denote.Ref.{now}
 use borrow.Author.Needs.{needs}
 use Rattle.source.proofs.Running.{halves-long}
-use Rattle.following.proofs.Projecting.{when-stopped, few, when-short, puttable, when-written}
+use Rattle.following.proofs.Projecting.{when-stopped, few, when-short, puttable, noted-so, when-written}
 use Rattle.following.proofs.project_rows.Statement.{statement}
 use Rattle.following.proofs.project_rows.Tie as tie
 
 abbrev startOf : tie.After-follow-to-goal → tie.Start
-startOf f = f .before .before .before .before .before
+startOf f = f .before .before .before .before .before .before
 
 abbrev followOf : tie.After-known-told2 → tie.After-follow-to-goal
 followOf k = k .before .before .before
@@ -32,12 +32,12 @@ returns c = let k = c .before in
     let f = followOf k in
     when-short (f .follow-to-goal .ensures) (now (startOf f .args .out)) (k .before .followed2 .given .1) (c .if1 .taken)
 
-put-sources-requires : tie.Need-put-sources-requires
-put-sources-requires c κs = let i = c .before in
+put-found-requires : tie.Need-put-found-requires
+put-found-requires c κs = let i = c .before .before in
     let k = i .before in
     let f = followOf k in
     let s = startOf f in
-    (puttable (f .follow-to-goal .ensures) (now (s .args .out)) (k .before .followed2 .given .1) (i .if1 .left) (s .pre .0), s .pre .1)
+    ((puttable (f .follow-to-goal .ensures) (now (s .args .out)) (k .before .followed2 .given .1) (i .if1 .left) (s .pre .0), s .pre .1), noted-so (f .follow-to-goal .ensures) (now (s .args .out)) (k .before .followed2 .given .1) (i .if1 .left) (s .pre .0))
 
 returns-2 : tie.Need-returns-2
 returns-2 c = let f = c .before .before .before in when-stopped (f .follow-to-goal .ensures) (now (startOf f .args .out)) (c .before .followed .given .1)
@@ -47,10 +47,10 @@ same-length c = search needs
 
 returns-3 : tie.Need-returns-3
 returns-3 c = let p = c .before .before in
-    let i = p .before .before in
+    let i = p .before .before .before in
     let k = i .before in
     let f = followOf k in
-    when-written (f .follow-to-goal .ensures) (now (startOf f .args .out)) (k .before .followed2 .given .1) (i .if1 .left) (startOf f .pre .0) (p .put-sources .ensures)
+    when-written (f .follow-to-goal .ensures) (now (startOf f .args .out)) (k .before .followed2 .given .1) (i .if1 .left) (startOf f .pre .0) (p .put-found .ensures)
 
 pub project-rows-spec : {M : Type 1} → statement M
 project-rows-spec =
@@ -61,7 +61,7 @@ project-rows-spec =
     enum-known-followed-2
     mul-needed
     returns
-    put-sources-requires
+    put-found-requires
     returns-2
     same-length
     returns-3)
