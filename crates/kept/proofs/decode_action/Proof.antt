@@ -3,10 +3,6 @@ use Rattle.kept.proofs.Placing.{action-is}
 use borrow.Author.Needs.{needs}
 use Rattle.kept.proofs.decode_action.Statement.{statement}
 use Rattle.kept.proofs.decode_action.Tie as tie
-use Rattle.kept.proofs.decode_action.Reads as reads
-use Rattle.kept.proofs.decode_action.Lts as lts
-use Rattle.actions.proofs.decode_restricted.Reads as decode-restricted-reads
-use Rattle.actions.proofs.part.Reads as part-reads
 
 mul-part : tie.Need-mul-part
 mul-part c = search needs

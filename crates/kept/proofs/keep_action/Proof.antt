@@ -3,11 +3,6 @@ use Rattle.kept.proofs.Slots.{kept-already, kept-put}
 use borrow.Author.Needs.{needs}
 use Rattle.kept.proofs.keep_action.Statement.{statement}
 use Rattle.kept.proofs.keep_action.Tie as tie
-use Rattle.kept.proofs.keep_action.Reads as reads
-use Rattle.kept.proofs.keep_action.Lts as lts
-use Rattle.kept.proofs.decode_action.Reads as decode-action-reads
-use Rattle.kept.proofs.put_row.Reads as put-row-reads
-use Rattle.kept.proofs.wide16.Reads as wide16-reads
 
 mul-if1 : tie.Need-mul-if1
 mul-if1 c = search needs

@@ -1,11 +1,6 @@
 -- `kept::run_in_slot` meets its contract. Assumes nothing.
-use borrow.Author.Needs.{needs}
 use Rattle.kept.proofs.run_in_slot.Statement.{statement}
 use Rattle.kept.proofs.run_in_slot.Tie as tie
-use Rattle.kept.proofs.run_in_slot.Reads as reads
-use Rattle.kept.proofs.run_in_slot.Lts as lts
-use Rattle.kept.proofs.keep_action.Reads as keep-action-reads
-use Rattle.kept.proofs.take_kept.Reads as take-kept-reads
 
 keep-action-requires : tie.Need-keep-action-requires
 keep-action-requires c κs = let s = c .before .before .before .before .before .before .before .before .before .before .before .before .before .pre in ((s .0 .0, s .0 .1, s .0 .2), s .1)

@@ -26,12 +26,6 @@ use Prim.Native.Nat.{ℕ, _-_, _+_, _*_}
 use borrow.Author.Needs.{needs}
 use Rattle.repeats.proofs.add_times.Statement.{statement}
 use Rattle.repeats.proofs.add_times.Tie as tie
-use Rattle.repeats.proofs.add_times.Reads as reads
-use Rattle.repeats.proofs.add_times.Lts as lts
-use Rattle.repeats.proofs.lesser.Reads as lesser-reads
-use Rattle.repeats.proofs.product.Reads as product-reads
-use Rattle.repeats.proofs.signed.Reads as signed-reads
-use Rattle.restricted.proofs.add_to.Reads as add-to-reads
 
 abbrev Inv-loop : tie.InvT-loop
 Inv-loop values₀ n times count variables amounts k many i₀ values i =

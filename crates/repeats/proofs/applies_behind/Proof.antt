@@ -4,11 +4,6 @@ use borrow.Author.Tests.{not-true, not-false}
 use borrow.Author.Needs.{needs}
 use Rattle.repeats.proofs.applies_behind.Statement.{statement}
 use Rattle.repeats.proofs.applies_behind.Tie as tie
-use Rattle.repeats.proofs.applies_behind.Reads as reads
-use Rattle.repeats.proofs.applies_behind.Lts as lts
-use Rattle.restricted.proofs.conditions_met.Reads as conditions-met-reads
-use Rattle.restricted.proofs.effects_below.Reads as effects-below-reads
-use Rattle.restricted.proofs.sums_within.Reads as sums-within-reads
 
 sums-within-requires : tie.Need-sums-within-requires
 sums-within-requires c κs = search needs

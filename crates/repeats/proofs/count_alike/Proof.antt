@@ -4,10 +4,6 @@ use Rattle.repeats.proofs.Alike.{alike-one, alike-run}
 use borrow.Author.Needs.{needs}
 use Rattle.repeats.proofs.count_alike.Statement.{statement}
 use Rattle.repeats.proofs.count_alike.Tie as tie
-use Rattle.repeats.proofs.count_alike.Reads as reads
-use Rattle.repeats.proofs.count_alike.Lts as lts
-use Rattle.planbytes.proofs.action_of.Reads as action-of-reads
-use Rattle.planbytes.proofs.matches_run.Reads as matches-run-reads
 
 sub-left : tie.Need-sub-left
 sub-left c = search needs

@@ -6,12 +6,6 @@ use denote.Ref.{now}
 use Rattle.repeats.proofs.Leaps.{leapt-none, leapt}
 use Rattle.repeats.proofs.leap.Statement.{statement}
 use Rattle.repeats.proofs.leap.Tie as tie
-use Rattle.repeats.proofs.leap.Reads as reads
-use Rattle.repeats.proofs.leap.Lts as lts
-use Rattle.repeats.proofs.add_times.Reads as add-times-reads
-use Rattle.repeats.proofs.applies_behind.Reads as applies-behind-reads
-use Rattle.restricted.proofs.conditions_met.Reads as conditions-met-reads
-use Rattle.restricted.proofs.set_all.Reads as set-all-reads
 
 conditions-met-requires : tie.Need-conditions-met-requires
 conditions-met-requires c κs = let r = c .before .before .pre .1 .ready in (r .room, r .modesRoom)

@@ -6,10 +6,6 @@ use Rattle.repeats.proofs.Leaps.{leapt-none, leapt-then}
 use borrow.Author.Needs.{needs}
 use Rattle.repeats.proofs.leap_far.Statement.{statement}
 use Rattle.repeats.proofs.leap_far.Tie as tie
-use Rattle.repeats.proofs.leap_far.Reads as reads
-use Rattle.repeats.proofs.leap_far.Lts as lts
-use Rattle.repeats.proofs.leap.Reads as leap-reads
-use Rattle.repeats.proofs.lesser.Reads as lesser-reads
 
 abbrev Inv-loop : tie.InvT-loop
 Inv-loop values₀ modes₀ n m sizes condition-count condition-variables condition-relations condition-constants mode-condition-count mode-condition-modes mode-condition-values effect-count effect-modes effect-values addition-count addition-variables addition-amounts most taken₀ times₀ values modes taken times =

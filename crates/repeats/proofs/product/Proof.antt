@@ -4,8 +4,6 @@ use mir.Facts.{toZ-ofZ}
 use Rattle.repeats.proofs.Ranges.{product-fits}
 use Rattle.repeats.proofs.product.Statement.{statement}
 use Rattle.repeats.proofs.product.Tie as tie
-use Rattle.repeats.proofs.product.Reads as reads
-use Rattle.repeats.proofs.product.Lts as lts
 
 mul-result : tie.Need-mul-result
 mul-result c = simp (toZ-ofZ, c .fits .times, c .fits .amount) (product-fits (c .args .times) (c .args .amount) (c .pre .0) (c .pre .1))

@@ -5,8 +5,6 @@ use mir.Facts.{toZ-pos}
 use borrow.Author.Needs.{needs}
 use Rattle.repeats.proofs.signed.Statement.{statement}
 use Rattle.repeats.proofs.signed.Tie as tie
-use Rattle.repeats.proofs.signed.Reads as reads
-use Rattle.repeats.proofs.signed.Lts as lts
 
 cast-result : tie.Need-cast-result
 cast-result c = search needs

@@ -4,11 +4,6 @@ use Rattle.repeats.proofs.Leaps.{goes-on, run-on}
 use borrow.Author.Needs.{needs}
 use Rattle.repeats.proofs.take_run.Statement.{statement}
 use Rattle.repeats.proofs.take_run.Tie as tie
-use Rattle.repeats.proofs.take_run.Reads as reads
-use Rattle.repeats.proofs.take_run.Lts as lts
-use Rattle.repeats.proofs.count_alike.Reads as count-alike-reads
-use Rattle.repeats.proofs.leap_far.Reads as leap-far-reads
-use Rattle.repeats.proofs.take_steps.Reads as take-steps-reads
 
 count-alike-requires : tie.Need-count-alike-requires
 count-alike-requires c κs = search needs

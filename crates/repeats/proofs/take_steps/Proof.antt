@@ -7,11 +7,6 @@ use Rattle.repeats.specs.Repeats.{partsIs}
 use Rattle.repeats.proofs.Judged.{Running, run-start, run-changes, run-ends, run-conditions-stop, run-effects-stop, run-next}
 use Rattle.repeats.proofs.take_steps.Statement.{statement}
 use Rattle.repeats.proofs.take_steps.Tie as tie
-use Rattle.repeats.proofs.take_steps.Reads as reads
-use Rattle.repeats.proofs.take_steps.Lts as lts
-use Rattle.planbytes.proofs.action_of.Reads as action-of-reads
-use Rattle.restricted.proofs.apply.Reads as apply-reads
-use Rattle.restricted.proofs.conditions_met.Reads as conditions-met-reads
 
 abbrev Inv-loop : tie.InvT-loop
 Inv-loop values₀ modes₀ n m sizes condition-count condition-variables condition-relations condition-constants mode-condition-count mode-condition-modes mode-condition-values effect-count effect-modes effect-values addition-count addition-variables addition-amounts k plan from steps i₀ values modes i =

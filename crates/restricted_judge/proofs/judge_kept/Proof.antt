@@ -7,11 +7,6 @@ use Rattle.restricted_judge.proofs.Walking.{Walking, walk-start, walk-e
 use borrow.Author.Needs.{needs}
 use Rattle.restricted_judge.proofs.judge_kept.Statement.{statement}
 use Rattle.restricted_judge.proofs.judge_kept.Tie as tie
-use Rattle.restricted_judge.proofs.judge_kept.Reads as reads
-use Rattle.restricted_judge.proofs.judge_kept.Lts as lts
-use Rattle.planbytes.proofs.action_of.Reads as action-of-reads
-use Rattle.kept.proofs.run_in_slot.Reads as run-in-slot-reads
-use Rattle.restricted_judge.proofs.wide16.Reads as wide16-reads
 
 abbrev Inv-loop : tie.InvT-loop
 Inv-loop file places count plan steps values₀ modes₀ n m sizes tags₀ counts₀ condition-variables₀ condition-relations₀ condition-constants₀ mode-condition-modes₀ mode-condition-values₀ effect-modes₀ effect-values₀ addition-variables₀ addition-amounts₀ i₀ values modes tags counts condition-variables condition-relations condition-constants mode-condition-modes mode-condition-values effect-modes effect-values addition-variables addition-amounts i =

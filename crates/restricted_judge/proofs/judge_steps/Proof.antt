@@ -5,12 +5,6 @@ use Rattle.restricted_judge.proofs.Walking.{Walking, walk-start, walk-e
 use borrow.Author.Needs.{needs}
 use Rattle.restricted_judge.proofs.judge_steps.Statement.{statement}
 use Rattle.restricted_judge.proofs.judge_steps.Tie as tie
-use Rattle.restricted_judge.proofs.judge_steps.Reads as reads
-use Rattle.restricted_judge.proofs.judge_steps.Lts as lts
-use Rattle.planbytes.proofs.action_of.Reads as action-of-reads
-use Rattle.kept.proofs.decode_action.Reads as decode-action-reads
-use Rattle.restricted_judge.proofs.take_decoded.Reads as take-decoded-reads
-use Rattle.restricted_judge.proofs.wide16.Reads as wide16-reads
 
 abbrev Inv-loop : tie.InvT-loop
 Inv-loop file places count plan steps values₀ modes₀ n m sizes i₀ values modes i = Walking file plan places count steps n m sizes values₀ modes₀ i values modes
