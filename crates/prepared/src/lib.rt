@@ -162,7 +162,7 @@ fn put_effect(
 }
 
 // The rows of an action, in the place of zeros.
-fn put_row(
+pub fn put_row(
     marks: &mut [u16; MARKS],
     numbers: &mut [i64; NUMBERS],
     n: usize,

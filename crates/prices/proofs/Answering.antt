@@ -37,7 +37,7 @@ use Rattle.source.specs.declared.Progress.the-variants.{Through, Stopped}
 use Rattle.source.specs.Step.{state, actionIs, Shaped, Tried}
 use Rattle.source.specs.Alone.{stepVerdict, verdictOver}
 use Rattle.source.specs.Judged.{onProgress, AcceptedWith}
-use Rattle.source.proofs.Judging.{task-of, accepted-task, counted-task, action-is}
+use Rattle.source.proofs.Judging.{task-of, accepted-task, counted-task}
 use Rattle.source.proofs.Alone.{step-taken}
 use Rattle.rows.specs.Ready.{Ready}
 use Rattle.measuring.specs.declared.Measured.{Measured}
@@ -80,12 +80,12 @@ module _ (file : List ℕ) (bytes : Bytes file) (t : SourceTask) (is : readSourc
       ap (λ (q : Bool). then (verdictOver (stepVerdict q) (state values′ modes′)) (λ y. given (priceFrom (t .actions) (state values modes) k))) (sym e)
       ∙ ap (λ (o : Answer State). then o (λ y. given (priceFrom (t .actions) (state values modes) k))) alone
 
-  pub priced-alone : b ≡ true → (price : ℕ) → price ≡ priceOfEffect (actionIs a .effect) (integerAt (take (r .variables) values))
+  pub priced-alone : b ≡ true → (price : ℕ) → price ≡ priceOfEffect (sourceActionIs a .effect) (integerAt (take (r .variables) values))
       → given price ≡ then (stepAlone (length (t .variables)) (length (t .modes)) (length (t .actions)) (stepSource t) (state values modes) k) (λ y. given (priceFrom (t .actions) (state values modes) k))
   priced-alone e price p =
-      let is-action = source-action-decoded file bytes t is k (omega (arith, c, l)) a d ∙ sym (action-is file bytes t is k a (omega (arith, c, l)) d) in
-      let effect-ok = all-get (SourceActionOk sourceLimits (length (t .variables)) (sizesOf (t .modes))) (t .actions) k (actionIs a) (accepted-source-ok file t is .actionsOk) is-action .effectOk in
-      let same : price ≡ priceFrom (t .actions) (state values modes) k = p ∙ ap (λ (n : ℕ). priceOfEffect (actionIs a .effect) (integerAt (take n values))) (h .variableCount) ∙ same-price (length (t .variables)) values (actionIs a .effect) effect-ok
+      let is-action = source-action-decoded file bytes t is k (omega (arith, c, l)) a d in
+      let effect-ok = all-get (SourceActionOk sourceLimits (length (t .variables)) (sizesOf (t .modes))) (t .actions) k (sourceActionIs a) (accepted-source-ok file t is .actionsOk) is-action .effectOk in
+      let same : price ≡ priceFrom (t .actions) (state values modes) k = p ∙ ap (λ (n : ℕ). priceOfEffect (sourceActionIs a .effect) (integerAt (take n values))) (h .variableCount) ∙ same-price (length (t .variables)) values (sourceActionIs a .effect) effect-ok
       ∙ ap (λ (o : Option SourceAction). orZero o (λ a. priceOfEffect (a .effect) (integerAt values))) (sym is-action) in
       ap given same
       ∙ ap (λ (q : Bool). then (verdictOver (stepVerdict q) (state values′ modes′)) (λ y. given (priceFrom (t .actions) (state values modes) k))) (sym e)

@@ -1,10 +1,7 @@
 // What steps and plans cost: the price of a step, by itself or with the steps of a plan.
 //
 // A price is counted from the values before a step. Steps and plans are refused as by judging them.
-use actions::Effect;
 use actions::SourceAction;
-use actions::TERMS;
-use actions::Term;
 use rows::MARKS;
 use rows::NUMBERS;
 use source::MODES;
@@ -13,123 +10,45 @@ use source::State;
 use source::VARIABLES;
 use source_judge::ACTIONS;
 ghost use mathlib.Core.Path.{_≡_};
-ghost use mathlib.Core.Bool.{true, _&&_};
 ghost use Prim.Native.Nat.{_<_, _≤_};
 ghost use lib.ListN.{length, take};
-ghost use lib.IntN.{natAbs};
-ghost use Rattle.lists.specs.Loops.{every};
 ghost use Rattle.model.specs.Steps.{integerAt};
-ghost use Rattle.model.specs.Tasks.{linearEffect};
-ghost use Rattle.model.specs.Expansion.{magnitudes, priceOfEffect};
+ghost use Rattle.model.specs.Expansion.{priceOfEffect};
 ghost use Rattle.model.specs.Plans.{planNumbers};
 ghost use Rattle.model.specs.Limits.{sourceLimits};
 ghost use Rattle.model.specs.Reading.{verdictOf};
 ghost use Rattle.model.specs.Judging.{priceStep, pricePlan};
-ghost use Rattle.source.specs.Step.{actionIs, wholeIs};
+ghost use Rattle.actions.specs.Views.{sourceActionIs};
+ghost use Rattle.source.specs.Step.{wholeIs};
 ghost use Rattle.source.specs.Judged.{AcceptedWith};
-ghost use Rattle.source.specs.Parts.{termsIn, effectIn, small, divides, termFits, effectFits};
+ghost use Rattle.prepared.specs.Made.{RowFits};
 ghost use Rattle.source_judge.specs.Running.{AtStart};
-ghost use Rattle.prices.specs.Prices.{divisionPrice};
+ghost use Rattle.measuring.specs.Prices.{Near};
 ghost use Rattle.prices.specs.Answers.{pricedIs, lastPrice, StepPriced, StepsPriced};
-
-// |z| of a number that is not large.
-fn size(z: i64) -> u64
-    requires { ⌜ natAbs z ≤ 1000000000 ⌝ }
-    ensures { λ r. ⌜ r ≡ natAbs z ⌝ }
-{
-    if 0 <= z {
-        return z as u64;
-    }
-    (0 - z) as u64
-}
-
-// The sum of |value| of the variables of the terms.
-fn term_sizes(values: &[i64; VARIABLES], n: usize, count: usize, terms: [Term; TERMS]) -> u64
-    requires { ⌜ (n ≤ 8) × (every (termFits (integerAt (take n (now values)))) (termsIn count terms) ≡ true) ⌝ }
-    ensures { λ r. ⌜ (r ≡ magnitudes (termsIn count terms) (integerAt (take n (now (values .entry))))) × (r ≤ 40000) ⌝ }
-{
-    let k = source::lesser(TERMS, count);
-    let mut sum: u64 = 0;
-    let mut i: usize = 0;
-    while i < k {
-        let term = terms[i];
-        sum += size(source::value_at(values, n, term.variable));
-        i += 1;
-    }
-    sum
-}
-
-// The price of an L with its terms: the target before, and what it gives.
-fn linear_price(
-    values: &[i64; VARIABLES],
-    n: usize,
-    target: u8,
-    c: i64,
-    count: usize,
-    terms: [Term; TERMS],
-) -> u64
-    requires { ⌜ (n ≤ 8) × (effectFits (linearEffect target c (termsIn count terms)) (integerAt (take n (now values))) ≡ true) ⌝ }
-    ensures { λ r. ⌜ (r ≡ priceOfEffect (linearEffect target c (termsIn count terms)) (integerAt (take n (now (values .entry))))) × (r ≤ 4000000000) ⌝ }
-{
-    let k = source::lesser(TERMS, count) as u64;
-    let sizes = term_sizes(values, n, count, terms);
-    let before = size(source::value_at(values, n, target));
-    let after = size(source::linear_of(values, n, c, count, terms));
-    3 + 2 * k + 2 * sizes + before + after
-}
-
-// The price of a Q or R: the target before, the operand, and what it is divided by.
-fn division_price(target: i64, operand: i64, c: i64) -> u64
-    requires { ⌜ ((small target && small operand) && divides c) ≡ true ⌝ }
-    ensures { λ r. ⌜ (r ≡ divisionPrice target operand c) × (r ≤ 4000000000) ⌝ }
-{
-    let quotient = size(integers::quotient(operand, c));
-    let residue = size(integers::residue(operand, c));
-    7 + 2 * size(operand) + 2 * quotient + size(target) + residue
-}
-
-// The price of a step with an effect, over the values before it.
-fn price(
-    values: &[i64; VARIABLES],
-    n: usize,
-    effect: Effect,
-    count: usize,
-    terms: [Term; TERMS],
-) -> u64
-    requires { ⌜ (n ≤ 8) × (effectFits (effectIn effect count terms) (integerAt (take n (now values))) ≡ true) ⌝ }
-    ensures { λ r. ⌜ (r ≡ priceOfEffect (effectIn effect count terms) (integerAt (take n (now (values .entry))))) × (r ≤ 4000000000) ⌝ }
-{
-    match effect {
-        Effect::None => 1,
-        Effect::Add(_, _) => 1,
-        Effect::Linear(target, c) => linear_price(values, n, target, c, count, terms),
-        Effect::Quotient(target, operand, c) => division_price(
-            source::value_at(values, n, target),
-            source::value_at(values, n, operand),
-            c,
-        ),
-        Effect::Residue(target, operand, c) => division_price(
-            source::value_at(values, n, target),
-            source::value_at(values, n, operand),
-            c,
-        ),
-    }
-}
-
-// The price of an action, over the values before it.
-pub fn price_of(values: &[i64; VARIABLES], n: usize, a: SourceAction) -> u64
-    requires { ⌜ (n ≤ 8) × (effectFits (actionIs a .effect) (integerAt (take n (now values))) ≡ true) ⌝ }
-    ensures { λ r. ⌜ (r ≡ priceOfEffect (actionIs a .effect) (integerAt (take n (now (values .entry))))) × (r ≤ 4000000000) ⌝ }
-{
-    let effect = a.effect;
-    let terms = a.terms;
-    price(values, n, effect, a.term_count, terms)
-}
 
 // What pricing answers: a price, or a refusal.
 pub enum Priced {
     Price(u64),
     Refused(u8, u64),
+}
+
+// The price of an action of a task with these bounds and sizes, over the values before it.
+fn price_of(
+    values: &[i64; VARIABLES],
+    n: usize,
+    lower: &[i64; VARIABLES],
+    upper: &[i64; VARIABLES],
+    m: usize,
+    sizes: &[u16; MODES],
+    a: SourceAction,
+) -> u64
+    requires { ⌜ RowFits n m (now lower) (now upper) (now sizes) a × Near n (now values) ⌝ }
+    ensures { λ r. ⌜ r ≡ priceOfEffect (sourceActionIs a .effect) (integerAt (take n (now (values .entry)))) ⌝ }
+{
+    let mut row = [0u16; MARKS];
+    let mut line = [0i64; NUMBERS];
+    prepared::put_row(&mut row, &mut line, n, lower, upper, m, sizes, a);
+    measuring::price(values, n, &row, &line)
 }
 
 // Prices a step in a state of an accepted file with so many actions.
@@ -168,7 +87,7 @@ fn price_accepted(file: &[u8], count: usize, state: State, k: usize) -> Priced
     ) {
         return Priced::Refused(12, 0);
     }
-    Priced::Price(price_of(&before, n, action))
+    Priced::Price(price_of(&before, n, &lower, &upper, m, &sizes, action))
 }
 
 // The price of a step of action k in a state, by itself.

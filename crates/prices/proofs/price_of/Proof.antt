@@ -1,25 +1,23 @@
--- `prices::price_of` meets its contract: an action's effect has the terms that there is room for. Assumes nothing.
-use mathlib.Core.Path.{sym, ap, _∙_}
-use lib.ListN.{take}
+-- `prices::price_of` meets its contract: the price of the action's row is that of the action. Assumes nothing.
+use mathlib.Core.Path.{ap, _∙_}
 use denote.Ref.{now}
+use lib.ListN.{take}
 use Rattle.model.specs.Tasks.{Effect}
 use Rattle.model.specs.Steps.{integerAt}
 use Rattle.model.specs.Expansion.{priceOfEffect}
-use Rattle.actions.specs.Views.{termsIs}
-use Rattle.source.specs.Parts.{effectFits}
-use Rattle.source.proofs.Steps.{effect-in}
+use borrow.Author.Needs.{needs}
 use Rattle.prices.proofs.price_of.Statement.{statement}
 use Rattle.prices.proofs.price_of.Tie as tie
 
+put-row-requires : tie.Need-put-row-requires
+put-row-requires c κs = search needs
+
 price-requires : tie.Need-price-requires
-price-requires c κs = let s = c .before in
-    let a = s .args .a in
-    (s .pre .0, sym (ap (λ (e : Effect). effectFits e (integerAt (take (s .args .n) (now (s .args .values))))) (effect-in (a .effect) (termsIs (a .«term_count») (a .terms)))) ∙ s .pre .1)
+price-requires c κs = search needs
 
 returns : tie.Need-returns
-returns c = let s = c .before .before in
-    let a = s .args .a in
-    (c .price .ensures .0 ∙ sym (ap (λ (e : Effect). priceOfEffect e (integerAt (take (s .args .n) (now (s .args .values))))) (effect-in (a .effect) (termsIs (a .«term_count») (a .terms)))), c .price .ensures .1)
+returns c = let s = c .before .before .before .before .before .before in
+    c .price .ensures .0 ∙ ap (λ (e : Effect). priceOfEffect e (integerAt (take (s .args .n) (now (s .args .values))))) (c .before .before .before .put-row .ensures .effect)
 
 pub price-of-spec : {M : Type 1} → statement M
-price-of-spec = tie.close (tie.spec price-requires returns)
+price-of-spec = tie.close (tie.spec put-row-requires price-requires returns)
