@@ -1,7 +1,7 @@
 -- Where the actions of an accepted file stand.
 -- Assumes nothing.
 use mathlib.Core.Path.{_≡_}
-use Prim.Native.Nat.{ℕ, _≤_}
+use Prim.Native.Nat.{ℕ, _<_, _≤_}
 use mathlib.Core.List.{List}
 use lib.ListN.{length, getD}
 use Rattle.integers.specs.Numbers.{Bytes}
@@ -16,3 +16,4 @@ pub record Placed (file places : List ℕ) (count : ℕ) : Type 0 where
   pub countIs : count ≡ length (taskIn file .actions)
   pub placesAre : (k : ℕ) → k ≤ count → getD places k 0 ≡ edgeOf file k
   pub few : count ≤ 16384
+  pub long : count < length places

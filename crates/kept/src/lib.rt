@@ -34,12 +34,7 @@ fn wide16(x: u16) -> usize
 }
 
 // Action k of the file.
-pub fn decode_action(
-    file: &[u8],
-    places: &[usize; PLACES],
-    count: usize,
-    k: usize,
-) -> RestrictedAction
+pub fn decode_action(file: &[u8], places: &[usize], count: usize, k: usize) -> RestrictedAction
     requires { ⌜ Placed (now file) (now places) count × (k < count) ⌝ }
     ensures { λ r. ⌜ getElem? (taskIn (now (file .entry)) .actions) k ≡ some (actionIs r) ⌝ }
 {
@@ -97,7 +92,7 @@ fn put_row(
 // Action k of the file is made to stand in a slot: it is decoded where another does.
 fn keep_action(
     file: &[u8],
-    places: &[usize; PLACES],
+    places: &[usize],
     count: usize,
     tags: &mut [u16; SLOTS],
     counts: &mut [[usize; COUNTS]; SLOTS],
@@ -200,7 +195,7 @@ fn take_kept<'a>(
 // The same, whatever stands in the slot before.
 pub fn run_in_slot(
     file: &[u8],
-    places: &[usize; PLACES],
+    places: &[usize],
     count: usize,
     values: &mut [i64; VARIABLES],
     modes: &mut [u16; MODES],

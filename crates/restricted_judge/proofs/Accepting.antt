@@ -1,12 +1,12 @@
 -- From bytes to the judge: what the readers leave of an accepted file makes the judge ready, and what it finds is what the definition answers.
 -- Assumes nothing.
 use mathlib.Core.Path.{_≡_, refl, sym, ap, ap₂, _∙_, subst}
-use Prim.Native.Nat.{ℕ, suc, _+_, _*_, _%_, _≤_}
+use Prim.Native.Nat.{ℕ, suc, _+_, _*_, _%_, _≤_, _<_}
 use native.Mathlib.Omega.{arith}
 use mathlib.Core.Bool.{Bool, true, false, _&&_, cond}
 use mathlib.Core.List.{List, [], _∷_, _++_}
 use lib.Dec.{eqb, ltb}
-use lib.ListN.{length, getD, take, drop, replicate, length-replicate, take-append-drop}
+use lib.ListN.{length, getD, take, drop, replicate, length-replicate, take-append-drop, set, length-set}
 use lib.Seq.{take-take, length-take-le}
 use lib.IntN.{ℤ, pos, natAbs}
 use borrow.Author.Tests.{le-leb, lt-ltb, ltb-false}
@@ -38,7 +38,7 @@ use Rattle.restricted_judge.specs.declared.Walk.the-variants.{Through, E
 use Rattle.restricted.specs.Changes.{stateOf, Beyond, Ready}
 use Rattle.restricted.specs.Alone.{taskIn}
 use Rattle.repeats.specs.Runs.{judgingFrom}
-use Rattle.restricted_judge.specs.Judging.{judgementOf, AcceptedPlan, Prepared, Walked}
+use Rattle.restricted_judge.specs.Judging.{judgementOf, AcceptedPlan, Read, Prepared, Walked}
 use Rattle.restricted.proofs.Effects.{beyond-then}
 use Rattle.repeats.proofs.Judged.{judging-ends}
 use Rattle.restricted.proofs.Accepting.{file-rejected, file-accepted, actions-counted, held}
@@ -80,30 +80,43 @@ module _ (file : List ℕ) (is : readRestricted file ≡ given (taskIn file)) {r
   pub beyond-modes : Beyond (r .modes) (replicate 8 0) modes
   beyond-modes = record { rest = restricted-modes room stored .allValues .rest; long = H₀ .room .valuesLong ∙ sym (length-replicate {A = ℕ} 8 0) }
 
+-- ---- the places of the actions, in a table with room for them
+length-spliced : (xs out : List ℕ) (at : ℕ) → length (splice out at xs) ≡ length out
+length-spliced [] out at = refl
+length-spliced (x ∷ xs) out at = length-spliced xs (set out at x) (at + 1) ∙ length-set out at x
+
+module _ {file plan : List ℕ} {count steps m : ℕ} {sizes : List ℕ} (R : Read file plan count steps m sizes) where
+  pub few : count ≤ 16384
+  few = omega (arith, accepted-restricted-ok file (taskIn file) (R .input .accepted) .actionsFew, R .input .countIs)
+
+  pub prepared : (room : ℕ) → count < room → (places : List ℕ) → places ≡ splice (replicate room 0) 0 (edgesOf file) → Prepared file plan places count steps m sizes
+  prepared room h places e = record {
+    input = R .input;
+    placed = record {
+      bytes = R .input .bytes;
+      accepted = R .input .accepted;
+      countIs = R .input .countIs;
+      placesAre = λ k b. ap (λ (l : List ℕ). getD l k 0) e ∙ places-at file (replicate room 0) (omega (arith, edges, R .input .countIs, length-replicate {A = ℕ} room 0)) k (omega (arith, edges, b, R .input .countIs));
+      few = few;
+      long = omega (arith, long);
+    };
+    sizesAre = R .sizesAre;
+  }
+    where
+      long : length places ≡ room
+      long = ap length e ∙ length-spliced (edgesOf file) (replicate room 0) 0 ∙ length-replicate {A = ℕ} room 0
+
+      edges : length (edgesOf file) ≡ suc (length (taskIn file .actions))
+      edges = restricted-edges file (R .input .bytes) (taskIn file) (R .input .accepted)
+
 -- ---- an accepted file and a plan
 module _ {file plan : List ℕ} {count steps : ℕ} (input : AcceptedPlan file plan count steps) {r : Declared} {start : List ℤ} {sizes modes : List ℕ}
     (stored : RestrictedStored file (replicate 64 (pos 0)) (replicate 8 0) (replicate 8 0) r start sizes modes) where
   H : HoldsRestricted (taskIn file) r start sizes modes
   H = held file (input .accepted) stored
 
-  few : length (taskIn file .actions) ≤ 16384
-  few = accepted-restricted-ok file (taskIn file) (input .accepted) .actionsFew
-
-  pub prepared : (places : List ℕ) → places ≡ splice (replicate 16385 0) 0 (edgesOf file) → Prepared file plan places count steps (r .modes) sizes
-  prepared places e = record {
-    input = input;
-    placed = record {
-      bytes = input .bytes;
-      accepted = input .accepted;
-      countIs = input .countIs;
-      placesAre = λ k h. ap (λ (l : List ℕ). getD l k 0) e ∙ places-at file (replicate 16385 0) (omega (arith, edges, few, length-replicate {A = ℕ} 16385 0)) k (omega (arith, edges, h, input .countIs));
-      few = omega (arith, few, input .countIs);
-    };
-    sizesAre = H .sizesAre;
-  }
-    where
-      edges : length (edgesOf file) ≡ suc (length (taskIn file .actions))
-      edges = restricted-edges file (input .bytes) (taskIn file) (input .accepted)
+  pub read : Read file plan count steps (r .modes) sizes
+  read = record { input = input; sizesAre = H .sizesAre }
 
   whole : judgingFrom (taskIn file) (planNumbers plan) 0 (declaredPart (r .variables) (r .modes) (stateOf start modes)) ≡ judgeRestrictedTask (taskIn file) (planNumbers plan)
   whole = ap (judge (length (taskIn file .actions)) (stepRestricted (taskIn file)) (restrictedGoalHolds (taskIn file)) 0 (planNumbers plan)) (H .startIs)

@@ -52,7 +52,12 @@ pub record AcceptedPlan (file plan : List ℕ) (count steps : ℕ) : Type 0 wher
   pub long : 2 * steps ≤ length plan
   pub few : steps ≤ 1000000
 
--- beside it the places of the actions, and the sizes of the modes
+-- beside it the sizes of the modes
+pub record Read (file plan : List ℕ) (count steps m : ℕ) (sizes : List ℕ) : Type 0 where
+  pub input : AcceptedPlan file plan count steps
+  pub sizesAre : take m sizes ≡ sizesOf (taskIn file .modes)
+
+-- and the places of the actions
 pub record Prepared (file plan places : List ℕ) (count steps m : ℕ) (sizes : List ℕ) : Type 0 where
   pub input : AcceptedPlan file plan count steps
   pub placed : Placed file places count

@@ -27,10 +27,13 @@ ghost use Rattle.restricted.specs.Changes.{stateOf, Ready};
 ghost use Rattle.restricted.specs.Alone.{taskIn};
 ghost use Rattle.repeats.specs.Runs.{CanRun, Ran};
 ghost use Rattle.kept.specs.Slots.{rowsOf, Held};
-ghost use Rattle.restricted_judge.specs.Judging.{judgementIs, judgementOf, AcceptedPlan, Prepared, Walked};
+ghost use Rattle.restricted_judge.specs.Judging.{judgementIs, judgementOf, AcceptedPlan, Read, Prepared, Walked};
 
 // Of a plan of so many steps the actions are kept when they are decoded.
 const MANY_STEPS: usize = 4_096;
+
+// Room for the places of fewer actions than these: those of every lowered task.
+const FEW_PLACES: usize = 1_024;
 
 // The tag of a slot that holds no action: it is no action's number.
 const NO_ACTION: u16 = 65_535;
@@ -118,7 +121,7 @@ fn take_decoded(
 // All steps of a plan, run by run: an action is decoded where the number changes.
 fn judge_steps(
     file: &[u8],
-    places: &[usize; PLACES],
+    places: &[usize],
     count: usize,
     plan: &[u8],
     steps: usize,
@@ -151,7 +154,7 @@ fn judge_steps(
 // All steps of a plan, run by run: an action is decoded where its slot holds another.
 fn judge_kept(
     file: &[u8],
-    places: &[usize; PLACES],
+    places: &[usize],
     count: usize,
     plan: &[u8],
     steps: usize,
@@ -222,7 +225,7 @@ fn judge_kept(
 // The steps of a plan that has many.
 fn judge_many(
     file: &[u8],
-    places: &[usize; PLACES],
+    places: &[usize],
     count: usize,
     plan: &[u8],
     steps: usize,
@@ -283,7 +286,7 @@ fn judge_many(
 // The steps of a plan.
 fn walk_plan(
     file: &[u8],
-    places: &[usize; PLACES],
+    places: &[usize],
     count: usize,
     plan: &[u8],
     steps: usize,
@@ -300,6 +303,89 @@ fn walk_plan(
         return judge_steps(file, places, count, plan, steps, values, modes, n, m, sizes);
     }
     judge_many(file, places, count, plan, steps, values, modes, n, m, sizes)
+}
+
+// The same, by a table of the places of few actions.
+fn walk_few(
+    file: &[u8],
+    count: usize,
+    plan: &[u8],
+    steps: usize,
+    values: &mut [i64; VARIABLES],
+    modes: &mut [u16; MODES],
+    n: usize,
+    m: usize,
+    sizes: &[u16; MODES],
+) -> Walk
+    requires { ⌜ Read (now file) (now plan) count steps m (now sizes) × (count < 1024) × Ready n m (now sizes) (now values) (now modes) ⌝ }
+    ensures { λ r. ⌜ Walked (now (file .entry)) (now (plan .entry)) steps n m (now (values .entry)) (now (modes .entry)) r (now (values .exit)) (now (modes .exit)) ⌝ }
+{
+    let mut places = [0usize; FEW_PLACES];
+    actions::action_places(file, &mut places);
+    walk_plan(
+        file,
+        &places,
+        count,
+        plan,
+        steps,
+        values,
+        modes,
+        n,
+        m,
+        sizes,
+    )
+}
+
+// By one that has room for the actions of every file.
+fn walk_all(
+    file: &[u8],
+    count: usize,
+    plan: &[u8],
+    steps: usize,
+    values: &mut [i64; VARIABLES],
+    modes: &mut [u16; MODES],
+    n: usize,
+    m: usize,
+    sizes: &[u16; MODES],
+) -> Walk
+    requires { ⌜ Read (now file) (now plan) count steps m (now sizes) × Ready n m (now sizes) (now values) (now modes) ⌝ }
+    ensures { λ r. ⌜ Walked (now (file .entry)) (now (plan .entry)) steps n m (now (values .entry)) (now (modes .entry)) r (now (values .exit)) (now (modes .exit)) ⌝ }
+{
+    let mut places = [0usize; PLACES];
+    actions::action_places(file, &mut places);
+    walk_plan(
+        file,
+        &places,
+        count,
+        plan,
+        steps,
+        values,
+        modes,
+        n,
+        m,
+        sizes,
+    )
+}
+
+// By the one that the file needs.
+fn walk_file(
+    file: &[u8],
+    count: usize,
+    plan: &[u8],
+    steps: usize,
+    values: &mut [i64; VARIABLES],
+    modes: &mut [u16; MODES],
+    n: usize,
+    m: usize,
+    sizes: &[u16; MODES],
+) -> Walk
+    requires { ⌜ Read (now file) (now plan) count steps m (now sizes) × Ready n m (now sizes) (now values) (now modes) ⌝ }
+    ensures { λ r. ⌜ Walked (now (file .entry)) (now (plan .entry)) steps n m (now (values .entry)) (now (modes .entry)) r (now (values .exit)) (now (modes .exit)) ⌝ }
+{
+    if count < FEW_PLACES {
+        return walk_few(file, count, plan, steps, values, modes, n, m, sizes);
+    }
+    walk_all(file, count, plan, steps, values, modes, n, m, sizes)
 }
 
 // Whether a goal is met, in a task with n variables and m modes.
@@ -345,11 +431,8 @@ fn judge_accepted(file: &[u8], count: usize, plan: &[u8], steps: usize) -> Judge
     let declared = declarations::read_restricted(file, &mut values, &mut sizes, &mut modes);
     let n = declared.variables;
     let m = declared.modes;
-    let mut places = [0usize; PLACES];
-    actions::action_places(file, &mut places);
-    let walk = walk_plan(
+    let walk = walk_file(
         file,
-        &places,
         count,
         plan,
         steps,

@@ -11,7 +11,7 @@ element-copy-out-if1 : tie.Need-element-copy-out-if1
 element-copy-out-if1 c = search needs
 
 returns : tie.Need-returns
-returns c = let s = c .before .before .before .pre in kept-already (s .1) (s .0 .2) (s .0 .1) (c .if1 .taken)
+returns c = let s = c .before .before .before .before .pre in kept-already (s .1) (s .0 .2) (s .0 .1) (c .if1 .taken)
 
 wide16-requires : tie.Need-wide16-requires
 wide16-requires c κs = search needs
@@ -29,7 +29,7 @@ element-write-tags : tie.Need-element-write-tags
 element-write-tags c = search needs
 
 returns-2 : tie.Need-returns-2
-returns-2 c = let s = c .before .before .before .before .before .before .before .before .before .before .before .before .before .before .before .before in kept-put (s .args .k) (s .pre .1) (s .pre .0 .2) (c .before .before .before .before .before .before .before .before .before .before .before .decode-action .result) (rw (c .before .before .before .before .before .before .before .before .before .before .before .before .wide16 .ensures) at (c .before .before .before .before .before .before .before .before .before .before .before .decode-action .ensures)) _ (c .put-row .ensures)
+returns-2 c = let s = c .before .before .before .before .before .before .before .before .before .before .before .before .before .before .before .before in kept-put (s .before .args .k) (s .before .pre .1) (s .before .pre .0 .2) (c .before .before .before .before .before .before .before .before .before .before .before .decode-action .result) (rw (c .before .before .before .before .before .before .before .before .before .before .before .before .wide16 .ensures) at (c .before .before .before .before .before .before .before .before .before .before .before .decode-action .ensures)) _ (c .put-row .ensures)
 
 pub keep-action-spec : {M : Type 1} → statement M
 keep-action-spec =

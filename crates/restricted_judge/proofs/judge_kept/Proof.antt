@@ -17,7 +17,7 @@ abbrev μ-loop : tie.MeasureT-loop
     steps - i
 
 loop-holds : tie.Need-loop-holds Inv-loop μ-loop
-loop-holds c = let s = c .before .before .pre in (walk-start (s .0 .0) (s .0 .1), s .1)
+loop-holds c = let s = c .before .before .before .pre in (walk-start (s .0 .0) (s .0 .1), s .1)
 
 action-of-requires : tie.Need-action-of-requires Inv-loop μ-loop
 action-of-requires c κs = omega (arith, c .before .loop .inv .0 .prepared .input .long)

@@ -5,7 +5,7 @@ use Rattle.restricted_judge.proofs.judge_many.Statement.{statement}
 use Rattle.restricted_judge.proofs.judge_many.Tie as tie
 
 judge-kept-requires : tie.Need-judge-kept-requires
-judge-kept-requires c κs = let s = c .before .before .before .before .before .before .before .before .before .before .before .before .before .before .before .pre in ((s .0, s .1), held-none _ _ _ (s .0 .placed .few) (long-none _ _ _ _ _ _ _ _ _ _))
+judge-kept-requires c κs = let s = c .before .before .before .before .before .before .before .before .before .before .before .before .before .before .before .before .pre in ((s .0, s .1), held-none _ _ _ (s .0 .placed .few) (long-none _ _ _ _ _ _ _ _ _ _))
 
 returns : tie.Need-returns
 returns c = c .judge-kept .ensures

@@ -13,7 +13,7 @@ abbrev μ-loop : tie.MeasureT-loop
 μ-loop file places count plan steps values₀ modes₀ n m sizes i₀ values modes i = steps - i
 
 loop-holds : tie.Need-loop-holds Inv-loop μ-loop
-loop-holds c = walk-start (c .before .before .pre .0) (c .before .before .pre .1)
+loop-holds c = walk-start (c .before .before .before .pre .0) (c .before .before .before .pre .1)
 
 action-of-requires : tie.Need-action-of-requires Inv-loop μ-loop
 action-of-requires c κs = omega (arith, (c .before .loop .inv) .prepared .input .long)
