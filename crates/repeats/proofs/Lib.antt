@@ -1,7 +1,6 @@
 pub mod Writes
 pub mod Convex
 pub mod Repeating
-pub mod Ranges
 pub mod Alike
-pub mod Judged
+pub mod Running
 pub mod Leaps

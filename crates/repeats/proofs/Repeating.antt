@@ -1,11 +1,11 @@
 -- So many steps by one action at once. Each value goes along a line, and the modes stay as the first step sets them: an action that applies
--- in a sound state, and still does behind so many steps in a sound state, applies in every state between.
+-- to values within the figure, and still does behind so many steps to values within it, applies in every state between.
 -- Assumes nothing.
 use mathlib.Core.Path.{_≡_, refl, sym, ap, ap₂, _∙_}
 use Prim.Native.Nat.{ℕ, zero, suc, _+_, _≤_, _<_}
 use native.Mathlib.Omega.{arith}
 use mathlib.Core.Bool.{Bool, true, false, cond, _&&_}
-use mathlib.Core.Option.{Option, some, none}
+use mathlib.Core.Option.{Option, some}
 use mathlib.Core.List.{List, [], _∷_}
 use lib.Dec.{eqb, ltb}
 use lib.ListN.{length, set, length-set}
@@ -19,14 +19,13 @@ use Rattle.integers.proofs.Products.{mul-add}
 use Rattle.lists.proofs.Loops.{and-left, and-right}
 use Rattle.model.specs.Tasks.{Measured, variable, weightedSum, NumericCondition, RestrictedAction, State}
 use Rattle.model.specs.Decoding.{each}
-use Rattle.model.specs.Systems.{bind}
-use Rattle.model.specs.Steps.{integerAt, naturalAt, measure, conditionsHold, modesHold, addAll, setAll, valuesWithin, modesBelowSizes, soundRestricted, applyRestricted, figure}
-use Rattle.restricted.specs.Parts.{amountsFit}
-use Rattle.restricted.specs.Step.{stepOf}
+use Rattle.model.specs.Systems.{bind, provided}
+use Rattle.model.specs.Steps.{integerAt, naturalAt, measure, conditionsHold, modesHold, addAll, setAll, valuesWithin, appliesRestricted, applyRestricted, figure}
 use Rattle.restricted.proofs.Tests.{within-at, at-within}
 use Rattle.restricted.proofs.Effects.{add-length}
-use Rattle.restricted.proofs.Stepping.{goes}
-use Rattle.repeats.specs.Repeats.{stepsOf, scaled, behind}
+use Rattle.restricted_rows.specs.Steps.{stepBy, scaled, behind}
+use Rattle.restricted_rows.proofs.Stepping.{each-once}
+use Rattle.repeats.specs.Repeats.{stepsBy}
 use Rattle.repeats.proofs.Writes.{getD-past, getD-set, set-again}
 use Rattle.repeats.proofs.Convex.{Convex, on-line, convex-related, convex-within}
 
@@ -71,14 +70,7 @@ line-at k es l i = go (ltb i (length l)) refl
         let h : length l ≤ i = ltb-false i (length l) q in
         getD-past (addAll (each (scaled k) es) l) i (pos 0) (omega (arith, add-length (each (scaled k) es) l)) ∙ none-added (pos 0) k ∙ ap (λ (z : ℤ). z +ℤ pos k *ℤ pos 0) (sym (getD-past l i (pos 0) h))
 
--- ---- one step is so many, and one step more before them
-each-once : (es : List (ℕ × ℤ)) → each (scaled 1) es ≡ es
-each-once [] = refl
-each-once (e ∷ es) = ap₂ _∷_ (ap (λ (z : ℤ). (e .0, z)) once) (each-once es)
-  where
-    once : pos 1 *ℤ e .1 ≡ e .1
-    once = omega (ints, mul (pos 1) (e .1))
-
+-- ---- so many steps, and one step more before them
 one-more : (x c : ℤ) (k : ℕ) → (x +ℤ pos 1 *ℤ c) +ℤ pos k *ℤ c ≡ x +ℤ pos (suc k) *ℤ c
 one-more x c k = omega (ints, mul (pos 1) c, mul (pos k) c, mul (pos (suc k)) c, add x (pos 1 *ℤ c), add (x +ℤ pos 1 *ℤ c) (pos k *ℤ c))
 
@@ -128,41 +120,43 @@ module _ (es : List (ℕ × ℤ)) (l : List ℤ) (j m : ℕ) (h : j ≤ m) where
       (conditions-between cs ps (and-right first (conditionsHold cs (integerAt l)) e) (and-right last (conditionsHold cs (integerAt (addAll (each (scaled m) es) l))) f))
 
 -- ---- a state in which an action may go on
-module _ (sizes : List ℕ) (a : RestrictedAction) where
+module _ (a : RestrictedAction) where
   pub record Good (x : State) : Type 0 where
     pub within : valuesWithin figure (x .values) ≡ true
-    pub below : modesBelowSizes sizes (x .modes) ≡ true
-    pub modesMet : modesHold (a .modeConditions) (naturalAt (x .modes)) ≡ true
-    pub conditionsMet : conditionsHold (a .conditions) (integerAt (x .values)) ≡ true
+    pub applies : appliesRestricted a x ≡ true
+
+  applied-once : (x : State) → applyRestricted a x ≡ behind a 1 x
+  applied-once x = λ i. record { values = addAll (sym (each-once (a .additions)) i) (x .values); modes = setAll (a .modeEffects) (x .modes) }
+
+  behind-more : (x : State) (k : ℕ) → behind a k (behind a 1 x) ≡ behind a (suc k) x
+  behind-more x k = λ i. record { values = add-more k (a .additions) (x .values) i; modes = set-again (a .modeEffects) (x .modes) i }
+
+  one-step : (x : State) → appliesRestricted a x ≡ true → valuesWithin figure (behind a 1 x .values) ≡ true → stepBy a x ≡ some (behind a 1 x)
+  unfolding stepBy
+  one-step x h v =
+      ap (λ (y : State). provided (appliesRestricted a x && valuesWithin figure (y .values)) y) (applied-once x)
+      ∙ ap (λ (b : Bool). provided b (behind a 1 x)) (ap₂ _&&_ h v)
+
+  abbrev held : State → Bool
+  held x = modesHold (a .modeConditions) (naturalAt (x .modes))
+
+  abbrev met : State → Bool
+  met x = conditionsHold (a .conditions) (integerAt (x .values))
 
   module _ (plain : All Plain (a .conditions)) where
     good-between : (x : State) (j m : ℕ) → j ≤ m → Good x → Good (behind a m x) → Good (behind a j x)
     good-between x j m h g b = record {
       within = values-between (a .additions) (x .values) j m h (g .within) (b .within);
-      below = b .below;
-      modesMet = b .modesMet;
-      conditionsMet = conditions-between (a .additions) (x .values) j m h (a .conditions) plain (g .conditionsMet) (b .conditionsMet);
+      applies = ap₂ _&&_ (and-left (held (behind a m x)) (met (behind a m x)) (b .applies))
+          (conditions-between (a .additions) (x .values) j m h (a .conditions) plain (and-right (held x) (met x) (g .applies)) (and-right (held (behind a m x)) (met (behind a m x)) (b .applies)));
     }
 
-    applied-once : (x : State) → applyRestricted a x ≡ behind a 1 x
-    applied-once x = λ i. record { values = addAll (sym (each-once (a .additions)) i) (x .values); modes = setAll (a .modeEffects) (x .modes) }
-
-    behind-more : (x : State) (k : ℕ) → behind a k (behind a 1 x) ≡ behind a (suc k) x
-    behind-more x k = λ i. record { values = add-more k (a .additions) (x .values) i; modes = set-again (a .modeEffects) (x .modes) i }
-
-    module _ (fit : amountsFit (a .additions) ≡ true) where
-      one-step : (x : State) → Good x → valuesWithin figure (behind a 1 x .values) ≡ true → modesBelowSizes sizes (behind a 1 x .modes) ≡ true → stepOf sizes x a ≡ some (behind a 1 x)
-      one-step x g v w =
-          goes sizes x a fit (ap₂ _&&_ (g .modesMet) (g .conditionsMet)) (ap₂ _&&_ (g .within) (g .below))
-          ∙ ap (λ (y : State). cond (soundRestricted sizes y) (some y) none) (applied-once x)
-          ∙ ap (λ (b : Bool). cond b (some (behind a 1 x)) none) (ap₂ _&&_ v w)
-
-      -- THE LAW
-      pub repeats : (k : ℕ) (x : State) → Good x → Good (behind a (suc k) x) → stepsOf sizes x a (suc k) ≡ some (behind a (suc k) x)
-      unfolding stepsOf
-      repeats zero x g b = ap (λ (o : Option State). bind o some) (one-step x g (b .within) (b .below))
-      repeats (suc k) x g b =
-          let y = good-between x 1 (suc (suc k)) (omega arith) g b in
-          ap (λ (o : Option State). bind o (λ z. stepsOf sizes z a (suc k))) (one-step x g (y .within) (y .below))
-          ∙ repeats k (behind a 1 x) y (rw (behind-more x (suc k)) b)
-          ∙ ap some (behind-more x (suc k))
+    -- THE LAW
+    pub repeats : (k : ℕ) (x : State) → Good x → Good (behind a (suc k) x) → stepsBy a (suc k) x ≡ some (behind a (suc k) x)
+    unfolding stepsBy
+    repeats zero x g b = ap (λ (o : Option State). bind o some) (one-step x (g .applies) (b .within))
+    repeats (suc k) x g b =
+        let y = good-between x 1 (suc (suc k)) (omega arith) g b in
+        ap (λ (o : Option State). bind o (stepsBy a (suc k))) (one-step x (g .applies) (y .within))
+        ∙ repeats k (behind a 1 x) y (rw (behind-more x (suc k)) b)
+        ∙ ap some (behind-more x (suc k))

@@ -195,7 +195,7 @@ fn amounts_fit(count: usize, amounts: &[i64; ADDITIONS]) -> bool
 }
 
 // Adds to a variable, of n; nothing where it is not declared.
-pub fn add_to(values: &mut [i64; VARIABLES], n: usize, variable: u8, amount: i64)
+fn add_to(values: &mut [i64; VARIABLES], n: usize, variable: u8, amount: i64)
     requires { ⌜ (n ≤ 64) × Within 4000000000000000000 (integerAt (take n (now values)) variable) × Within 4000000000000000000 amount ⌝ }
     ensures { λ _. ⌜ Changed n (now (values .entry)) (now (values .exit)) (putSum (take n (now (values .entry))) (variable, amount)) ⌝ }
 {
@@ -238,7 +238,7 @@ fn add_all<'a>(
 }
 
 // Every E of an action, in a task with n modes.
-pub fn set_all<'a>(
+fn set_all<'a>(
     modes: &mut [u16; MODES],
     n: usize,
     count: usize,
@@ -257,7 +257,7 @@ pub fn set_all<'a>(
 }
 
 // Whether the variables that an action adds to lie within the figure.
-pub fn sums_within(
+fn sums_within(
     values: &[i64; VARIABLES],
     n: usize,
     count: usize,
@@ -290,7 +290,7 @@ fn is_below(modes: &[u16; MODES], n: usize, sizes: &[u16; MODES], mode: u8) -> b
 }
 
 // Whether the modes that an action sets have values below their sizes.
-pub fn effects_below(
+fn effects_below(
     modes: &[u16; MODES],
     n: usize,
     sizes: &[u16; MODES],
@@ -312,7 +312,7 @@ pub fn effects_below(
 }
 
 // The effects of an action, taken from the lent state in place, which is sound. Whether the state after them is sound.
-pub fn apply<'a>(
+fn apply<'a>(
     values: &mut [i64; VARIABLES],
     modes: &mut [u16; MODES],
     n: usize,

@@ -1,7 +1,8 @@
--- From bytes to the judge: what the readers leave of an accepted file makes the judge ready, and what it finds is what the definition answers.
+-- From bytes to the judge: what the readers leave of an accepted file is a state from which its task can go on, and what the judge finds is
+-- what the definition answers.
 -- Assumes nothing.
 use mathlib.Core.Path.{_≡_, refl, sym, ap, ap₂, _∙_, subst}
-use Prim.Native.Nat.{ℕ, suc, _+_, _*_, _%_, _≤_, _<_}
+use Prim.Native.Nat.{ℕ, zero, suc, _+_, _*_, _%_, _≤_, _<_}
 use native.Mathlib.Omega.{arith}
 use mathlib.Core.Bool.{Bool, true, false, _&&_, cond}
 use mathlib.Core.List.{List, [], _∷_, _++_}
@@ -11,9 +12,11 @@ use lib.Seq.{take-take, length-take-le}
 use lib.IntN.{ℤ, pos, natAbs}
 use borrow.Author.Tests.{le-leb, lt-ltb, ltb-false}
 use Rattle.integers.specs.All.{All}
+use Rattle.integers.specs.Relation.{withinLimit}
 use Rattle.integers.specs.Numbers.{Bytes}
 use Rattle.lists.specs.Answer.{Answer, given, refused, then}
 use Rattle.lists.specs.Writing.{splice}
+use Rattle.lists.proofs.Loops.{and-left, and-right}
 use Rattle.lists.proofs.Numbers.{length-halves}
 use Rattle.model.specs.Tasks.{NumericCondition, RestrictedTask, State}
 use Rattle.model.specs.Limits.{restrictedLimits}
@@ -22,9 +25,10 @@ use Rattle.model.specs.Decoding.{readRestricted}
 use Rattle.model.specs.TaskOk.{InRange, ModeOk, RestrictedTaskOk}
 use Rattle.model.specs.ActionBytes.{decodeAction}
 use Rattle.model.specs.Plans.{planNumbers, readPlan}
-use Rattle.model.specs.Steps.{valuesWithin, modesBelowSizes, figure, sizesOf, startModes, goalHolds, restrictedGoalHolds, stepRestricted}
+use Rattle.model.specs.Steps.{valuesWithin, modesBelowSizes, figure, sizesOf, startModes, goalHolds, restrictedStart, restrictedGoalHolds, stepRestricted}
 use Rattle.model.specs.Judging.{judge, declaredPart, judgeRestrictedTask, judgeRestricted}
 use Rattle.model.proofs.AcceptedOk.{accepted-restricted-ok}
+use Rattle.model.proofs.ReadingLaws.{length-each}
 use Rattle.planbytes.specs.Counted.{countOf}
 use Rattle.declarations.specs.declared.Declared.{Declared}
 use Rattle.declarations.specs.Stored.{RestrictedStored}
@@ -35,13 +39,13 @@ use Rattle.actions.specs.Places.{edgesOf, goalPart}
 use Rattle.actions.specs.Views.{GoalDecoded, conditionRoom, modeConditionRoom, goalConditionsIs, goalModesIs}
 use Rattle.actions.proofs.Accepted.{restricted-edges, places-at, restricted-goal-conditions, restricted-goal-modes}
 use Rattle.restricted_judge.specs.declared.Walk.the-variants.{Through, Ended}
-use Rattle.restricted.specs.Changes.{stateOf, Beyond, Ready}
+use Rattle.restricted.specs.Changes.{stateOf, Beyond}
 use Rattle.restricted.specs.Alone.{taskIn}
-use Rattle.repeats.specs.Runs.{judgingFrom}
-use Rattle.restricted_judge.specs.Judging.{judgementOf, AcceptedPlan, Read, Prepared, Walked}
+use Rattle.kept.specs.Placed.{Placed}
+use Rattle.restricted_judge.specs.Judging.{judgementOf, AcceptedPlan, judgingFrom, declaredOf, Standing, Walked}
 use Rattle.restricted.proofs.Effects.{beyond-then}
-use Rattle.repeats.proofs.Judged.{judging-ends}
 use Rattle.restricted.proofs.Accepting.{file-rejected, file-accepted, actions-counted, held}
+use Rattle.restricted_judge.proofs.Walking.{judging-ends}
 
 -- ---- the start of a task that keeps to the rules is sound
 starts-within : (zs : List ℤ) → All (InRange restrictedLimits) zs → valuesWithin figure zs ≡ true
@@ -51,6 +55,23 @@ starts-within (z ∷ zs) (h, hs) = ap₂ _&&_ (le-leb (natAbs z) figure (omega (
 starts-below : (ms : List (ℕ × ℕ)) → All (ModeOk restrictedLimits) ms → modesBelowSizes (sizesOf ms) (startModes ms) ≡ true
 starts-below [] h = refl
 starts-below (m ∷ ms) (h, hs) = ap₂ _&&_ (lt-ltb (m .1) (m .0) (h .0)) (starts-below ms hs)
+
+-- ---- and still is with more behind it: zeros behind the values, any numbers behind the modes
+zeros-within : (n k : ℕ) → valuesWithin figure (drop n (replicate k (pos 0))) ≡ true
+zeros-within zero zero = refl
+zeros-within zero (suc k) = zeros-within zero k
+zeros-within (suc n) zero = refl
+zeros-within (suc n) (suc k) = zeros-within n k
+
+within-append : (xs ys : List ℤ) → valuesWithin figure xs ≡ true → valuesWithin figure ys ≡ true → valuesWithin figure (xs ++ ys) ≡ true
+within-append [] ys a b = b
+within-append (x ∷ xs) ys a b = ap₂ _&&_ (and-left (withinLimit figure x) (valuesWithin figure xs) a) (within-append xs ys (and-right (withinLimit figure x) (valuesWithin figure xs) a) b)
+
+below-longer : (n : ℕ) (sizes l : List ℕ) → length sizes ≤ n → modesBelowSizes sizes (take n l) ≡ true → modesBelowSizes sizes l ≡ true
+below-longer n sizes [] h e = refl
+below-longer n [] (x ∷ l) h e = refl
+below-longer zero (z ∷ sizes) (x ∷ l) h e = absurd (omega (arith, h))
+below-longer (suc n) (z ∷ sizes) (x ∷ l) h e = ap₂ _&&_ (and-left (ltb x z) (modesBelowSizes sizes (take n l)) e) (below-longer n sizes l (omega (arith, h)) (and-right (ltb x z) (modesBelowSizes sizes (take n l)) e))
 
 -- ---- what is declared, read into arrays of zeros
 module _ (file : List ℕ) (is : readRestricted file ≡ given (taskIn file)) {r : Declared} {start : List ℤ} {sizes modes : List ℕ}
@@ -64,72 +85,78 @@ module _ (file : List ℕ) (is : readRestricted file ≡ given (taskIn file)) {r
   ok : RestrictedTaskOk (taskIn file)
   ok = accepted-restricted-ok file (taskIn file) is
 
-  pub start-ready : Ready (r .variables) (r .modes) sizes start modes
-  start-ready = record {
-    room = H₀ .variablesFew;
-    modesRoom = H₀ .modesFew;
-    modesLong = omega (arith, H₀ .room .valuesLong, H₀ .modesFew);
-    sizesLong = omega (arith, H₀ .room .sizesLong, H₀ .modesFew);
-    within = ap (λ (x : State). valuesWithin figure (x .values)) (H₀ .startIs) ∙ starts-within (taskIn file .starts) (ok .startsIn);
-    below = ap₂ (λ (z : List ℕ) (x : State). modesBelowSizes z (x .modes)) (H₀ .sizesAre) (H₀ .startIs) ∙ starts-below (taskIn file .modes) (ok .modesIn);
+  pub declared-few : (r .variables ≤ 64) × (r .modes ≤ 8)
+  declared-few = (H₀ .variablesFew, H₀ .modesFew)
+
+  pub declared-same : (x : State) → declaredPart (r .variables) (r .modes) x ≡ declaredOf (taskIn file) x
+  declared-same x = ap₂ (λ (i j : ℕ). declaredPart i j x) (H₀ .variableCount) (H₀ .modeCount)
+
+  pub start-is : declaredOf (taskIn file) (stateOf start modes) ≡ restrictedStart (taskIn file)
+  start-is = sym (declared-same (stateOf start modes)) ∙ H₀ .startIs
+
+  pub beyond-starts : Beyond (length (taskIn file .starts)) (replicate 64 (pos 0)) start
+  beyond-starts = subst (λ (i : ℕ). Beyond i (replicate 64 (pos 0)) start) (H₀ .variableCount) (record { rest = restricted-starts room stored .allStarts .rest; long = H₀ .room .startLong ∙ sym (length-replicate 64 (pos 0)) })
+
+  pub beyond-modes : Beyond (length (taskIn file .modes)) (replicate 8 0) modes
+  beyond-modes = subst (λ (i : ℕ). Beyond i (replicate 8 0) modes) (H₀ .modeCount) (record { rest = restricted-modes room stored .allValues .rest; long = H₀ .room .valuesLong ∙ sym (length-replicate {A = ℕ} 8 0) })
+
+  start-within : valuesWithin figure start ≡ true
+  start-within = subst (λ (l : List ℤ). valuesWithin figure l ≡ true) (take-append-drop (length (taskIn file .starts)) start)
+      (within-append (take (length (taskIn file .starts)) start) (drop (length (taskIn file .starts)) start)
+      (ap (λ (x : State). valuesWithin figure (x .values)) start-is ∙ starts-within (taskIn file .starts) (ok .startsIn))
+      (ap (valuesWithin figure) (beyond-starts .rest) ∙ zeros-within (length (taskIn file .starts)) 64))
+
+  start-below : modesBelowSizes (sizesOf (taskIn file .modes)) modes ≡ true
+  start-below = below-longer (length (taskIn file .modes)) (sizesOf (taskIn file .modes)) modes (omega (arith, length-each (λ (m : ℕ × ℕ). m .0) (taskIn file .modes)))
+      (ap (λ (x : State). modesBelowSizes (sizesOf (taskIn file .modes)) (x .modes)) start-is ∙ starts-below (taskIn file .modes) (ok .modesIn))
+
+  pub start-standing : Standing (taskIn file) (stateOf start modes)
+  start-standing = record {
+    valuesLong = omega (arith, H₀ .room .startLong, H₀ .variableCount, H₀ .variablesFew);
+    modesLong = omega (arith, H₀ .room .valuesLong, H₀ .modeCount, H₀ .modesFew);
+    within = start-within;
+    below = start-below;
   }
-
-  pub beyond-starts : Beyond (r .variables) (replicate 64 (pos 0)) start
-  beyond-starts = record { rest = restricted-starts room stored .allStarts .rest; long = H₀ .room .startLong ∙ sym (length-replicate 64 (pos 0)) }
-
-  pub beyond-modes : Beyond (r .modes) (replicate 8 0) modes
-  beyond-modes = record { rest = restricted-modes room stored .allValues .rest; long = H₀ .room .valuesLong ∙ sym (length-replicate {A = ℕ} 8 0) }
 
 -- ---- the places of the actions, in a table with room for them
 length-spliced : (xs out : List ℕ) (at : ℕ) → length (splice out at xs) ≡ length out
 length-spliced [] out at = refl
 length-spliced (x ∷ xs) out at = length-spliced xs (set out at x) (at + 1) ∙ length-set out at x
 
-module _ {file plan : List ℕ} {count steps m : ℕ} {sizes : List ℕ} (R : Read file plan count steps m sizes) where
+module _ {file plan : List ℕ} {count steps : ℕ} (input : AcceptedPlan file plan count steps) where
   pub few : count ≤ 16384
-  few = omega (arith, accepted-restricted-ok file (taskIn file) (R .input .accepted) .actionsFew, R .input .countIs)
+  few = omega (arith, accepted-restricted-ok file (taskIn file) (input .accepted) .actionsFew, input .countIs)
 
-  pub prepared : (room : ℕ) → count < room → (places : List ℕ) → places ≡ splice (replicate room 0) 0 (edgesOf file) → Prepared file plan places count steps m sizes
-  prepared room h places e = record {
-    input = R .input;
-    placed = record {
-      bytes = R .input .bytes;
-      accepted = R .input .accepted;
-      countIs = R .input .countIs;
-      placesAre = λ k b. ap (λ (l : List ℕ). getD l k 0) e ∙ places-at file (replicate room 0) (omega (arith, edges, R .input .countIs, length-replicate {A = ℕ} room 0)) k (omega (arith, edges, b, R .input .countIs));
-      few = few;
-      long = omega (arith, long);
-    };
-    sizesAre = R .sizesAre;
+  pub placed : (room : ℕ) → count < room → (places : List ℕ) → places ≡ splice (replicate room 0) 0 (edgesOf file) → Placed file places count
+  placed room h places e = record {
+    bytes = input .bytes;
+    accepted = input .accepted;
+    countIs = input .countIs;
+    placesAre = λ k b. ap (λ (l : List ℕ). getD l k 0) e ∙ places-at file (replicate room 0) (omega (arith, edges, input .countIs, length-replicate {A = ℕ} room 0)) k (omega (arith, edges, b, input .countIs));
+    few = few;
+    long = omega (arith, long);
   }
     where
       long : length places ≡ room
       long = ap length e ∙ length-spliced (edgesOf file) (replicate room 0) 0 ∙ length-replicate {A = ℕ} room 0
 
       edges : length (edgesOf file) ≡ suc (length (taskIn file .actions))
-      edges = restricted-edges file (R .input .bytes) (taskIn file) (R .input .accepted)
+      edges = restricted-edges file (input .bytes) (taskIn file) (input .accepted)
 
 -- ---- an accepted file and a plan
 module _ {file plan : List ℕ} {count steps : ℕ} (input : AcceptedPlan file plan count steps) {r : Declared} {start : List ℤ} {sizes modes : List ℕ}
     (stored : RestrictedStored file (replicate 64 (pos 0)) (replicate 8 0) (replicate 8 0) r start sizes modes) where
-  H : HoldsRestricted (taskIn file) r start sizes modes
-  H = held file (input .accepted) stored
-
-  pub read : Read file plan count steps (r .modes) sizes
-  read = record { input = input; sizesAre = H .sizesAre }
-
-  whole : judgingFrom (taskIn file) (planNumbers plan) 0 (declaredPart (r .variables) (r .modes) (stateOf start modes)) ≡ judgeRestrictedTask (taskIn file) (planNumbers plan)
-  whole = ap (judge (length (taskIn file .actions)) (stepRestricted (taskIn file)) (restrictedGoalHolds (taskIn file)) 0 (planNumbers plan)) (H .startIs)
+  whole : judgingFrom (taskIn file) (planNumbers plan) 0 (declaredOf (taskIn file) (stateOf start modes)) ≡ judgeRestrictedTask (taskIn file) (planNumbers plan)
+  whole = ap (judge (length (taskIn file .actions)) (stepRestricted (taskIn file)) (restrictedGoalHolds (taskIn file)) 0 (planNumbers plan)) (start-is file (input .accepted) stored)
 
   -- a step was refused
-  pub judged-ended : {number place : ℕ} {values′ : List ℤ} {modes′ : List ℕ} → Walked file plan steps (r .variables) (r .modes) start modes (Ended number place) values′ modes′
-      → refused number place ≡ judgeRestrictedTask (taskIn file) (planNumbers plan)
+  pub judged-ended : {number place : ℕ} {y : State} → Walked file plan steps (stateOf start modes) (Ended number place) y → refused number place ≡ judgeRestrictedTask (taskIn file) (planNumbers plan)
   judged-ended w = w .judged ∙ whole
 
   -- all steps were taken: the goal decides
-  module _ {values′ : List ℤ} {modes′ : List ℕ} (w : Walked file plan steps (r .variables) (r .modes) start modes Through values′ modes′) (goal : Goal) (bytes : List ℕ) (part : bytes ≡ goalPart file count) (decoded : GoalDecoded bytes goal) where
-    end : State
-    end = declaredPart (r .variables) (r .modes) (stateOf values′ modes′)
+  module _ {values′ : List ℤ} {modes′ : List ℕ} (w : Walked file plan steps (stateOf start modes) Through (stateOf values′ modes′)) (goal : Goal) (bytes : List ℕ) (part : bytes ≡ goalPart file count) (decoded : GoalDecoded bytes goal) where
+    abbrev end : State
+    end = declaredOf (taskIn file) (stateOf values′ modes′)
 
     decodes : GoalDecoded (goalPart file (length (taskIn file .actions))) goal
     decodes = subst (λ (s : List ℕ). GoalDecoded s goal) (part ∙ ap (goalPart file) (input .countIs)) decoded
@@ -142,39 +169,46 @@ module _ {file plan : List ℕ} {count steps : ℕ} (input : AcceptedPlan file p
     same-conditions = ap (take conditionRoom) (decodes .conditions) ∙ take-take conditionRoom conditionRoom (decodeAction (goalPart file (length (taskIn file .actions))) .conditions) (omega arith) ∙ sym (decodes .conditions)
         ∙ restricted-goal-conditions file (input .bytes) (taskIn file) (input .accepted) goal decodes
 
+    met : goalHolds (take modeConditionRoom (goalModesIs goal)) (take conditionRoom (goalConditionsIs goal)) (declaredPart (r .variables) (r .modes) (stateOf values′ modes′)) ≡ restrictedGoalHolds (taskIn file) end
+    met =
+        ap (goalHolds (take modeConditionRoom (goalModesIs goal)) (take conditionRoom (goalConditionsIs goal))) (declared-same file (input .accepted) stored (stateOf values′ modes′))
+        ∙ ap₂ (λ (ps : List (ℕ × ℕ)) (cs : List (NumericCondition ℕ)). goalHolds ps cs end) same-modes same-conditions
+
     ends : (b : Bool) → b ≡ goalHolds (take modeConditionRoom (goalModesIs goal)) (take conditionRoom (goalConditionsIs goal)) (declaredPart (r .variables) (r .modes) (stateOf values′ modes′))
-        → cond b (given (steps, declaredPart (r .variables) (r .modes) (stateOf values′ modes′))) (refused 13 steps) ≡ judgeRestrictedTask (taskIn file) (planNumbers plan)
+        → cond b (given (steps, end)) (refused 13 steps) ≡ judgeRestrictedTask (taskIn file) (planNumbers plan)
     ends b e =
-        ap (λ (t : Bool). cond {A = Answer (ℕ × State)} t (given (steps, declaredPart (r .variables) (r .modes) (stateOf values′ modes′))) (refused 13 steps))
-        (e ∙ ap₂ (λ (ps : List (ℕ × ℕ)) (cs : List (NumericCondition ℕ)). goalHolds ps cs (declaredPart (r .variables) (r .modes) (stateOf values′ modes′))) same-modes same-conditions)
-        ∙ sym (judging-ends (taskIn file) (planNumbers plan) steps (declaredPart (r .variables) (r .modes) (stateOf values′ modes′)) (omega (arith, input .stepsAre)))
+        ap (λ (t : Bool). cond {A = Answer (ℕ × State)} t (given (steps, end)) (refused 13 steps)) (e ∙ met)
+        ∙ sym (judging-ends (taskIn file) (planNumbers plan) steps end (omega (arith, input .stepsAre)))
         ∙ w .judged ∙ whole
 
-    pub judged-unmet : false ≡ goalHolds (take modeConditionRoom (goalModesIs goal)) (take conditionRoom (goalConditionsIs goal)) (declaredPart (r .variables) (r .modes) (stateOf values′ modes′))
+    pub judged-unmet : (b : Bool) → b ≡ goalHolds (take modeConditionRoom (goalModesIs goal)) (take conditionRoom (goalConditionsIs goal)) (declaredPart (r .variables) (r .modes) (stateOf values′ modes′)) → b ≡ false
         → refused 13 steps ≡ judgeRestrictedTask (taskIn file) (planNumbers plan)
-    judged-unmet e = ends false e
+    judged-unmet b e f = ends false (sym f ∙ e)
 
-    pub judged-valid : true ≡ goalHolds (take modeConditionRoom (goalModesIs goal)) (take conditionRoom (goalConditionsIs goal)) (declaredPart (r .variables) (r .modes) (stateOf values′ modes′))
+    pub judged-valid : (b : Bool) → b ≡ goalHolds (take modeConditionRoom (goalModesIs goal)) (take conditionRoom (goalConditionsIs goal)) (declaredPart (r .variables) (r .modes) (stateOf values′ modes′)) → b ≡ true
         → (given steps, stateOf values′ modes′) ≡ judgementOf (judgeRestrictedTask (taskIn file) (planNumbers plan))
-    judged-valid e = (λ i. (given steps, stateOf (v i) (x i))) ∙ ap judgementOf (ends true e)
+    judged-valid b e t = (λ i. (given steps, stateOf (v i) (x i))) ∙ ap judgementOf (ends true (sym t ∙ e))
       where
-        B : Beyond (r .variables) (replicate 64 (pos 0)) values′
-        B = beyond-then (beyond-starts file (input .accepted) stored) (w .valuesBeyond)
+        S : Standing (taskIn file) (stateOf start modes)
+        S = start-standing file (input .accepted) stored
 
-        C : Beyond (r .modes) (replicate 8 0) modes′
-        C = beyond-then (beyond-modes file (input .accepted) stored) (w .modesBeyond)
+        B : Beyond (length (taskIn file .starts)) (replicate 64 (pos 0)) values′
+        B = beyond-then (beyond-starts file (input .accepted) stored) (w .spared .values)
 
-        n : length (take (r .variables) values′) ≡ r .variables
-        n = length-take-le (r .variables) values′ (omega (arith, B .long, length-replicate 64 (pos 0), H .variablesFew))
+        C : Beyond (length (taskIn file .modes)) (replicate 8 0) modes′
+        C = beyond-then (beyond-modes file (input .accepted) stored) (w .spared .modes)
 
-        m : length (take (r .modes) modes′) ≡ r .modes
-        m = length-take-le (r .modes) modes′ (omega (arith, C .long, length-replicate {A = ℕ} 8 0, H .modesFew))
+        few-values : length (take (length (taskIn file .starts)) values′) ≡ length (taskIn file .starts)
+        few-values = length-take-le (length (taskIn file .starts)) values′ (omega (arith, w .spared .values .long, S .valuesLong))
 
-        v : values′ ≡ take (r .variables) values′ ++ drop (length (take (r .variables) values′)) (replicate 64 (pos 0))
-        v = sym (take-append-drop (r .variables) values′) ∙ ap (λ (l : List ℤ). take (r .variables) values′ ++ l) (B .rest ∙ ap (λ (k : ℕ). drop k (replicate 64 (pos 0))) (sym n))
+        few-modes : length (take (length (taskIn file .modes)) modes′) ≡ length (taskIn file .modes)
+        few-modes = length-take-le (length (taskIn file .modes)) modes′ (omega (arith, w .spared .modes .long, S .modesLong))
 
-        x : modes′ ≡ take (r .modes) modes′ ++ drop (length (take (r .modes) modes′)) (replicate 8 0)
-        x = sym (take-append-drop (r .modes) modes′) ∙ ap (λ (l : List ℕ). take (r .modes) modes′ ++ l) (C .rest ∙ ap (λ (k : ℕ). drop k (replicate 8 0)) (sym m))
+        v : values′ ≡ take (length (taskIn file .starts)) values′ ++ drop (length (take (length (taskIn file .starts)) values′)) (replicate 64 (pos 0))
+        v = sym (take-append-drop (length (taskIn file .starts)) values′) ∙ ap (λ (l : List ℤ). take (length (taskIn file .starts)) values′ ++ l) (B .rest ∙ ap (λ (k : ℕ). drop k (replicate 64 (pos 0))) (sym few-values))
+
+        x : modes′ ≡ take (length (taskIn file .modes)) modes′ ++ drop (length (take (length (taskIn file .modes)) modes′)) (replicate 8 0)
+        x = sym (take-append-drop (length (taskIn file .modes)) modes′) ∙ ap (λ (l : List ℕ). take (length (taskIn file .modes)) modes′ ++ l) (C .rest ∙ ap (λ (k : ℕ). drop k (replicate 8 0)) (sym few-modes))
 
 -- ---- a plan's bytes
 module _ (plan : List ℕ) where

@@ -1,111 +1,172 @@
--- The judge over an accepted file: what is left of the plan at each step, from the state there, gives what the whole plan gives.
+-- The judge over an accepted file: what is left of the plan at each step, from what the task declares of the state there, gives what the whole
+-- plan gives. A run of one action keeps this step by step.
 -- Assumes nothing.
-use mathlib.Core.Path.{_≡_, refl, sym, ap, _∙_}
-use Prim.Native.Nat.{ℕ, _≤_, _<_}
+use mathlib.Core.Path.{_≡_, refl, sym, ap, _∙_, subst}
+use Prim.Native.Nat.{ℕ, zero, suc, _+_, _≤_, _<_}
+use native.Mathlib.Nat.{add-zero}
+use native.Mathlib.Numerals.{add-one}
 use native.Mathlib.Omega.{arith}
-use mathlib.Core.Option.{some}
-use mathlib.Core.List.{List}
-use lib.ListN.{length, getD, take, getElem?, replicate, length-replicate}
+use mathlib.Core.Bool.{cond}
+use mathlib.Core.Option.{none, some}
+use mathlib.Core.List.{List, _∷_}
+use lib.ListN.{length, getD, drop, getElem?}
+use lib.Seq.{drop-cons}
 use lib.IntN.{ℤ}
-use Rattle.model.specs.Tasks.{RestrictedAction, State}
-use Rattle.model.specs.TaskOk.{RestrictedTaskOk}
+use borrow.Author.Tests.{lt-ltb, le-ltb}
+use Rattle.lists.specs.Answer.{given, refused}
+use Rattle.model.specs.Tasks.{RestrictedAction, RestrictedTask, State}
+use Rattle.model.specs.Limits.{restrictedLimits}
+use Rattle.model.specs.TaskOk.{RestrictedActionOk, RestrictedTaskOk}
 use Rattle.model.specs.Plans.{planNumbers}
-use Rattle.model.specs.Steps.{stepRestricted}
-use Rattle.model.specs.Judging.{declaredPart}
+use Rattle.model.specs.Steps.{sizesOf, stepRestricted, restrictedGoalHolds}
+use Rattle.model.specs.Judging.{judge}
 use Rattle.model.proofs.AcceptedOk.{accepted-restricted-ok}
+use Rattle.model.proofs.Pairing.{bind-gives, some-injective}
+use Rattle.model.proofs.ReadingLaws.{length-each}
+use Rattle.model.proofs.StageWalk.{all-get}
 use Rattle.restricted.specs.Alone.{taskIn}
-use Rattle.restricted.specs.Changes.{stateOf, Beyond, Ready}
-use Rattle.restricted.specs.Step.{stepOf}
 use Rattle.restricted.proofs.Effects.{beyond-same, beyond-then}
-use Rattle.restricted.proofs.Stepping.{accepted-amounts-fit, step-by-number}
-use Rattle.repeats.specs.declared.Run.the-variants.{Until, Stopped}
-use Rattle.repeats.specs.Runs.{judgingFrom, CanRun, Ran}
-use Rattle.repeats.proofs.Judged.{no-such-action}
-use Rattle.kept.specs.Slots.{rowsOf, Long}
+use Rattle.restricted.proofs.Stepping.{none-left}
+use Rattle.restricted_rows.specs.Row.{rowIs}
+use Rattle.restricted_rows.specs.Steps.{stepBy}
+use Rattle.restricted_rows.proofs.Usable.{usable}
+use Rattle.repeats.specs.Repeats.{stepsBy}
+use Rattle.repeats.specs.Runs.{Alike, CanRun, Led, Passed, Stuck}
+use Rattle.kept.specs.Placed.{Placed}
 use Rattle.restricted_judge.specs.declared.Walk.the-variants.{Through, Ended}
-use Rattle.restricted_judge.specs.Judging.{Prepared, Walked}
+use Rattle.restricted_judge.specs.Judging.{AcceptedPlan, judgingFrom, declaredOf, Standing, Spared, Walked}
+use Rattle.restricted_judge.proofs.Whole.{stays, goes}
+
+-- ---- one step of the definition
+module _ (t : RestrictedTask) (p : List ℕ) (i : ℕ) (x : State) where
+  pub judging-ends : length p ≤ i → judgingFrom t p i x ≡ cond (restrictedGoalHolds t x) (given (i, x)) (refused 13 i)
+  unfolding judge
+  judging-ends h = rw (none-left i p h)
+
+  module _ (more : i < length p) where
+    step-of : judgingFrom t p i x ≡ judge (length (t .actions)) (stepRestricted t) (restrictedGoalHolds t) i (getD p i 0 ∷ drop (suc i) p) x
+    step-of = ap (λ (l : List ℕ). judge (length (t .actions)) (stepRestricted t) (restrictedGoalHolds t) i l x) (drop-cons p i 0 more)
+
+    no-such-action : length (t .actions) ≤ getD p i 0 → refused 11 i ≡ judgingFrom t p i x
+    unfolding judge
+    no-such-action h = sym (step-of ∙ rw (le-ltb (getD p i 0) (length (t .actions)) h))
+
+    module _ (known : getD p i 0 < length (t .actions)) where
+      step-stops : stepRestricted t x (getD p i 0) ≡ none → refused 12 i ≡ judgingFrom t p i x
+      unfolding judge
+      step-stops e = sym (step-of ∙ rw (lt-ltb (getD p i 0) (length (t .actions)) known, e))
+
+      step-goes : (y : State) → stepRestricted t x (getD p i 0) ≡ some y → judgingFrom t p (i + 1) y ≡ judgingFrom t p i x
+      unfolding judge
+      step-goes y e = sym (step-of ∙ rw (lt-ltb (getD p i 0) (length (t .actions)) known, e, add-one))
 
 -- ---- all steps of a plan
-module _ (file plan places : List ℕ) (count steps n m : ℕ) (sizes : List ℕ) (values₀ : List ℤ) (modes₀ : List ℕ) where
+module _ (file plan places : List ℕ) (count steps : ℕ) (x₀ : State) where
   -- at step i
-  pub record Walking (i : ℕ) (values : List ℤ) (modes : List ℕ) : Type 0 where
-    pub prepared : Prepared file plan places count steps m sizes
+  pub record Walking (i : ℕ) (x : State) : Type 0 where
+    pub input : AcceptedPlan file plan count steps
+    pub placed : Placed file places count
     pub bound : i ≤ steps
-    pub ready : Ready n m sizes values modes
-    pub judged : judgingFrom (taskIn file) (planNumbers plan) i (declaredPart n m (stateOf values modes)) ≡ judgingFrom (taskIn file) (planNumbers plan) 0 (declaredPart n m (stateOf values₀ modes₀))
-    pub valuesBeyond : Beyond n values₀ values
-    pub modesBeyond : Beyond m modes₀ modes
+    pub standing : Standing (taskIn file) x
+    pub judged : judgingFrom (taskIn file) (planNumbers plan) i (declaredOf (taskIn file) x) ≡ judgingFrom (taskIn file) (planNumbers plan) 0 (declaredOf (taskIn file) x₀)
+    pub spared : Spared (taskIn file) x₀ x
 
-module _ {file plan places : List ℕ} {count steps n m : ℕ} {sizes : List ℕ} {values₀ : List ℤ} {modes₀ : List ℕ} where
-  pub walk-start : Prepared file plan places count steps m sizes → Ready n m sizes values₀ modes₀ → Walking file plan places count steps n m sizes values₀ modes₀ 0 values₀ modes₀
-  walk-start p r = record { prepared = p; bound = omega arith; ready = r; judged = refl; valuesBeyond = beyond-same; modesBeyond = beyond-same }
+spared-then : {t : RestrictedTask} {x y z : State} → Spared t x y → Spared t y z → Spared t x z
+spared-then a b = record { values = beyond-then (a .values) (b .values); modes = beyond-then (a .modes) (b .modes) }
 
-  module _ {i : ℕ} {values : List ℤ} {modes : List ℕ} (W : Walking file plan places count steps n m sizes values₀ modes₀ i values modes) where
-    pub walk-ends : steps ≤ i → Walked file plan steps n m values₀ modes₀ Through values modes
+module _ {file plan places : List ℕ} {count steps : ℕ} {x₀ : State} where
+  pub walk-start : AcceptedPlan file plan count steps → Placed file places count → Standing (taskIn file) x₀ → Walking file plan places count steps x₀ 0 x₀
+  walk-start a p s = record { input = a; placed = p; bound = omega arith; standing = s; judged = refl; spared = record { values = beyond-same; modes = beyond-same } }
+
+  -- one step, and so many, by action k
+  module _ (k : ℕ) (known : k < count) (a : RestrictedAction) (is : getElem? (taskIn file .actions) k ≡ some a) where
+    module _ {i : ℕ} {x : State} (W : Walking file plan places count steps x₀ i x) (more : i < steps) (takes : getD (planNumbers plan) i 0 ≡ k) where
+      ok : RestrictedTaskOk (taskIn file)
+      ok = accepted-restricted-ok file (taskIn file) (W .input .accepted)
+
+      inside : i < length (planNumbers plan)
+      inside = omega (arith, W .input .stepsAre)
+
+      below : getD (planNumbers plan) i 0 < length (taskIn file .actions)
+      below = omega (arith, W .input .countIs)
+
+      one-stops : stepBy a x ≡ none → refused 12 i ≡ judgingFrom (taskIn file) (planNumbers plan) 0 (declaredOf (taskIn file) x₀)
+      one-stops e =
+          step-stops (taskIn file) (planNumbers plan) i (declaredOf (taskIn file) x) inside below
+          (ap (stepRestricted (taskIn file) (declaredOf (taskIn file) x)) takes ∙ stays (taskIn file) ok k a is x (W .standing) e)
+          ∙ W .judged
+
+      one-goes : (y : State) → stepBy a x ≡ some y → Walking file plan places count steps x₀ (i + 1) y
+      one-goes y e =
+          let (s, standing, spared) = goes (taskIn file) ok k a is x (W .standing) y e in
+          record {
+            input = W .input;
+            placed = W .placed;
+            bound = omega arith;
+            standing = standing;
+            judged =
+                step-goes (taskIn file) (planNumbers plan) i (declaredOf (taskIn file) x) inside below (declaredOf (taskIn file) y)
+                (ap (stepRestricted (taskIn file) (declaredOf (taskIn file) x)) takes ∙ s)
+                ∙ W .judged;
+            spared = spared-then (W .spared) spared;
+          }
+
+    many-go : (taken : ℕ) {i : ℕ} {x : State} → Walking file plan places count steps x₀ i x → i + taken ≤ steps → Alike k plan i taken
+        → (y : State) → stepsBy a taken x ≡ some y → Walking file plan places count steps x₀ (i + taken) y
+    unfolding stepsBy
+    many-go zero {i} {x} W h alike y e = subst (λ (z : State). Walking file plan places count steps x₀ (i + 0) z) (some-injective e) (rw add-zero W)
+    many-go (suc taken) {i} {x} W h alike y e =
+        let (z, first, others) = bind-gives (stepBy a x) (stepsBy a taken) y e in
+        let there : i + 1 + taken ≡ i + suc taken = omega arith in
+        subst (λ (j : ℕ). Walking file plan places count steps x₀ j y) there
+        (many-go taken (one-goes W (omega arith) (ap (λ (j : ℕ). getD (planNumbers plan) j 0) (omega arith) ∙ alike 0 (omega arith)) z first) (omega arith)
+        (λ j q. ap (λ (l : ℕ). getD (planNumbers plan) l 0) (omega arith) ∙ alike (suc j) (omega arith)) y others)
+
+    led-on : {i next : ℕ} {x y : State} → Walking file plan places count steps x₀ i x → Led a x k plan i next y → next ≤ steps → Walking file plan places count steps x₀ next y
+    led-on {y = y} W L h = subst (λ (j : ℕ). Walking file plan places count steps x₀ j y) (sym (L .there)) (many-go (L .taken) W (omega (arith, L .there)) (L .alike) y (L .steps))
+
+  module _ {i : ℕ} {x : State} (W : Walking file plan places count steps x₀ i x) where
+    pub walk-ends : steps ≤ i → Walked file plan steps x₀ Through x
     walk-ends h =
         let e : steps ≡ i = omega (arith, W .bound) in
-        record {
-          judged = ap (λ (j : ℕ). judgingFrom (taskIn file) (planNumbers plan) j (declaredPart n m (stateOf values modes))) e ∙ W .judged;
-          valuesBeyond = W .valuesBeyond;
-          modesBeyond = W .modesBeyond;
-        }
+        record { judged = ap (λ (j : ℕ). judgingFrom (taskIn file) (planNumbers plan) j (declaredOf (taskIn file) x)) e ∙ W .judged; spared = W .spared }
 
     module _ (k : ℕ) (number : k ≡ getD (planNumbers plan) i 0) (more : i < steps) where
-      inside : i < length (planNumbers plan)
-      inside = omega (arith, W .prepared .input .stepsAre)
-
-      pub walk-no-action : count ≤ k → Walked file plan steps n m values₀ modes₀ (Ended 11 i) values modes
-      walk-no-action h = record {
-        judged = no-such-action (taskIn file) (planNumbers plan) i (declaredPart n m (stateOf values modes)) inside (omega (arith, W .prepared .input .countIs)) ∙ W .judged;
-        valuesBeyond = W .valuesBeyond;
-        modesBeyond = W .modesBeyond;
+      pub walk-no-action : count ≤ k → (y : State) → Walked file plan steps x₀ (Ended 11 i) y
+      walk-no-action h y = record {
+        judged = no-such-action (taskIn file) (planNumbers plan) i (declaredOf (taskIn file) x) (omega (arith, W .input .stepsAre)) (omega (arith, W .input .countIs)) ∙ W .judged;
+        spared = tt;
       }
 
-      module _ (known : k < count) (a : RestrictedAction) (is : getElem? (taskIn file .actions) k ≡ some a) where
-        below : k < length (taskIn file .actions)
-        below = omega (arith, W .prepared .input .countIs)
-
-        ok : RestrictedTaskOk (taskIn file)
-        ok = accepted-restricted-ok file (taskIn file) (W .prepared .input .accepted)
-
-        steps-so : (x : State) → stepOf (take m sizes) x a ≡ stepRestricted (taskIn file) x k
-        steps-so x = ap (λ (z : List ℕ). stepOf z x a) (W .prepared .sizesAre) ∙ step-by-number (taskIn file) ok x k a is
-
-        pub walk-can : CanRun n m sizes values modes a k plan i steps
+      module _ (known : k < count) (marks : List ℕ) (numbers : List ℤ) (is : getElem? (taskIn file .actions) k ≡ some (rowIs marks numbers)) where
+        pub walk-can : CanRun (x .values) marks numbers k plan i steps
         walk-can = record {
-          canApply = record { ready = W .ready; fit = accepted-amounts-fit (taskIn file) ok k a is };
-          stepsAre = W .prepared .input .stepsAre;
-          long = W .prepared .input .long;
-          few = W .prepared .input .few;
+          canTake = record {
+            usable = usable (length (taskIn file .starts)) (sizesOf (taskIn file .modes)) marks numbers (ok .startsFew) sizesFew action;
+            within = W .standing .within;
+          };
+          stepsAre = W .input .stepsAre;
+          long = W .input .long;
+          few = W .input .few;
           more = more;
           takes = sym number;
         }
+          where
+            ok : RestrictedTaskOk (taskIn file)
+            ok = accepted-restricted-ok file (taskIn file) (W .input .accepted)
 
-        pub walk-stops : {at : ℕ} {values′ : List ℤ} {modes′ : List ℕ} → Ran n m sizes values modes a k plan i steps (Stopped at) values′ modes′ → Walked file plan steps n m values₀ modes₀ (Ended 12 at) values′ modes′
-        walk-stops R = record { judged = R .judged (taskIn file) below steps-so ∙ W .judged; valuesBeyond = beyond-then (W .valuesBeyond) (R .valuesBeyond); modesBeyond = beyond-then (W .modesBeyond) (R .modesBeyond) }
+            sizesFew : length (sizesOf (taskIn file .modes)) ≤ 8
+            sizesFew = omega (arith, ok .modesFew, length-each (λ (p : ℕ × ℕ). p .0) (taskIn file .modes))
 
-        pub walk-next : {next : ℕ} {values′ : List ℤ} {modes′ : List ℕ} → Ran n m sizes values modes a k plan i steps (Until next) values′ modes′ → Walking file plan places count steps n m sizes values₀ modes₀ next values′ modes′
-        walk-next R = record {
-          prepared = W .prepared;
-          bound = R .onward .1;
-          ready = R .onward .2;
-          judged = R .judged (taskIn file) below steps-so ∙ W .judged;
-          valuesBeyond = beyond-then (W .valuesBeyond) (R .valuesBeyond);
-          modesBeyond = beyond-then (W .modesBeyond) (R .modesBeyond);
+            action : RestrictedActionOk restrictedLimits (length (taskIn file .starts)) (sizesOf (taskIn file .modes)) (rowIs marks numbers)
+            action =
+                all-get (RestrictedActionOk restrictedLimits (length (taskIn file .starts)) (sizesOf (taskIn file .modes))) (taskIn file .actions) k (rowIs marks numbers) (ok .actionsOk) is
+
+        pub walk-stops : {at : ℕ} → Stuck (rowIs marks numbers) x k plan i steps at → (y : State) → Walked file plan steps x₀ (Ended 12 at) y
+        walk-stops {at} R y = record {
+          judged = one-stops k known (rowIs marks numbers) is (led-on k known (rowIs marks numbers) is W (R .led) (omega (arith, R .more))) (R .more) (R .takes) (R .refuses);
+          spared = tt;
         }
 
--- ---- tables of as many equal rows
-pub long-none : (counts variables relations : List ℕ) (constants : List ℤ) (modes values effects settings added : List ℕ) (amounts : List ℤ)
-    → Long 512 (rowsOf (replicate 512 counts) (replicate 512 variables) (replicate 512 relations) (replicate 512 constants) (replicate 512 modes) (replicate 512 values) (replicate 512 effects) (replicate 512 settings) (replicate 512 added) (replicate 512 amounts))
-long-none counts variables relations constants modes values effects settings added amounts = record {
-  counts = length-replicate 512 counts;
-  variables = length-replicate 512 variables;
-  relations = length-replicate 512 relations;
-  constants = length-replicate 512 constants;
-  modes = length-replicate 512 modes;
-  values = length-replicate 512 values;
-  effects = length-replicate 512 effects;
-  settings = length-replicate 512 settings;
-  added = length-replicate 512 added;
-  amounts = length-replicate 512 amounts;
-}
+        pub walk-next : {next : ℕ} {y : State} → Passed (rowIs marks numbers) x k plan i steps next y → Walking file plan places count steps x₀ next y
+        walk-next R = led-on k known (rowIs marks numbers) is W (R .led) (R .bound)

@@ -3,20 +3,19 @@
 use mathlib.Core.Path.{_≡_}
 use Prim.Native.Nat.{ℕ, _*_, _≤_}
 use mathlib.Core.List.{List}
-use lib.ListN.{length, take, replicate}
-use lib.IntN.{ℤ, pos}
+use mathlib.Core.Bool.{true}
+use lib.ListN.{length, drop, replicate}
+use lib.IntN.{pos}
 use Rattle.integers.specs.Numbers.{Bytes}
 use Rattle.lists.specs.Answer.{Answer, given, refused}
-use Rattle.model.specs.Tasks.{State}
+use Rattle.model.specs.Tasks.{RestrictedTask, State}
 use Rattle.model.specs.Decoding.{readRestricted}
 use Rattle.model.specs.Plans.{planNumbers}
-use Rattle.model.specs.Steps.{sizesOf}
-use Rattle.model.specs.Judging.{declaredPart, withRest}
+use Rattle.model.specs.Steps.{sizesOf, valuesWithin, modesBelowSizes, figure, stepRestricted, restrictedGoalHolds}
+use Rattle.model.specs.Judging.{judge, declaredPart, withRest}
 use Rattle.restricted.specs.Changes.{stateOf, Beyond}
 use Rattle.restricted.specs.Step.{wholeIs}
 use Rattle.restricted.specs.Alone.{taskIn}
-use Rattle.repeats.specs.Runs.{judgingFrom}
-use Rattle.kept.specs.Placed.{Placed}
 use Rattle.restricted_judge.specs.declared.Verdict.{Verdict}
 use Rattle.restricted_judge.specs.declared.Verdict.the-variants.{Valid, Refused}
 use Rattle.restricted_judge.specs.declared.Judgement.{Judgement}
@@ -52,18 +51,30 @@ pub record AcceptedPlan (file plan : List ℕ) (count steps : ℕ) : Type 0 wher
   pub long : 2 * steps ≤ length plan
   pub few : steps ≤ 1000000
 
--- beside it the sizes of the modes
-pub record Read (file plan : List ℕ) (count steps m : ℕ) (sizes : List ℕ) : Type 0 where
-  pub input : AcceptedPlan file plan count steps
-  pub sizesAre : take m sizes ≡ sizesOf (taskIn file .modes)
+-- what comes of the steps of a plan from step i on, from state x
+abbrev pub judgingFrom : RestrictedTask → List ℕ → ℕ → State → Answer (ℕ × State)
+judgingFrom t plan i x = judge (length (t .actions)) (stepRestricted t) (restrictedGoalHolds t) i (drop i plan) x
 
--- and the places of the actions
-pub record Prepared (file plan places : List ℕ) (count steps m : ℕ) (sizes : List ℕ) : Type 0 where
-  pub input : AcceptedPlan file plan count steps
-  pub placed : Placed file places count
-  pub sizesAre : take m sizes ≡ sizesOf (taskIn file .modes)
+-- what a task declares of a whole state
+abbrev pub declaredOf : RestrictedTask → State → State
+declaredOf t x = declaredPart (length (t .starts)) (length (t .modes)) x
 
-pub record Walked (file plan : List ℕ) (steps n m : ℕ) (values : List ℤ) (modes : List ℕ) (r : Walk) (values′ : List ℤ) (modes′ : List ℕ) : Type 0 where
-  pub judged : walkIs r (judgingFrom (taskIn file) (planNumbers plan) steps (declaredPart n m (stateOf values′ modes′))) ≡ judgingFrom (taskIn file) (planNumbers plan) 0 (declaredPart n m (stateOf values modes))
-  pub valuesBeyond : Beyond n values values′
-  pub modesBeyond : Beyond m modes modes′
+-- a whole state from which a task can go on: all that it declares is there, all values lie within the figure, those of the modes below their sizes
+pub record Standing (t : RestrictedTask) (x : State) : Type 0 where
+  pub valuesLong : length (t .starts) ≤ length (x .values)
+  pub modesLong : length (t .modes) ≤ length (x .modes)
+  pub within : valuesWithin figure (x .values) ≡ true
+  pub below : modesBelowSizes (sizesOf (t .modes)) (x .modes) ≡ true
+
+-- what stands beyond the task's variables and modes is as before
+pub record Spared (t : RestrictedTask) (x y : State) : Type 0 where
+  pub values : Beyond (length (t .starts)) (x .values) (y .values)
+  pub modes : Beyond (length (t .modes)) (x .modes) (y .modes)
+
+abbrev pub WalkSpared : Walk → RestrictedTask → State → State → Type 0
+WalkSpared Through t x y = Spared t x y
+WalkSpared (Ended number place) t x y = Unit {0}
+
+pub record Walked (file plan : List ℕ) (steps : ℕ) (x : State) (r : Walk) (y : State) : Type 0 where
+  pub judged : walkIs r (judgingFrom (taskIn file) (planNumbers plan) steps (declaredOf (taskIn file) y)) ≡ judgingFrom (taskIn file) (planNumbers plan) 0 (declaredOf (taskIn file) x)
+  pub spared : WalkSpared r (taskIn file) x y

@@ -1,6 +1,6 @@
 -- `repeats::count_alike` meets its contract. Assumes nothing.
 use mathlib.Core.Path.{refl}
-use Rattle.repeats.proofs.Alike.{alike-one, alike-run}
+use Rattle.repeats.proofs.Alike.{counted-one, counted-run}
 use borrow.Author.Needs.{needs}
 use Rattle.repeats.proofs.count_alike.Statement.{statement}
 use Rattle.repeats.proofs.count_alike.Tie as tie
@@ -9,7 +9,7 @@ sub-left : tie.Need-sub-left
 sub-left c = search needs
 
 returns : tie.Need-returns
-returns c = alike-one (c .before .before .pre .2) (c .before .before .pre .3)
+returns c = counted-one (c .before .before .pre .2) (c .before .before .pre .3)
 
 add-action-of : tie.Need-add-action-of
 add-action-of c = search needs
@@ -18,22 +18,13 @@ action-of-requires : tie.Need-action-of-requires
 action-of-requires c κs = search needs
 
 returns-2 : tie.Need-returns-2
-returns-2 c = alike-one (c .before .before .before .before .pre .2) (c .before .before .before .before .pre .3)
-
-add-action-of-2 : tie.Need-add-action-of-2
-add-action-of-2 c = search needs
-
-action-of-requires-2 : tie.Need-action-of-requires-2
-action-of-requires-2 c κs = search needs
-
-returns-3 : tie.Need-returns-3
-returns-3 c = alike-one (c .before .before .before .before .before .before .pre .2) (c .before .before .before .before .before .before .pre .3)
+returns-2 c = counted-one (c .before .before .before .before .pre .2) (c .before .before .before .before .pre .3)
 
 matches-run-requires : tie.Need-matches-run-requires
 matches-run-requires c κs = search needs
 
-returns-4 : tie.Need-returns-4
-returns-4 c = let s = c .before .before .before .before .before .before .before in alike-run (s .pre .2) (s .pre .3) _ _ refl (s .pre .0) (c .matches-run .ensures)
+returns-3 : tie.Need-returns-3
+returns-3 c = let s = c .before .before .before .before .before in counted-run (s .pre .2) (s .pre .3) _ _ refl (s .pre .0) (c .matches-run .ensures)
 
 pub count-alike-spec : {M : Type 1} → statement M
 count-alike-spec =
@@ -44,8 +35,5 @@ count-alike-spec =
     add-action-of
     action-of-requires
     returns-2
-    add-action-of-2
-    action-of-requires-2
-    returns-3
     matches-run-requires
-    returns-4)
+    returns-3)

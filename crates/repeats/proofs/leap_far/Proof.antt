@@ -1,25 +1,28 @@
 -- `repeats::leap_far` meets its contract: leaps one after another, of as many steps at most as are left. Assumes nothing.
 use Prim.Native.Nat.{_+_, _≤_}
 use native.Mathlib.Omega.{arith}
-use Rattle.repeats.specs.Repeats.{partsIs, Leapt}
-use Rattle.repeats.proofs.Leaps.{leapt-none, leapt-then}
 use borrow.Author.Needs.{needs}
+use Rattle.restricted.specs.Changes.{stateOf}
+use Rattle.restricted_rows.specs.Row.{rowIs}
+use Rattle.repeats.specs.Repeats.{Leapt}
+use Rattle.repeats.proofs.Leaps.{leapt-none, leapt-then}
 use Rattle.repeats.proofs.leap_far.Statement.{statement}
 use Rattle.repeats.proofs.leap_far.Tie as tie
 
 abbrev Inv-loop : tie.InvT-loop
-Inv-loop values₀ modes₀ n m sizes condition-count condition-variables condition-relations condition-constants mode-condition-count mode-condition-modes mode-condition-values effect-count effect-modes effect-values addition-count addition-variables addition-amounts most taken₀ times₀ values modes taken times =
-    Leapt n m sizes values₀ modes₀ (partsIs condition-count condition-variables condition-relations condition-constants mode-condition-count mode-condition-modes mode-condition-values effect-count effect-modes effect-values addition-count addition-variables addition-amounts) most taken values modes × (taken + times ≤ most)
+Inv-loop values₀ modes₀ marks numbers most taken₀ times₀ values modes taken times = Leapt (rowIs marks numbers) (stateOf values₀ modes₀) most taken (stateOf values modes) × (taken + times ≤ most)
 
 abbrev μ-loop : tie.MeasureT-loop
-μ-loop values₀ modes₀ n m sizes condition-count condition-variables condition-relations condition-constants mode-condition-count mode-condition-modes mode-condition-values effect-count effect-modes effect-values addition-count addition-variables addition-amounts most taken₀ times₀ values modes taken times =
-    times
+μ-loop values₀ modes₀ marks numbers most taken₀ times₀ values modes taken times = times
 
 loop-holds : tie.Need-loop-holds Inv-loop μ-loop
-loop-holds c = (leapt-none (c .pre .1), omega arith)
+loop-holds c = (leapt-none (c .pre .1 .within), omega arith)
 
 leap-requires : tie.Need-leap-requires Inv-loop μ-loop
-leap-requires c κs = let v = c .before .before .before .loop .inv in ((omega (arith, c .before .before .loop-test .taken), omega (arith, v .1, c .before .before .before .before .pre .0)), v .0 .canApply)
+leap-requires c κs =
+    let s = c .before .before .before in
+    let v = s .loop .inv in
+    (omega (arith, c .before .before .loop-test .taken), omega (arith, v .1, s .before .pre .0), record { usable = s .before .pre .1 .usable; within = v .0 .within })
 
 add-taken : tie.Need-add-taken Inv-loop μ-loop
 add-taken c = omega (arith, c .before .before .before .before .loop .inv .1, c .leap .ensures .few, c .before .before .before .before .before .pre .0)

@@ -1,35 +1,57 @@
--- `repeats::take_run` meets its contract: behind the leaps what is left to be judged gives what there was, and so it does behind the steps.
--- Assumes nothing.
-use Rattle.repeats.proofs.Leaps.{goes-on, run-on}
+-- `repeats::take_run` meets its contract: a run that goes on behind its first step. Assumes nothing.
+use mathlib.Core.Path.{sym, _∙_}
+use native.Mathlib.Omega.{arith}
+use borrow.Author.Tests.{not-true, not-false}
+use Rattle.repeats.proofs.Running.{run-start, run-stops, run-first, run-passes, run-on, can-run-on}
 use borrow.Author.Needs.{needs}
 use Rattle.repeats.proofs.take_run.Statement.{statement}
 use Rattle.repeats.proofs.take_run.Tie as tie
 
-count-alike-requires : tie.Need-count-alike-requires
-count-alike-requires c κs = search needs
-
-sub-leap-far : tie.Need-sub-leap-far
-sub-leap-far c = search needs
-
-leap-far-requires : tie.Need-leap-far-requires
-leap-far-requires c κs = search needs
-
-add-take-steps : tie.Need-add-take-steps
-add-take-steps c = search needs
-
-take-steps-requires : tie.Need-take-steps-requires
-take-steps-requires c κs = goes-on (c .before .before .before .before .before .before .before .pre) (c .before .before .before .before .before .count-alike .ensures) (c .before .before .leap-far .ensures)
+take-requires : tie.Need-take-requires
+take-requires c κs = search needs
 
 returns : tie.Need-returns
-returns c = run-on (c .before .before .before .before .before .before .before .before .pre) (c .before .before .before .before .before .before .count-alike .ensures) (c .before .before .before .leap-far .ensures) (c .take-steps .ensures)
+returns c =
+    let can = c .before .before .before .before .before .pre in
+    run-stops (run-start (omega (arith, can .more)) (can .canTake .within)) (can .more) (can .takes) (sym (rw (not-true (c .before .take .result) (c .if1 .taken)) at (c .before .take .ensures)))
+
+add-next : tie.Need-add-next
+add-next c = search needs
+
+returns-2 : tie.Need-returns-2
+returns-2 c =
+    let s = c .before in
+    run-passes (run-first (s .before .before .before .before .before .pre) (not-false (s .before .take .result) (s .if1 .left)) (s .before .take .ensures)) (omega arith)
+
+action-of-requires : tie.Need-action-of-requires
+action-of-requires c κs = search needs
+
+returns-3 : tie.Need-returns-3
+returns-3 c =
+    let s = c .before .before .before in
+    run-passes (run-first (s .before .before .before .before .before .pre) (not-false (s .before .take .result) (s .if1 .left)) (s .before .take .ensures)) (omega arith)
+
+take-many-requires : tie.Need-take-many-requires
+take-many-requires c κs =
+    let s = c .before .before .before .before .before in
+    let can = s .before .before .before .before .before .pre in
+    can-run-on can (run-first can (not-false (s .before .take .result) (s .if1 .left)) (s .before .take .ensures) .within)
+    (omega (arith, can .more, c .before .before .before .before .if2 .left)) (sym (c .before .before .before .action-of .ensures) ∙ c .before .before .if3 .left)
+
+returns-4 : tie.Need-returns-4
+returns-4 c =
+    let s = c .before .before .before .before .before .before in
+    run-on (run-first (s .before .before .before .before .before .pre) (not-false (s .before .take .result) (s .if1 .left)) (s .before .take .ensures)) (c .take-many .result) _ (c .take-many .ensures)
 
 pub take-run-spec : {M : Type 1} → statement M
 take-run-spec =
     tie.close
     (tie.spec
-    count-alike-requires
-    sub-leap-far
-    leap-far-requires
-    add-take-steps
-    take-steps-requires
-    returns)
+    take-requires
+    returns
+    add-next
+    returns-2
+    action-of-requires
+    returns-3
+    take-many-requires
+    returns-4)

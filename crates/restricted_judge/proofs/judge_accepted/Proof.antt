@@ -1,20 +1,26 @@
--- `restricted_judge::judge_accepted` meets its contract: what the readers leave makes the judge ready, and what it finds is the answer. Assumes nothing.
-use mathlib.Core.Path.{sym, ap, _∙_}
+-- `restricted_judge::judge_accepted` meets its contract: what the readers leave is a state from which the task can go on, and what the judge
+-- finds is the answer. Assumes nothing.
+use mathlib.Core.Path.{ap, _∙_}
 use borrow.Author.Tests.{not-true, not-false}
 use Rattle.restricted_judge.specs.Judging.{judgementOf}
-use Rattle.restricted_judge.proofs.Accepting.{start-ready, read, judged-ended, judged-unmet, judged-valid}
+use Rattle.restricted_judge.proofs.Accepting.{declared-few, start-standing, judged-ended, judged-unmet, judged-valid}
 use borrow.Author.Needs.{needs}
 use Rattle.restricted_judge.proofs.judge_accepted.Statement.{statement}
 use Rattle.restricted_judge.proofs.judge_accepted.Tie as tie
 
+abbrev startOf : tie.After-read-restricted → tie.Start
+startOf d = d .before .before .before .before .before .before
+
+abbrev readOf : tie.After-walk-plan → tie.After-read-restricted
+readOf w = w .before .before .before
+
 read-restricted-requires : tie.Need-read-restricted-requires
 read-restricted-requires c κs = search needs
 
-walk-file-requires : tie.Need-walk-file-requires
-walk-file-requires c κs =
-    let d = c .before .before .before in
-    let i = d .before .before .before .before .before .before .pre in
-    (read i (d .read-restricted .ensures), start-ready _ (i .accepted) (d .read-restricted .ensures))
+walk-plan-requires : tie.Need-walk-plan-requires
+walk-plan-requires c κs = let d = c .before .before in
+    let i = startOf d .pre in
+    (i, start-standing _ (i .accepted) (d .read-restricted .ensures))
 
 enum-known-walk : tie.Need-enum-known-walk
 enum-known-walk c = search needs
@@ -23,7 +29,9 @@ refuse-requires : tie.Need-refuse-requires
 refuse-requires c κs = search needs
 
 returns : tie.Need-returns
-returns c = c .refuse .ensures ∙ ap judgementOf (judged-ended (c .before .before .before .before .before .before .before .before .before .before .before .before .before .before .pre) (c .before .before .before .before .before .before .before .before .read-restricted .ensures) (rw (c .before .before .walk .given .1) at (c .before .before .before .before .walk-file .ensures)))
+returns c = let w = c .before .before .before .before in
+    let d = readOf w in
+    c .refuse .ensures ∙ ap judgementOf (judged-ended (startOf d .pre) (d .read-restricted .ensures) (rw (c .before .before .walk .given .1) at (w .walk-plan .ensures)))
 
 enum-told : tie.Need-enum-told
 enum-told c = search needs
@@ -35,26 +43,34 @@ decode-goal-requires : tie.Need-decode-goal-requires
 decode-goal-requires c κs = search needs
 
 goal-met-requires : tie.Need-goal-met-requires
-goal-met-requires c κs = let h = start-ready _ ((c .before .before .before .before .before .before .before .before .before .before .before .before .before .before .before .before .pre) .accepted) (c .before .before .before .before .before .before .before .before .before .before .read-restricted .ensures) in (h .room, h .modesRoom)
+goal-met-requires c κs = let d = readOf (c .before .before .before .before .before .before) in declared-few _ (startOf d .pre .accepted) (d .read-restricted .ensures)
 
 refuse-requires-2 : tie.Need-refuse-requires-2
 refuse-requires-2 c κs = search needs
 
 returns-2 : tie.Need-returns-2
-returns-2 c =
+returns-2 c = let g = c .before .before in
+    let t = g .before .before .before .before .before in
+    let w = t .before .before in
+    let d = readOf w in
+    let b = g .before .before .before in
     c .refuse2 .ensures
-    ∙ ap judgementOf (judged-unmet (c .before .before .before .before .before .before .before .before .before .before .before .before .before .before .before .before .before .before .before .pre) (c .before .before .before .before .before .before .before .before .before .before .before .before .before .read-restricted .ensures) (rw (c .before .before .before .before .before .before .before .enum-told .given .1) at (c .before .before .before .before .before .before .before .before .before .walk-file .ensures)) (c .before .before .before .before .before .decode-goal .result) _ (c .before .before .before .before .before .before .goal-bytes .ensures) (c .before .before .before .before .before .decode-goal .ensures) (sym (not-true _ (c .before .if1 .taken)) ∙ c .before .before .goal-met .ensures))
+    ∙ ap judgementOf (judged-unmet (startOf d .pre) (d .read-restricted .ensures) (rw (t .enum-told .given .1) at (w .walk-plan .ensures)) (b .decode-goal .result) _ (b .before .goal-bytes .ensures) (b .decode-goal .ensures) (g .goal-met .result) (g .goal-met .ensures) (not-true _ (c .before .if1 .taken)))
 
 returns-3 : tie.Need-returns-3
-returns-3 c =
-    judged-valid (c .before .before .before .before .before .before .before .before .before .before .before .before .before .before .before .before .before .before .pre) (c .before .before .before .before .before .before .before .before .before .before .before .before .read-restricted .ensures) (rw (c .before .before .before .before .before .before .enum-told .given .1) at (c .before .before .before .before .before .before .before .before .walk-file .ensures)) (c .before .before .before .before .decode-goal .result) _ (c .before .before .before .before .before .goal-bytes .ensures) (c .before .before .before .before .decode-goal .ensures) (sym (not-false _ (c .if1 .left)) ∙ c .before .goal-met .ensures)
+returns-3 c = let g = c .before in
+    let t = g .before .before .before .before .before in
+    let w = t .before .before in
+    let d = readOf w in
+    let b = g .before .before .before in
+    judged-valid (startOf d .pre) (d .read-restricted .ensures) (rw (t .enum-told .given .1) at (w .walk-plan .ensures)) (b .decode-goal .result) _ (b .before .goal-bytes .ensures) (b .decode-goal .ensures) (g .goal-met .result) (g .goal-met .ensures) (not-false _ (c .if1 .left))
 
 pub judge-accepted-spec : {M : Type 1} → statement M
 judge-accepted-spec =
     tie.close
     (tie.spec
     read-restricted-requires
-    walk-file-requires
+    walk-plan-requires
     enum-known-walk
     refuse-requires
     returns

@@ -1,5 +1,12 @@
--- `restricted_judge::walk_few` meets its contract: the table has room for the places of all actions. Assumes nothing.
-use Rattle.restricted_judge.proofs.Accepting.{prepared}
+-- `restricted_judge::walk_few` meets its contract: the table has room for the places of all actions, and at first no slot holds an action. Assumes
+-- nothing.
+use Prim.Native.Nat.{ℕ}
+use native.Mathlib.Omega.{arith}
+use mathlib.Core.List.{List}
+use lib.ListN.{replicate, length-replicate}
+use lib.IntN.{ℤ, pos}
+use Rattle.kept.proofs.Slots.{held-none}
+use Rattle.restricted_judge.proofs.Accepting.{few, placed}
 use borrow.Author.Needs.{needs}
 use Rattle.restricted_judge.proofs.walk_few.Statement.{statement}
 use Rattle.restricted_judge.proofs.walk_few.Tie as tie
@@ -10,17 +17,26 @@ slice-aggregate-action-places c = search needs
 action-places-requires : tie.Need-action-places-requires
 action-places-requires c κs = search needs
 
-slice-aggregate-walk-plan : tie.Need-slice-aggregate-walk-plan
-slice-aggregate-walk-plan c = search needs
+slice-aggregate-judge-runs : tie.Need-slice-aggregate-judge-runs
+slice-aggregate-judge-runs c = search needs
 
-walk-plan-requires : tie.Need-walk-plan-requires
-walk-plan-requires c κs =
-    let d = c .before .before .before .before in
-    let s = d .before .before .before .before .pre in
-    (prepared (s .0) 1024 (s .1) _ (d .action-places .ensures), s .2)
+slice-aggregate-judge-runs-2 : tie.Need-slice-aggregate-judge-runs-2
+slice-aggregate-judge-runs-2 c = search needs
+
+slice-aggregate-judge-runs-3 : tie.Need-slice-aggregate-judge-runs-3
+slice-aggregate-judge-runs-3 c = search needs
+
+slice-aggregate-judge-runs-4 : tie.Need-slice-aggregate-judge-runs-4
+slice-aggregate-judge-runs-4 c = search needs
+
+judge-runs-requires : tie.Need-judge-runs-requires
+judge-runs-requires c κs =
+    let p = c .before .before .before .before .before .before .before in
+    let s = p .before .before .before .before .pre in
+    ((s .0, placed (s .0) 1024 (s .1) _ (p .action-places .ensures), s .2), (omega arith, held-none _ _ 8 _ _ (few (s .0)) (length-replicate {A = List ℕ} 8 (replicate 116 0)) (length-replicate {A = List ℤ} 8 (replicate 40 (pos 0)))))
 
 returns : tie.Need-returns
-returns c = c .walk-plan .ensures
+returns c = search needs
 
 pub walk-few-spec : {M : Type 1} → statement M
 walk-few-spec =
@@ -28,6 +44,9 @@ walk-few-spec =
     (tie.spec
     slice-aggregate-action-places
     action-places-requires
-    slice-aggregate-walk-plan
-    walk-plan-requires
+    slice-aggregate-judge-runs
+    slice-aggregate-judge-runs-2
+    slice-aggregate-judge-runs-3
+    slice-aggregate-judge-runs-4
+    judge-runs-requires
     returns)

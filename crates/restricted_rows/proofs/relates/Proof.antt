@@ -1,0 +1,29 @@
+-- `restricted_rows::relates` meets its contract: each arm is the test that its relation names. Assumes nothing.
+use mathlib.Core.Path.{_≡_, refl}
+use Prim.Native.Nat.{ℕ, zero, suc, _<_}
+use native.Mathlib.Omega.{arith}
+use mir.Facts.{toZ-ofZ}
+use Rattle.integers.specs.Relation.{relationOf, above}
+use Rattle.restricted_rows.proofs.relates.Statement.{statement}
+use Rattle.restricted_rows.proofs.relates.Tie as tie
+
+over-two : (n : ℕ) → 2 < n → relationOf n ≡ above
+over-two zero h = absurd (omega arith)
+over-two (suc zero) h = absurd (omega arith)
+over-two (suc (suc zero)) h = absurd (omega arith)
+over-two (suc (suc (suc n))) h = refl
+
+returns : tie.Need-returns
+returns c = rw (c .match .keys1) (search toZ-ofZ)
+
+returns-2 : tie.Need-returns-2
+returns-2 c = rw (c .match .keys2) (search toZ-ofZ)
+
+returns-3 : tie.Need-returns-3
+returns-3 c = rw (c .match .keys3) (search toZ-ofZ)
+
+returns-4 : tie.Need-returns-4
+returns-4 c = rw (over-two (c .before .args .relation) (omega arith)) (search toZ-ofZ)
+
+pub relates-spec : {M : Type 1} → statement M
+relates-spec = tie.close (tie.spec returns returns-2 returns-3 returns-4)
