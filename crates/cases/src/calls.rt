@@ -51,8 +51,8 @@ fn judge_source(task: &[u8], plan: &[u8]) {
     let judgement = source_judge::judge(task, plan);
     let verdict = judgement.verdict;
     match verdict {
-        source::Verdict::Refused(number, place) => lines::refusal(number, place),
-        source::Verdict::Valid(steps) => {
+        source_judge::Verdict::Refused(number, place) => lines::refusal(number, place),
+        source_judge::Verdict::Valid(steps) => {
             lines::natural(steps);
             tell_source_state(judgement.state);
         }

@@ -17,7 +17,7 @@ use Rattle.commands.specs.declared.Command.{Command}
 use Rattle.commands.specs.declared.Command.the-variants.{Variable, Start, Mode, Action, Condition, ModeCondition, ModeEffect, Add, Linear, Term, Quotient, Residue, Goal, End, Refused}
 use Rattle.commands.proofs.Every.{each-at}
 use Rattle.lists.proofs.Loops.{and-left, and-right}
-use Rattle.source.proofs.Running.{halves-long}
+use Rattle.planbytes.proofs.Steps.{halves-long}
 use Rattle.model.specs.Limits.{Limits, sourceLimits}
 use Rattle.model.specs.ReadingState.{ReadingState, Taken, Progress, Going, Ended, Stopped, stop, rule, begin}
 use Rattle.model.specs.Rules.{allowed, testsOf, nextOf, onwards, ruleOf, takeOf}

@@ -75,8 +75,8 @@ fn judge(name: &[u8], bytes: isize) {
     let judgement = source_judge::judge(b"AGZ", &plan[..size]);
     let verdict = judgement.verdict;
     match verdict {
-        source::Verdict::Refused(number, place) => refusal(number, place),
-        source::Verdict::Valid(steps) => natural(steps),
+        source_judge::Verdict::Refused(number, place) => refusal(number, place),
+        source_judge::Verdict::Valid(steps) => natural(steps),
     }
     end();
 }

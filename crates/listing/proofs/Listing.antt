@@ -1,6 +1,6 @@
 -- What the parts of the listing make of an accepted file.
 -- Assumes nothing.
-use mathlib.Core.Path.{_≡_, refl, sym, ap, ap₂, subst}
+use mathlib.Core.Path.{_≡_, refl, sym, ap, ap₂, _∙_, subst}
 use Prim.Native.Nat.{ℕ, _+_, _≤_}
 use native.Mathlib.Omega.{arith}
 use mathlib.Core.Bool.{false}
@@ -22,11 +22,12 @@ use Rattle.model.specs.Listing.{stepLines, goalLine, refusedLine, textOf, listi
 use Rattle.model.proofs.JudgedPlans.{plan-read}
 use Rattle.planbytes.specs.Counted.{countOf}
 use Rattle.source.specs.Judged.{AcceptedWith}
-use Rattle.source.proofs.Judging.{task-of, accepted-task, steps-of}
-use Rattle.rows.specs.Ready.{Prepared}
-use Rattle.rows.proofs.Start.{start-shaped, prepared-starts}
-use Rattle.prepared.specs.Made.{Declares}
-use Rattle.listing.specs.Listed.{ReadyAt, Listable, textFrom, actionsOf, Starting}
+use Rattle.source.proofs.Judging.{task-of, accepted-task}
+use Rattle.planbytes.proofs.Steps.{steps-of}
+use Rattle.rows.proofs.Start.{start-shaped}
+use Rattle.source_judge.specs.Running.{AtStart}
+use Rattle.source_judge.proofs.Judging.{stands-at-start}
+use Rattle.listing.specs.Listed.{ReadyAt, Listable, textFrom, ListingWritten, actionsOf}
 
 -- ---- the text
 pub lent-as : {old : List ℕ} {a b : Answer (List ℕ)} {after : List ℕ} {r : Written} → a ≡ b → Lent old a after r → Lent old b after r
@@ -36,18 +37,12 @@ pub text-long : (t : SourceTask) (p : List ℕ) (total : ℕ) (x : State) → le
 text-long t p total x = omega (arith, length-append (stepLines t 0 p x) (goalLine total))
 
 -- ---- an accepted file, whose start is held with the rows of its actions
-module _ {file : List ℕ} {n : ℕ} {lower upper : List ℤ} {m : ℕ} {sizes : List ℕ} {values : List ℤ} {modes : List ℕ} (S : Starting file n lower upper m sizes values modes) where
-  pub starting-declares : Declares file n lower upper m sizes
-  starting-declares = record { starts = values; modes = modes; holds = S .holds }
+module _ {file : List ℕ} {count : ℕ} {marks : List (List ℕ)} {numbers : List (List ℤ)} {n m : ℕ} {values : List ℤ} {modes : List ℕ} (B : AtStart file count marks numbers n m values modes) where
+  start-ready : (t : SourceTask) → readSource file ≡ given t → ReadyAt t count marks numbers n m values modes
+  start-ready t e = record { lower = B .lower; upper = B .upper; sizes = B .sizes; shaped = start-shaped (B .holds t e); ready = B .prepared .ready t e }
 
-  module _ {count : ℕ} {marks : List (List ℕ)} {numbers : List (List ℤ)} (P : Prepared file count n lower upper m sizes marks numbers) where
-    pub starting-ready : (t : SourceTask) → readSource file ≡ given t → ReadyAt t count marks numbers n m values modes
-    starting-ready t e = record { lower = lower; upper = upper; sizes = sizes; shaped = start-shaped (S .holds t e); ready = P .ready t e }
-
-    pub starting-listable : AcceptedWith (verdictOf sourceLimits file) count → {p : List ℕ} {steps : ℕ} → steps ≡ length p → steps ≤ 1_000_000 → Listable p steps count marks numbers n m values modes
-    starting-listable a c l =
-        let e = accepted-task file count a in
-        record { stands = record { lower = lower; upper = upper; sizes = sizes; standing = prepared-starts (S .holds (task-of file count) e) e P }; counted = c; few = l }
+  pub start-listable : AcceptedWith (verdictOf sourceLimits file) count → {p : List ℕ} {steps : ℕ} → steps ≡ length p → steps ≤ 1_000_000 → Listable p steps count marks numbers n m values modes
+  start-listable a c l = record { stands = stands-at-start file count marks numbers n m values modes B a; counted = c; few = l }
 
 -- ---- a refusal of the plan's price is the listing's
 then-refused : {A B X : Type 0} {number place : ℕ} (o : Answer A) (k : A → Answer B) (l : A → Answer X) → ((x : A) → k x ≡ refused number place → l x ≡ refused number place) → then o k ≡ refused number place → then o l ≡ refused number place
@@ -91,7 +86,7 @@ module _ (file plan : List ℕ) (total : ℕ) (e : pricePlan file plan ≡ given
           let s = steps-of plan (length p) n in
           (s .0, omega (arith, s .1, plan-read plan p bytes h .1))
 
-  pub valid-listing : Bytes plan → (t : SourceTask) → readSource file ≡ given t → textFrom t (planNumbers plan) total (sourceStart t) ≡ listing file plan
+  valid-listing : Bytes plan → (t : SourceTask) → readSource file ≡ given t → textFrom t (planNumbers plan) total (sourceStart t) ≡ listing file plan
   unfolding listing
   valid-listing bytes t q =
       let p = planNumbers plan in
@@ -100,3 +95,11 @@ module _ (file plan : List ℕ) (total : ℕ) (e : pricePlan file plan ≡ given
       let k : then (judgeSourceTask t p) (λ v. priceTask t false p) ≡ given total = rw (q, r) at e in
       let l : then (judgeSourceTask t p) (λ v. then (priceTask t false p) f) ≡ f total = then-given (judgeSourceTask t p) _ _ (λ v c. ap (λ (o : Answer ℕ). then o f) c) k in
       rw (q, r, l)
+
+  -- the text written from the file's start on is the listing
+  module _ (bytes : Bytes plan) {count : ℕ} {marks : List (List ℕ)} {numbers : List (List ℤ)} {n m : ℕ} {values : List ℤ} {modes : List ℕ} (B : AtStart file count marks numbers n m values modes) where
+    pub start-listing : AcceptedWith (verdictOf sourceLimits file) count → {old after : List ℕ} {r : Written} → ListingWritten (planNumbers plan) count marks numbers n m values modes total old after r → Lent old (given (listing file plan)) after r
+    start-listing a W =
+        let t = task-of file count in
+        let q = accepted-task file count a in
+        lent-as (ap given (ap (textFrom t (planNumbers plan) total) (B .holds t q .startIs) ∙ valid-listing bytes t q)) (W .written t (start-ready B t q))

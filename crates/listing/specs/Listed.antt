@@ -11,12 +11,10 @@ use Rattle.lists.specs.Written.{Lent}
 use Rattle.lists.specs.declared.Written.{Written}
 use Rattle.model.specs.Tasks.{SourceTask, State}
 use Rattle.model.specs.Reading.{Verdict, Accepted, Rejected}
-use Rattle.model.specs.Decoding.{readSource}
 use Rattle.model.specs.Steps.{integerAt}
 use Rattle.model.specs.Expansion.{priceOfEffect}
 use Rattle.model.specs.Judging.{declaredPart}
 use Rattle.model.specs.Listing.{header, stepLines, goalLine}
-use Rattle.declarations.specs.Holding.{HoldsSource}
 use Rattle.source.specs.Step.{state, Shaped}
 use Rattle.rows.specs.Row.{effectAt, Stepped}
 use Rattle.rows.specs.Ready.{Ready}
@@ -80,7 +78,3 @@ pub record ListingWritten (p : List ℕ) (count : ℕ) (marks : List (List ℕ))
 abbrev pub actionsOf : Verdict → ℕ
 actionsOf (Accepted variables modes actions) = actions
 actionsOf (Rejected number place) = 0
-
--- it declares n variables with these bounds, m modes of these sizes, and the start in these arrays
-pub record Starting (file : List ℕ) (n : ℕ) (lower upper : List ℤ) (m : ℕ) (sizes : List ℕ) (values : List ℤ) (modes : List ℕ) : Type 0 where
-  pub holds : (t : SourceTask) → readSource file ≡ given t → HoldsSource t (record { variables = n; modes = m }) lower upper values sizes modes

@@ -6,6 +6,7 @@ use rows::MARKS;
 use rows::NUMBERS;
 use source::MODES;
 use source::VARIABLES;
+use source_judge::ACTIONS;
 ghost use mathlib.Core.Path.{_≡_};
 ghost use Prim.Native.Nat.{_≤_};
 ghost use lib.ListN.{length, take};
@@ -19,13 +20,9 @@ ghost use Rattle.model.specs.Listing.{fieldsOf, goalLine, refusedLine, listing}
 ghost use Rattle.model.specs.Judging.{pricePlan};
 ghost use Rattle.model.specs.Plans.{planNumbers};
 ghost use Rattle.model.specs.Reading.{verdictOf};
-ghost use Rattle.source.specs.Judged.{AcceptedWith};
 ghost use Rattle.rows.specs.Row.{Steady, Usable};
 ghost use Rattle.listing.specs.Lines.{field, lineOf};
-ghost use Rattle.listing.specs.Listed.{Turned, Listable, LinesLong, LinesRoom, LinesPut, ListingRoom, ListingPut, ListingWritten, actionsOf, Starting};
-
-// The most actions that a source file has.
-const ACTIONS: usize = 32;
+ghost use Rattle.listing.specs.Listed.{Turned, Listable, LinesLong, LinesRoom, LinesPut, ListingRoom, ListingPut, ListingWritten, actionsOf};
 
 // A text, byte for byte.
 fn put_text(out: &mut [u8], at: usize, text: &[u8]) -> usize
@@ -225,6 +222,36 @@ fn lines_length(
     sum
 }
 
+// The same, from a state that is left as it is.
+fn measure_lines(
+    plan: &[u8],
+    steps: usize,
+    count: usize,
+    marks: &[[u16; MARKS]],
+    numbers: &[[i64; NUMBERS]],
+    n: usize,
+    m: usize,
+    values: &[i64; VARIABLES],
+    modes: &[u16; MODES],
+) -> usize
+    requires { ⌜ Listable (planNumbers (now plan)) steps count (now marks) (now numbers) n m (now values) (now modes) ⌝ }
+    ensures { λ r. ⌜ LinesLong (planNumbers (now (plan .entry))) count (now (marks .entry)) (now (numbers .entry)) n m (now (values .entry)) (now (modes .entry)) r ⌝ }
+{
+    let mut last_values = *values;
+    let mut last_modes = *modes;
+    lines_length(
+        plan,
+        steps,
+        count,
+        marks,
+        numbers,
+        n,
+        m,
+        &mut last_values,
+        &mut last_modes,
+    )
+}
+
 // The lines of the steps, from a lent state on.
 fn put_lines(
     out: &mut [u8],
@@ -312,19 +339,7 @@ fn write_listing(
     requires { ⌜ Listable (planNumbers (now plan)) steps count (now marks) (now numbers) n m (now values) (now modes) ⌝ }
     ensures { λ r. ⌜ ListingWritten (planNumbers (now (plan .entry))) count (now (marks .entry)) (now (numbers .entry)) n m (now (values .entry)) (now (modes .entry)) total (now (out .entry)) (now (out .exit)) r ⌝ }
 {
-    let mut counted_values = *values;
-    let mut counted_modes = *modes;
-    let lines = lines_length(
-        plan,
-        steps,
-        count,
-        marks,
-        numbers,
-        n,
-        m,
-        &mut counted_values,
-        &mut counted_modes,
-    );
+    let lines = measure_lines(plan, steps, count, marks, numbers, n, m, values, modes);
     let need = 24 + lines + goal_line_length(total);
     if out.len() < need {
         return lists::Written::Refused(8, need as u64);
@@ -355,37 +370,26 @@ fn count_actions(file: &[u8]) -> usize
     }
 }
 
-// Lists a valid plan, whose price is known, from the start of an accepted file's task, which is lent with its bounds and sizes.
-fn list_from(
-    file: &[u8],
-    count: usize,
-    plan: &[u8],
-    total: u64,
-    out: &mut [u8],
-    n: usize,
-    lower: &[i64; VARIABLES],
-    upper: &[i64; VARIABLES],
-    m: usize,
-    sizes: &[u16; MODES],
-    values: &mut [i64; VARIABLES],
-    modes: &mut [u16; MODES],
-) -> lists::Written
-    requires { ⌜ (pricePlan (now file) (now plan) ≡ given total) × AcceptedWith (verdictOf sourceLimits (now file)) count × Starting (now file) n (now lower) (now upper) m (now sizes) (now values) (now modes) ⌝ }
+// Lists a valid plan, whose price is known.
+fn list_valid(file: &[u8], plan: &[u8], total: u64, out: &mut [u8]) -> lists::Written
+    requires { ⌜ pricePlan (now file) (now plan) ≡ given total ⌝ }
     ensures { λ r. ⌜ Lent (now (out .entry)) (given (listing (now (file .entry)) (now (plan .entry)))) (now (out .exit)) r ⌝ }
 {
+    let count = count_actions(file);
     let mut marks = [[0u16; MARKS]; ACTIONS];
     let mut numbers = [[0i64; NUMBERS]; ACTIONS];
-    prepared::prepare(
+    let mut values = [0i64; VARIABLES];
+    let mut modes = [0u16; MODES];
+    let declared = source_judge::read_task(
         file,
         count,
-        n,
-        lower,
-        upper,
-        m,
-        sizes,
         &mut marks,
         &mut numbers,
+        &mut values,
+        &mut modes,
     );
+    let n = declared.variables;
+    let m = declared.modes;
     write_listing(
         out,
         plan,
@@ -395,44 +399,9 @@ fn list_from(
         &numbers,
         n,
         m,
-        values,
-        modes,
-        total,
-    )
-}
-
-// Lists a valid plan, whose price is known.
-fn list_valid(file: &[u8], plan: &[u8], total: u64, out: &mut [u8]) -> lists::Written
-    requires { ⌜ pricePlan (now file) (now plan) ≡ given total ⌝ }
-    ensures { λ r. ⌜ Lent (now (out .entry)) (given (listing (now (file .entry)) (now (plan .entry)))) (now (out .exit)) r ⌝ }
-{
-    let count = count_actions(file);
-    let mut lower = [0i64; VARIABLES];
-    let mut upper = [0i64; VARIABLES];
-    let mut values = [0i64; VARIABLES];
-    let mut sizes = [0u16; MODES];
-    let mut modes = [0u16; MODES];
-    let declared = declarations::read_source(
-        file,
-        &mut lower,
-        &mut upper,
-        &mut values,
-        &mut sizes,
-        &mut modes,
-    );
-    list_from(
-        file,
-        count,
-        plan,
-        total,
-        out,
-        declared.variables,
-        &lower,
-        &upper,
-        declared.modes,
-        &sizes,
         &mut values,
         &mut modes,
+        total,
     )
 }
 

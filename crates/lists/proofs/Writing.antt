@@ -14,7 +14,7 @@ use Rattle.lists.specs.Writing.{splice, Room, Wrote}
 
 -- ---- what a splice is
 
-length-splice : (xs out : List ℕ) (at : ℕ) → length (splice out at xs) ≡ length out
+pub length-splice : (xs out : List ℕ) (at : ℕ) → length (splice out at xs) ≡ length out
 length-splice [] out at = refl
 length-splice (x ∷ xs) out at = length-splice xs (set out at x) (at + 1) ∙ length-set out at x
 

@@ -1,2 +1,3 @@
 pub mod Agreeing
 pub mod Halves
+pub mod Steps

@@ -1,32 +1,26 @@
 -- What is read of an accepted file is its task, and its tables are those of the task's lowering.
 -- Assumes nothing.
-use mathlib.Core.Path.{_≡_, refl, sym, ap, _∙_, subst}
-use Prim.Native.Nat.{ℕ, _%_, _≤_, _<_}
+use mathlib.Core.Path.{_≡_, sym, ap, _∙_, subst}
+use Prim.Native.Nat.{ℕ, _≤_, _<_}
 use native.Mathlib.Omega.{arith}
-use mathlib.Core.Bool.{Bool, true, false, cond}
 use mathlib.Core.List.{List}
-use lib.Dec.{eqb, ltb}
 use lib.ListN.{length, getD}
 use lib.IntN.{ℤ}
-use borrow.Author.Tests.{ltb-false}
 use Rattle.lists.specs.Answer.{Answer, given, refused, then}
 use Rattle.lists.specs.declared.Written.{Written}
 use Rattle.lists.specs.declared.Written.the-variants.{Refused}
 use Rattle.lists.specs.Written.{Lent}
 use Rattle.lists.proofs.Lent.{refusal}
-use Rattle.lists.proofs.Numbers.{length-halves}
 use Rattle.model.specs.Tasks.{SourceTask, State}
 use Rattle.model.specs.Limits.{sourceLimits}
 use Rattle.model.specs.Reading.{Verdict as FileVerdict, Rejected, verdictOf}
 use Rattle.model.specs.Steps.{lowerBounds, upperBounds, sourceStart}
 use Rattle.model.specs.Stages.{opening}
 use Rattle.model.specs.Decoding.{onVerdict, readSource}
-use Rattle.model.specs.Plans.{planNumbers, readPlan}
+use Rattle.model.specs.Plans.{readPlan}
 use Rattle.model.specs.Judging.{projectBytes}
 use Rattle.model.specs.Following.{projectFrom}
-use Rattle.model.proofs.Answers.{Gives, given-injective}
 use Rattle.model.proofs.Following.{projecting-follows}
-use Rattle.planbytes.specs.Counted.{countOf}
 use Rattle.actions.specs.declared.Goal.{Goal}
 use Rattle.source.specs.Judged.{AcceptedWith}
 use Rattle.source.proofs.Judging.{task-of, accepted-task}
@@ -76,16 +70,6 @@ module _ {file : List ℕ} {count : ℕ} {marks : List (List ℕ)} {numbers : Li
       -- from there the plan projects as from the task's start
       pub from-start : {old after : List ℕ} {r : Written} → Projected q marks numbers n m total sources values modes goal old after r → Lent old (asBytes (projectFrom t (length q) 0 q (sourceStart t))) after r
       from-start {old} {after} {r} P = subst (λ (x : State). Lent old (asBytes (projectFrom t (length q) 0 q x)) after r) (B .holds t is .startIs) (P .meets t placed a)
-
--- ---- the plan
-pub few-steps : (plan : List ℕ) (n : ℕ) → given n ≡ countOf plan → n ≤ 1_000_000
-unfolding readPlan
-few-steps plan n = go (eqb (length plan % 2) 1) (ltb 2_000_000 (length plan)) refl
-  where
-    go : (a b : Bool) → ltb 2_000_000 (length plan) ≡ b → given n ≡ then (cond a (refused 10 (length plan)) (cond b (refused 10 (length plan)) (given (planNumbers plan)))) (λ p. given (length p)) → n ≤ 1_000_000
-    go true b r e = absurd (subst Gives e tt)
-    go false true r e = absurd (subst Gives e tt)
-    go false false r e = omega (arith, given-injective e, length-halves plan, ltb-false 2_000_000 (length plan) r)
 
 -- ---- the three ways of projecting
 module _ (file plan old : List ℕ) where

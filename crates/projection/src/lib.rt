@@ -1,11 +1,12 @@
 // Projecting: the source plan that a restricted plan of the lowering stands for.
 //
-// The file is read here, and its actions made rows; the plan is followed by them in crate following.
+// The file is read and its actions made rows in crate source_judge; the plan is followed by them in crate following.
 use lists::Written;
 use rows::MARKS;
 use rows::NUMBERS;
 use source::MODES;
 use source::VARIABLES;
+use source_judge::ACTIONS;
 ghost use mathlib.Core.Path.{_≡_};
 ghost use Prim.Native.Nat.{_≤_};
 ghost use lib.ListN.{length};
@@ -17,9 +18,6 @@ ghost use Rattle.model.specs.Judging.{projectBytes};
 ghost use Rattle.source.specs.Judged.{AcceptedWith};
 ghost use Rattle.source_judge.specs.Running.{AtStart};
 ghost use Rattle.projection.specs.Projecting.{FileProjected};
-
-// The most actions that a source task has.
-const ACTIONS: usize = 32;
 
 // Projects a plan of so many steps from the start of an accepted file's task, which is lent with the rows of its actions.
 fn project_start(
@@ -64,34 +62,20 @@ fn project_steps(file: &[u8], count: usize, plan: &[u8], steps: usize, out: &mut
     requires { ⌜ AcceptedWith (verdictOf sourceLimits (now file)) count × (steps ≡ length (planNumbers (now plan))) × (steps ≤ 1_000_000) ⌝ }
     ensures { λ r. ⌜ FileProjected (now (file .entry)) (planNumbers (now (plan .entry))) (now (out .entry)) (now (out .exit)) r ⌝ }
 {
-    let mut lower = [0i64; VARIABLES];
-    let mut upper = [0i64; VARIABLES];
+    let mut marks = [[0u16; MARKS]; ACTIONS];
+    let mut numbers = [[0i64; NUMBERS]; ACTIONS];
     let mut values = [0i64; VARIABLES];
-    let mut sizes = [0u16; MODES];
     let mut modes = [0u16; MODES];
-    let declared = declarations::read_source(
+    let declared = source_judge::read_task(
         file,
-        &mut lower,
-        &mut upper,
+        count,
+        &mut marks,
+        &mut numbers,
         &mut values,
-        &mut sizes,
         &mut modes,
     );
     let n = declared.variables;
     let m = declared.modes;
-    let mut marks = [[0u16; MARKS]; ACTIONS];
-    let mut numbers = [[0i64; NUMBERS]; ACTIONS];
-    prepared::prepare(
-        file,
-        count,
-        n,
-        &lower,
-        &upper,
-        m,
-        &sizes,
-        &mut marks,
-        &mut numbers,
-    );
     project_start(
         file,
         count,

@@ -2,22 +2,22 @@
 -- what the definition answers.
 -- Assumes nothing.
 use mathlib.Core.Path.{_≡_, refl, sym, ap, ap₂, _∙_, subst}
-use Prim.Native.Nat.{ℕ, zero, suc, _+_, _*_, _%_, _≤_, _<_}
+use Prim.Native.Nat.{ℕ, zero, suc, _+_, _≤_, _<_}
 use native.Mathlib.Omega.{arith}
 use mathlib.Core.Bool.{Bool, true, false, _&&_, cond}
 use mathlib.Core.List.{List, [], _∷_, _++_}
-use lib.Dec.{eqb, ltb}
-use lib.ListN.{length, getD, take, drop, replicate, length-replicate, take-append-drop, set, length-set}
+use lib.Dec.{ltb}
+use lib.ListN.{length, getD, take, drop, replicate, length-replicate, take-append-drop}
 use lib.Seq.{take-take, length-take-le}
 use lib.IntN.{ℤ, pos, natAbs}
-use borrow.Author.Tests.{le-leb, lt-ltb, ltb-false}
+use borrow.Author.Tests.{le-leb, lt-ltb}
 use Rattle.integers.specs.All.{All}
 use Rattle.integers.specs.Relation.{withinLimit}
 use Rattle.integers.specs.Numbers.{Bytes}
 use Rattle.lists.specs.Answer.{Answer, given, refused, then}
 use Rattle.lists.specs.Writing.{splice}
 use Rattle.lists.proofs.Loops.{and-left, and-right}
-use Rattle.lists.proofs.Numbers.{length-halves}
+use Rattle.lists.proofs.Writing.{length-splice}
 use Rattle.model.specs.Tasks.{NumericCondition, RestrictedTask, State}
 use Rattle.model.specs.Limits.{restrictedLimits}
 use Rattle.model.specs.Reading.{Accepted as accepted, Rejected as rejected, verdictOf}
@@ -30,6 +30,7 @@ use Rattle.model.specs.Judging.{judge, declaredPart, judgeRestrictedTask, judge
 use Rattle.model.proofs.AcceptedOk.{accepted-restricted-ok}
 use Rattle.model.proofs.ReadingLaws.{length-each}
 use Rattle.planbytes.specs.Counted.{countOf}
+use Rattle.planbytes.proofs.Steps.{steps-of, few-steps, no-steps, halves-long}
 use Rattle.declarations.specs.declared.Declared.{Declared}
 use Rattle.declarations.specs.Stored.{RestrictedStored}
 use Rattle.declarations.specs.Holding.{RestrictedRoom, HoldsRestricted}
@@ -119,10 +120,6 @@ module _ (file : List ℕ) (is : readRestricted file ≡ given (taskIn file)) {r
   }
 
 -- ---- the places of the actions, in a table with room for them
-length-spliced : (xs out : List ℕ) (at : ℕ) → length (splice out at xs) ≡ length out
-length-spliced [] out at = refl
-length-spliced (x ∷ xs) out at = length-spliced xs (set out at x) (at + 1) ∙ length-set out at x
-
 module _ {file plan : List ℕ} {count steps : ℕ} (input : AcceptedPlan file plan count steps) where
   pub few : count ≤ 16384
   few = omega (arith, accepted-restricted-ok file (taskIn file) (input .accepted) .actionsFew, input .countIs)
@@ -138,7 +135,7 @@ module _ {file plan : List ℕ} {count steps : ℕ} (input : AcceptedPlan file p
   }
     where
       long : length places ≡ room
-      long = ap length e ∙ length-spliced (edgesOf file) (replicate room 0) 0 ∙ length-replicate {A = ℕ} room 0
+      long = ap length e ∙ length-splice (edgesOf file) (replicate room 0) 0 ∙ length-replicate {A = ℕ} room 0
 
       edges : length (edgesOf file) ≡ suc (length (taskIn file .actions))
       edges = restricted-edges file (input .bytes) (taskIn file) (input .accepted)
@@ -210,41 +207,6 @@ module _ {file plan : List ℕ} {count steps : ℕ} (input : AcceptedPlan file p
         x : modes′ ≡ take (length (taskIn file .modes)) modes′ ++ drop (length (take (length (taskIn file .modes)) modes′)) (replicate 8 0)
         x = sym (take-append-drop (length (taskIn file .modes)) modes′) ∙ ap (λ (l : List ℕ). take (length (taskIn file .modes)) modes′ ++ l) (C .rest ∙ ap (λ (k : ℕ). drop k (replicate 8 0)) (sym few-modes))
 
--- ---- a plan's bytes
-module _ (plan : List ℕ) where
-  read-as : Answer (List ℕ) → Type 0
-  read-as a = (n : ℕ) → given n ≡ then a (λ p. given (length p)) → (a ≡ given (planNumbers plan)) × (n ≡ length (planNumbers plan))
-
-  pub plan-read : (n : ℕ) → given n ≡ countOf plan → (readPlan plan ≡ given (planNumbers plan)) × (n ≡ length (planNumbers plan))
-  unfolding readPlan
-  plan-read n e = go (eqb (length plan % 2) 1) (ltb 2_000_000 (length plan)) e
-    where
-      go : (b c : Bool) → given n ≡ then (cond b (refused 10 (length plan)) (cond c (refused 10 (length plan)) (given (planNumbers plan)))) (λ p. given (length p))
-          → (cond b (refused 10 (length plan)) (cond c (refused 10 (length plan)) (given (planNumbers plan))) ≡ given (planNumbers plan)) × (n ≡ length (planNumbers plan))
-      go true c e = let z : _≡_ {A = ℕ} 0 1 = cc in absurd (omega arith)
-      go false true e = let z : _≡_ {A = ℕ} 0 1 = cc in absurd (omega arith)
-      go false false e = (refl, cc)
-
-  -- at most 1,000,000 steps
-  pub plan-few : (n : ℕ) → given n ≡ countOf plan → n ≤ 1000000
-  unfolding readPlan
-  plan-few n e = go (eqb (length plan % 2) 1) (ltb 2_000_000 (length plan)) refl e
-    where
-      go : (b c : Bool) → ltb 2_000_000 (length plan) ≡ c → given n ≡ then (cond b (refused 10 (length plan)) (cond c (refused 10 (length plan)) (given (planNumbers plan)))) (λ p. given (length p)) → n ≤ 1000000
-      go true c q e = let z : _≡_ {A = ℕ} 0 1 = cc in absurd (omega arith)
-      go false true q e = let z : _≡_ {A = ℕ} 0 1 = cc in absurd (omega arith)
-      go false false q e = let s : n ≡ length (planNumbers plan) = cc in omega (arith, ltb-false 2_000_000 (length plan) q, length-halves plan)
-
-  pub plan-refused : {number place : ℕ} → refused number place ≡ countOf plan → readPlan plan ≡ refused number place
-  plan-refused {number} {place} e = go (readPlan plan) e
-    where
-      go : (a : Answer (List ℕ)) → refused number place ≡ then a (λ p. given (length p)) → a ≡ refused number place
-      go (given p) e = let z : _≡_ {A = ℕ} 0 1 = cc in absurd (omega arith)
-      go (refused x y) e = cc
-
-  pub plan-long : 2 * length (planNumbers plan) ≤ length plan
-  plan-long = omega (arith, length-halves plan)
-
 -- ---- judging from bytes: the file's refusals, those of the plan's bytes, then the judge
 module _ (file plan : List ℕ) where
   abbrev onTask : RestrictedTask → Answer (ℕ × State)
@@ -258,17 +220,17 @@ module _ (file plan : List ℕ) where
     on-task = ap (λ (a : Answer RestrictedTask). then a onTask) (sym (file-accepted file e))
 
     pub judged-no-plan : {number place : ℕ} → refused number place ≡ countOf plan → refused number place ≡ judgeRestricted file plan
-    judged-no-plan c = ap (λ (p : Answer (List ℕ)). then p (judgeRestrictedTask (taskIn file))) (sym (plan-refused plan c)) ∙ on-task
+    judged-no-plan {number} {place} c = ap (λ (p : Answer (List ℕ)). then p (judgeRestrictedTask (taskIn file))) (sym (no-steps plan number place c)) ∙ on-task
 
     pub judged-task : {steps : ℕ} → given steps ≡ countOf plan → judgeRestrictedTask (taskIn file) (planNumbers plan) ≡ judgeRestricted file plan
-    judged-task {steps} c = ap (λ (p : Answer (List ℕ)). then p (judgeRestrictedTask (taskIn file))) (sym (plan-read plan steps c .0)) ∙ on-task
+    judged-task {steps} c = ap (λ (p : Answer (List ℕ)). then p (judgeRestrictedTask (taskIn file))) (sym (steps-of plan steps c .0)) ∙ on-task
 
     pub accepted-plan : {steps : ℕ} → Bytes file → given steps ≡ countOf plan → AcceptedPlan file plan a steps
     accepted-plan {steps} bytes c = record {
       bytes = bytes;
       accepted = file-accepted file e;
       countIs = actions-counted file bytes e;
-      stepsAre = plan-read plan steps c .1;
-      long = omega (arith, plan-read plan steps c .1, plan-long plan);
-      few = plan-few plan steps c;
+      stepsAre = steps-of plan steps c .1;
+      long = omega (arith, steps-of plan steps c .1, halves-long plan);
+      few = few-steps plan steps c;
     }

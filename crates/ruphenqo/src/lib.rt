@@ -13,7 +13,7 @@ ghost use Rattle.tasks.specs.Views.{verdictIs};
 ghost use Rattle.actions.specs.Places.{placedIs};
 ghost use Rattle.prices.specs.Answers.{pricedIs};
 ghost use Rattle.restricted_judge.specs.Judging.{zeros};
-ghost use Rattle.source.specs.Judged.{zeros as sourceZeros};
+ghost use Rattle.source_judge.specs.Answers.{zeros as sourceZeros};
 ghost use Rattle.ruphenqo.specs.Told.{Told, countsOf, itself, stateOf, endOver};
 
 fn tell_counts(verdict: tasks::Verdict, counts: &mut [u64; 3], place: &mut u64) -> u32
@@ -123,11 +123,11 @@ pub extern "C" fn ruphenqo_judge_source(
     let verdict = judgement.verdict;
     let state = judgement.state;
     match verdict {
-        source::Verdict::Refused(number, at) => {
+        source_judge::Verdict::Refused(number, at) => {
             *place = at;
             number as u32
         }
-        source::Verdict::Valid(count) => {
+        source_judge::Verdict::Valid(count) => {
             *place = 0;
             *steps = count;
             let end_values = state.values;

@@ -2,7 +2,6 @@ pub mod Alone
 pub mod Judging
 pub mod Numbers
 pub mod Rows
-pub mod Running
 pub mod Sound
 pub mod Steps
 pub mod Trying

@@ -22,7 +22,7 @@ ghost use Rattle.lists.specs.Loops.{every};
 ghost use Rattle.model.specs.Steps.{integerAt, naturalAt, conditionsHold, modesHold, setAll, linear, result, withinBounds, goalHolds};
 ghost use Rattle.source.specs.Parts.{conditionsIn, modeConditionsIn, modeEffectsIn, termsIn, effectIn, small, divides, termFits, effectFits, outcomeIs, valuesBetween, modesBelow};
 ghost use Rattle.source.specs.Step.{state, setAt, settled, Shaped, appliesBefore, Tried, actionIs, wholeIs, steppedIs, stepped};
-ghost use Rattle.source.specs.Judged.{goalModesIn, goalConditionsIn, AcceptedWith, lastVerdict, judgementIs, judgementOf, withState};
+ghost use Rattle.source.specs.Judged.{goalModesIn, goalConditionsIn, AcceptedWith};
 ghost use Rattle.source.specs.Alone.{stepVerdict, stepAnswerIs, returned, StepTaken};
 ghost use Rattle.model.specs.Limits.{sourceLimits};
 ghost use Rattle.model.specs.Reading.{verdictOf};
@@ -570,57 +570,6 @@ pub fn goal_holds(
         &goal.condition_relations,
         &goal.condition_constants,
     )
-}
-
-// What judging a plan answers: the count of its steps, or a refusal.
-pub enum Verdict {
-    Valid(u64),
-    Refused(u8, u64),
-}
-
-// With it the end state, in front of zeros; on a refusal, zeros.
-pub struct Judgement {
-    pub verdict: Verdict,
-    pub state: State,
-}
-
-// The judgement of a plan that is refused.
-pub fn refuse(number: u8, place: u64) -> Judgement
-    ensures { λ r. ⌜ judgementIs r ≡ judgementOf (refused number place) ⌝ }
-{
-    let values = [0i64; VARIABLES];
-    let modes = [0u16; MODES];
-    Judgement {
-        verdict: Verdict::Refused(number, place),
-        state: State { values, modes },
-    }
-}
-
-// The judgement of a plan with a verdict, over the arrays at its end.
-pub fn conclude(verdict: Verdict, values: [i64; VARIABLES], modes: [u16; MODES]) -> Judgement
-    ensures { λ r. ⌜ judgementIs r ≡ withState verdict (state values modes) ⌝ }
-{
-    match verdict {
-        Verdict::Refused(number, place) => refuse(number, place),
-        Verdict::Valid(steps) => Judgement {
-            verdict: Verdict::Valid(steps),
-            state: State { values, modes },
-        },
-    }
-}
-
-pub fn last_verdict(progress: Progress, met: bool, steps: usize) -> Verdict
-    ensures { λ r. ⌜ r ≡ lastVerdict progress met steps ⌝ }
-{
-    match progress {
-        Progress::Stopped(number, place) => Verdict::Refused(number, place),
-        Progress::Through => {
-            if met {
-                return Verdict::Valid(steps as u64);
-            }
-            Verdict::Refused(13, steps as u64)
-        }
-    }
 }
 
 // What a step taken by itself answers: it applied, or a refusal.

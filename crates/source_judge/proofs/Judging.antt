@@ -1,25 +1,45 @@
--- What the steps of a plan and the goal make of an accepted file.
+-- What the steps of a plan and the goal make of an accepted file, and how the judge answers from bytes.
 -- Assumes nothing.
-use mathlib.Core.Path.{_≡_, sym, ap, ap₂, _∙_}
+use mathlib.Core.Path.{_≡_, refl, sym, ap, ap₂, _∙_, subst}
 use Prim.Native.Nat.{ℕ}
-use mathlib.Core.Bool.{Bool, cond}
-use mathlib.Core.List.{List}
-use lib.ListN.{length}
-use lib.IntN.{ℤ}
-use Rattle.lists.specs.Answer.{given, refused}
-use Rattle.model.specs.Tasks.{SourceTask}
+use native.Mathlib.Omega.{arith}
+use mathlib.Core.Bool.{Bool, true, false, cond}
+use mathlib.Core.List.{List, _++_}
+use lib.ListN.{length, take, drop, replicate, take-append-drop}
+use lib.Seq.{length-take-le}
+use lib.IntN.{ℤ, pos}
+use Rattle.lists.specs.Answer.{Answer, given, refused, then}
+use Rattle.model.specs.Tasks.{SourceTask, State}
 use Rattle.model.specs.Limits.{sourceLimits}
-use Rattle.model.specs.Reading.{verdictOf}
-use Rattle.model.specs.Decoding.{readSource}
-use Rattle.model.specs.Steps.{stepSource, sourceGoalHolds}
-use Rattle.model.specs.Judging.{judge, declaredPart, judgeSourceTask}
+use Rattle.model.specs.Reading.{Verdict as FileVerdict, Rejected, verdictOf}
+use Rattle.model.specs.Decoding.{onVerdict, readSource}
+use Rattle.model.specs.Steps.{sourceGoalHolds, stepSource}
+use Rattle.model.specs.Judging.{declaredPart, withRest, judgeSourceTask, judgeSource, judge}
+use Rattle.model.specs.Plans.{readPlan}
 use Rattle.source.specs.declared.Progress.{Progress}
-use Rattle.source.specs.Step.{state}
-use Rattle.source.specs.Judged.{onProgress, AcceptedWith, lastVerdict, judgementOf, withState}
+use Rattle.source.specs.declared.Progress.the-variants.{Through, Stopped}
+use Rattle.source_judge.specs.declared.Judgement.{Judgement}
+use Rattle.source.specs.Step.{state, Shaped, Kept}
+use Rattle.source.specs.Judged.{onProgress, AcceptedWith}
 use Rattle.source.proofs.Trying.{kept-then}
-use Rattle.source.proofs.Judging.{task-of, accepted-task, in-front, last-is}
+use Rattle.source.proofs.Judging.{task-of, accepted-task}
 use Rattle.rows.proofs.Start.{start-shaped, prepared-starts}
 use Rattle.source_judge.specs.Running.{Stands, Taken, AtStart}
+use Rattle.source_judge.specs.Answers.{lastVerdict, zeros, judgementIs, judgementOf, withState, StepsJudged}
+
+-- the declared part in front of zeros
+pub in-front : {n m : ℕ} {values : List ℤ} {modes sizes : List ℕ} → Shaped n m values modes sizes → Kept n m (replicate 8 (pos 0)) (replicate 4 0) values modes
+    → state values modes ≡ withRest (length (take n values)) (length (take m modes)) zeros (declaredPart n m (state values modes))
+in-front {n} {m} {values} {modes} h k = ap₂ state
+    (sym (take-append-drop n values) ∙ ap (λ (l : List ℤ). take n values ++ l) (k .valuesKept ∙ ap (λ (i : ℕ). drop i (replicate 8 (pos 0))) (sym (length-take-le n values (omega (arith, h .valuesLong, h .variablesFew))))))
+    (sym (take-append-drop m modes) ∙ ap (λ (l : List ℕ). take m modes ++ l) (k .modesKept ∙ ap (λ (i : ℕ). drop i (replicate 4 0)) (sym (length-take-le m modes (omega (arith, h .modesLong, h .modesFew))))))
+
+-- ---- the verdict
+pub last-is : (pr : Progress) (met : Bool) (steps : ℕ) (x y : State) → x ≡ withRest (length (y .values)) (length (y .modes)) zeros y
+    → withState (lastVerdict pr met steps) x ≡ judgementOf (onProgress pr (cond met (given (steps, y)) (refused 13 steps)))
+last-is Through true steps x y e = ap (λ (z : State). (given steps, z)) e
+last-is Through false steps x y e = refl
+last-is (Stopped number place) met steps x y e = refl
 
 module _ (file : List ℕ) (count : ℕ) (marks : List (List ℕ)) (numbers : List (List ℤ)) (n m : ℕ) (values : List ℤ) (modes : List ℕ) (B : AtStart file count marks numbers n m values modes) where
   pub stands-at-start : AcceptedWith (verdictOf sourceLimits file) count → Stands count marks numbers n m values modes
@@ -38,3 +58,21 @@ module _ (file : List ℕ) (count : ℕ) (marks : List (List ℕ)) (numbers : Li
         last-is pr met steps (state values′ modes′) x (in-front (R .shaped) (kept-then (B .kept) (R .kept)))
         ∙ ap₂ (λ (b : Bool) (j : ℕ). judgementOf (onProgress pr (cond b (given (j, x)) (refused 13 j)))) g s
         ∙ ap judgementOf (sym (R .judges t (B .prepared .ready t is) (sourceGoalHolds t)) ∙ ap (judge (length (t .actions)) (stepSource t) (sourceGoalHolds t) 0 p) (H .startIs))
+
+-- ---- the three ways of judging
+abbrev judgeSourceOf : Answer SourceTask → Answer (List ℕ) → Answer (ℕ × State)
+judgeSourceOf o q = then o (λ t. then q (judgeSourceTask t))
+
+module _ (file plan : List ℕ) where
+  pub when-rejected : (number place : ℕ) → Rejected number place ≡ verdictOf sourceLimits file → refused number place ≡ judgeSource file plan
+  when-rejected number place e = subst (λ (v : FileVerdict). refused number place ≡ judgeSourceOf (onVerdict v (task-of file 0)) (readPlan plan)) e refl
+
+  module _ (count : ℕ) (h : AcceptedWith (verdictOf sourceLimits file) count) where
+    read-as : (q : Answer (List ℕ)) → readPlan plan ≡ q → judgeSourceOf (given (task-of file count)) q ≡ judgeSource file plan
+    read-as q e = ap₂ judgeSourceOf (sym (accepted-task file count h)) (sym e)
+
+    pub when-no-plan : (number place : ℕ) → readPlan plan ≡ refused number place → refused number place ≡ judgeSource file plan
+    when-no-plan number place e = read-as (refused number place) e
+
+    pub when-judged : (p : List ℕ) (j : Judgement) → readPlan plan ≡ given p → StepsJudged file p j → judgementIs j ≡ judgementOf (judgeSource file plan)
+    when-judged p j e s = s .meets (task-of file count) (accepted-task file count h) ∙ ap judgementOf (read-as (given p) e)

@@ -4,22 +4,77 @@
 use declarations::Declared;
 use rows::MARKS;
 use rows::NUMBERS;
-use source::Judgement;
 use source::MODES;
 use source::Progress;
+use source::State;
 use source::VARIABLES;
 ghost use mathlib.Core.Path.{_≡_};
 ghost use lib.ListN.{length, replicate};
 ghost use lib.IntN.{pos};
+ghost use Rattle.lists.specs.Answer.{refused};
 ghost use Rattle.model.specs.Judging.{judgeSource};
 ghost use Rattle.model.specs.Plans.{planNumbers};
 ghost use Rattle.model.specs.Limits.{sourceLimits};
 ghost use Rattle.model.specs.Reading.{verdictOf};
-ghost use Rattle.source.specs.Judged.{AcceptedWith, judgementIs, judgementOf, StepsJudged};
+ghost use Rattle.source.specs.Step.{state};
+ghost use Rattle.source.specs.Judged.{AcceptedWith};
+ghost use Rattle.source_judge.specs.Answers.{lastVerdict, judgementIs, judgementOf, withState, StepsJudged};
 ghost use Rattle.source_judge.specs.Running.{Stands, Taken, AtStart};
 
 // The most actions that a source task has.
 pub const ACTIONS: usize = 32;
+
+// What judging a plan answers: the count of its steps, or a refusal.
+pub enum Verdict {
+    Valid(u64),
+    Refused(u8, u64),
+}
+
+// With it the end state, in front of zeros; on a refusal, zeros.
+pub struct Judgement {
+    pub verdict: Verdict,
+    pub state: State,
+}
+
+// The judgement of a plan that is refused.
+fn refuse(number: u8, place: u64) -> Judgement
+    ensures { λ r. ⌜ judgementIs r ≡ judgementOf (refused number place) ⌝ }
+{
+    let values = [0i64; VARIABLES];
+    let modes = [0u16; MODES];
+    Judgement {
+        verdict: Verdict::Refused(number, place),
+        state: State { values, modes },
+    }
+}
+
+// The judgement of a plan with a verdict, over the arrays at its end.
+fn conclude(verdict: Verdict, values: [i64; VARIABLES], modes: [u16; MODES]) -> Judgement
+    ensures { λ r. ⌜ judgementIs r ≡ withState verdict (state values modes) ⌝ }
+{
+    match verdict {
+        Verdict::Refused(number, place) => refuse(number, place),
+        Verdict::Valid(steps) => Judgement {
+            verdict: Verdict::Valid(steps),
+            state: State { values, modes },
+        },
+    }
+}
+
+// The verdict on a plan of so many steps, from how far it goes and whether the goal is met then.
+fn last_verdict(progress: Progress, met: bool, steps: usize) -> Verdict
+    ensures { λ r. ⌜ r ≡ lastVerdict progress met steps ⌝ }
+{
+    match progress {
+        Progress::Stopped(number, place) => Verdict::Refused(number, place),
+        Progress::Through => {
+            if met {
+                return Verdict::Valid(steps as u64);
+            }
+            Verdict::Refused(13, steps as u64)
+        }
+    }
+}
 
 // What an accepted file with so many actions declares: its start, into arrays of zeros, and the rows of its actions.
 pub fn read_task(
@@ -99,8 +154,8 @@ fn judge_rows(
     let progress = run(plan, steps, count, marks, numbers, n, m, values, modes);
     let goal = actions::decode_goal(actions::goal_bytes(file, count));
     let met = source::goal_holds(values, n, modes, m, goal);
-    let verdict = source::last_verdict(progress, met, steps);
-    source::conclude(verdict, *values, *modes)
+    let verdict = last_verdict(progress, met, steps);
+    conclude(verdict, *values, *modes)
 }
 
 // Judges a plan of so many steps against an accepted file with so many actions.
@@ -141,9 +196,9 @@ pub fn judge(file: &[u8], plan: &[u8]) -> Judgement
     ensures { λ r. ⌜ judgementIs r ≡ judgementOf (judgeSource (now (file .entry)) (now (plan .entry))) ⌝ }
 {
     match tasks::check_source(file) {
-        tasks::Verdict::Rejected(number, place) => source::refuse(number, place),
+        tasks::Verdict::Rejected(number, place) => refuse(number, place),
         tasks::Verdict::Accepted(_, _, actions) => match planbytes::count_steps(plan) {
-            planbytes::Counted::Refused(number, place) => source::refuse(number, place),
+            planbytes::Counted::Refused(number, place) => refuse(number, place),
             planbytes::Counted::Steps(steps) => judge_steps(file, actions as usize, plan, steps),
         },
     }

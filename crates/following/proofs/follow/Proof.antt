@@ -5,7 +5,7 @@ use native.Mathlib.Omega.{arith}
 use lib.ListN.{length, getD}
 use denote.Ref.{now}
 use Rattle.model.specs.Plans.{planNumbers}
-use Rattle.source.proofs.Running.{halves-long}
+use Rattle.planbytes.proofs.Steps.{halves-long}
 use Rattle.following.specs.Sources.{entryAt}
 use Rattle.following.specs.Following.{notedAt}
 use Rattle.following.proofs.Going.{Going, begins, over, no-action, number-small, rows-here, steady-now, owned-now, stopped, rises, goes}

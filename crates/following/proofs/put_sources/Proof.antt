@@ -6,7 +6,7 @@ use lib.ListN.{length, getD}
 use denote.Ref.{now}
 use Rattle.lists.proofs.Writing.{long}
 use Rattle.model.specs.Plans.{planNumbers}
-use Rattle.source.proofs.Running.{halves-long}
+use Rattle.planbytes.proofs.Steps.{halves-long}
 use Rattle.following.proofs.Putting.{Putting, begins, over, room-here, puts, passes, further, passes-run}
 use borrow.Author.Needs.{needs}
 use Rattle.following.proofs.put_sources.Statement.{statement}

@@ -6,7 +6,7 @@ use lib.ListN.{length}
 use denote.Ref.{now}
 use borrow.Author.Tests.{not-true, not-false}
 use Rattle.model.specs.Plans.{planNumbers}
-use Rattle.source.proofs.Running.{halves-long}
+use Rattle.planbytes.proofs.Steps.{halves-long}
 use Rattle.rows.proofs.Standing.{steady, usable}
 use Rattle.source_judge.proofs.Running.{marks-there, numbers-there}
 use Rattle.listing.proofs.Lining.{stands-after, Writing, writing-begins, writing-long, writing-over, writing-no-action, writing-not-applied, writing-room, writing-next}

@@ -15,33 +15,36 @@ use borrow.Author.Needs.{needs}
 use Rattle.listing.proofs.write_listing.Statement.{statement}
 use Rattle.listing.proofs.write_listing.Tie as tie
 
+abbrev startOf : tie.After-goal-line-length → tie.Start
+startOf c = c .before .before .before .before .before .before
+
 abbrev first : tie.Start → State
 first s = declaredPart (s .args .n) (s .args .m) (state (now (s .args .values)) (now (s .args .modes)))
 
 -- what is counted is the length of the text
-counted : (c : tie.After-goal-line-length) (t : SourceTask) → let s = c .before .before .before .before .before .before .before .before in ReadyAt t (s .args .count) (now (s .args .marks)) (now (s .args .numbers)) (s .args .n) (s .args .m) (now (s .args .values)) (now (s .args .modes))
-    → 24 + c .before .lines-length .result + c .goal-line-length .result ≡ length (textFrom t (planNumbers (now (s .args .plan))) (s .args .total) (first s))
+counted : (c : tie.After-goal-line-length) (t : SourceTask) → let s = startOf c in ReadyAt t (s .args .count) (now (s .args .marks)) (now (s .args .numbers)) (s .args .n) (s .args .m) (now (s .args .values)) (now (s .args .modes))
+    → 24 + c .before .measure-lines .result + c .goal-line-length .result ≡ length (textFrom t (planNumbers (now (s .args .plan))) (s .args .total) (first s))
 counted c t r =
-    let s = c .before .before .before .before .before .before .before .before in
-    omega (arith, text-long t (planNumbers (now (s .args .plan))) (s .args .total) (first s), c .before .lines-length .ensures .long t r, c .goal-line-length .ensures .0)
+    let s = startOf c in
+    omega (arith, text-long t (planNumbers (now (s .args .plan))) (s .args .total) (first s), c .before .measure-lines .ensures .long t r, c .goal-line-length .ensures .0)
 
-lines-length-requires : tie.Need-lines-length-requires
-lines-length-requires c κs = search needs
+measure-lines-requires : tie.Need-measure-lines-requires
+measure-lines-requires c κs = search needs
 
 add-need : tie.Need-add-need
-add-need c = omega (arith, c .lines-length .ensures .few)
+add-need c = omega (arith, c .measure-lines .ensures .few)
 
 goal-line-length-requires : tie.Need-goal-line-length-requires
 goal-line-length-requires c κs = search needs
 
 add-need-2 : tie.Need-add-need-2
-add-need-2 c = omega (arith, c .before .lines-length .ensures .few, c .goal-line-length .ensures .1)
+add-need-2 c = omega (arith, c .before .measure-lines .ensures .few, c .goal-line-length .ensures .1)
 
 returns : tie.Need-returns
 returns c = record { written = λ t r. too-short refl (counted (c .before) t r) (c .if1 .taken) }
 
 put-listing-requires : tie.Need-put-listing-requires
-put-listing-requires c κs = let s = c .before .before .before .before .before .before .before .before .before .before .before .before in (s .pre, record { room = λ t r. record { fits = omega (arith, counted (c .before .before .before .before) t r, c .before .before .before .if1 .left) } })
+put-listing-requires c κs = let s = startOf (c .before .before .before .before) in (s .pre, record { room = λ t r. record { fits = omega (arith, counted (c .before .before .before .before) t r, c .before .before .before .if1 .left) } })
 
 same-length : tie.Need-same-length
 same-length c = search needs
@@ -53,7 +56,7 @@ pub write-listing-spec : {M : Type 1} → statement M
 write-listing-spec =
     tie.close
     (tie.spec
-    lines-length-requires
+    measure-lines-requires
     add-need
     goal-line-length-requires
     add-need-2

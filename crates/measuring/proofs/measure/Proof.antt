@@ -5,7 +5,7 @@ use Prim.Native.Nat.{_-_}
 use denote.Ref.{now}
 use borrow.Author.Tests.{not-true, not-false}
 use Rattle.model.specs.Plans.{planNumbers}
-use Rattle.source.proofs.Running.{halves-long}
+use Rattle.planbytes.proofs.Steps.{halves-long}
 use Rattle.rows.proofs.Standing.{steady, usable}
 use Rattle.source_judge.proofs.Running.{marks-there, numbers-there}
 use Rattle.measuring.proofs.Measuring.{Pricing, readable, pricing-begins, pricing-over, pricing-no-action, pricing-not-applied, pricing-goes}

@@ -7,7 +7,8 @@ use Rattle.model.specs.Plans.{planNumbers}
 use Rattle.model.specs.Reading.{Verdict}
 use Rattle.model.proofs.JudgedPlans.{plan-read}
 use Rattle.source.specs.Judged.{AcceptedWith}
-use Rattle.source.proofs.Judging.{bytes-of, steps-of, no-steps}
+use Rattle.source.proofs.Judging.{bytes-of}
+use Rattle.planbytes.proofs.Steps.{steps-of, no-steps}
 use Rattle.plans.proofs.Lengths.{file-rejected, plan-refused, plan-expanded}
 use borrow.Author.Needs.{needs}
 use Rattle.plans.proofs.expand.Statement.{statement}

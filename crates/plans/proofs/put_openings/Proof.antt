@@ -6,7 +6,7 @@ use native.Mathlib.Omega.{arith}
 use denote.Ref.{now}
 use lib.ListN.{length, getD}
 use Rattle.model.specs.Plans.{planNumbers}
-use Rattle.source.proofs.Running.{halves-long}
+use Rattle.planbytes.proofs.Steps.{halves-long}
 use Rattle.plans.proofs.Singles.{Opening, opening-begins, opening-ends, opening-as-long, opening-room, opening-goes}
 use borrow.Author.Needs.{needs}
 use Rattle.plans.proofs.put_openings.Statement.{statement}

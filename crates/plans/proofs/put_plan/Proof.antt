@@ -6,7 +6,7 @@ use native.Mathlib.Omega.{arith}
 use denote.Ref.{now}
 use lib.ListN.{length, getD}
 use Rattle.model.specs.Plans.{planNumbers}
-use Rattle.source.proofs.Running.{halves-long}
+use Rattle.planbytes.proofs.Steps.{halves-long}
 use Rattle.rows.proofs.Standing.{steady, usable}
 use Rattle.plans.proofs.Expanding.{Going, begins, ends, as-long, named, few, reads, has-room, goes}
 use borrow.Author.Needs.{needs}

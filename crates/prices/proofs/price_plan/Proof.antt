@@ -6,7 +6,8 @@ use Rattle.model.specs.Plans.{planNumbers}
 use Rattle.model.specs.Reading.{Verdict}
 use Rattle.model.proofs.JudgedPlans.{plan-read}
 use Rattle.source.specs.Judged.{AcceptedWith}
-use Rattle.source.proofs.Judging.{bytes-of, steps-of, no-steps}
+use Rattle.source.proofs.Judging.{bytes-of}
+use Rattle.planbytes.proofs.Steps.{steps-of, no-steps}
 use Rattle.prices.proofs.Answering.{plan-rejected, plan-refused, plan-priced}
 use borrow.Author.Needs.{needs}
 use Rattle.prices.proofs.price_plan.Statement.{statement}

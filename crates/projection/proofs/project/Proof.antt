@@ -5,8 +5,8 @@ use Rattle.model.specs.Plans.{planNumbers}
 use Rattle.model.specs.Limits.{sourceLimits}
 use Rattle.model.specs.Reading.{Verdict, verdictOf}
 use Rattle.source.specs.Judged.{AcceptedWith}
-use Rattle.source.proofs.Judging.{steps-of, no-steps}
-use Rattle.projection.proofs.Accepted.{few-steps, when-rejected, when-no-plan, when-projected}
+use Rattle.planbytes.proofs.Steps.{steps-of, few-steps, no-steps}
+use Rattle.projection.proofs.Accepted.{when-rejected, when-no-plan, when-projected}
 use borrow.Author.Needs.{needs}
 use Rattle.projection.proofs.project.Statement.{statement}
 use Rattle.projection.proofs.project.Tie as tie

@@ -1,6 +1,6 @@
 -- `ruphenqo::ruphenqo_judge_source` meets its contract, case by case of the verdict. Assumes nothing.
 use mathlib.Core.Path.{refl, ap}
-use Rattle.source.specs.Judged.{verdictIs, judgementOf, zeros}
+use Rattle.source_judge.specs.Answers.{verdictIs, judgementOf, zeros}
 use Rattle.ruphenqo.proofs.Telling.{told-judged-refusal, told-judged-valid}
 use borrow.Author.Needs.{needs}
 use Rattle.ruphenqo.proofs.ruphenqo_judge_source.Statement.{statement}

@@ -3,8 +3,10 @@ use mathlib.Core.Path.{refl, ap, _∙_, subst}
 use denote.Ref.{now}
 use Rattle.model.specs.Plans.{planNumbers}
 use Rattle.model.specs.Reading.{Verdict}
-use Rattle.source.specs.Judged.{AcceptedWith, judgementOf}
-use Rattle.source.proofs.Judging.{steps-of, no-steps, when-rejected, when-no-plan, when-judged}
+use Rattle.source.specs.Judged.{AcceptedWith}
+use Rattle.source_judge.specs.Answers.{judgementOf}
+use Rattle.planbytes.proofs.Steps.{steps-of, no-steps}
+use Rattle.source_judge.proofs.Judging.{when-rejected, when-no-plan, when-judged}
 use borrow.Author.Needs.{needs}
 use Rattle.source_judge.proofs.judge.Statement.{statement}
 use Rattle.source_judge.proofs.judge.Tie as tie

@@ -5,7 +5,7 @@ use Prim.Native.Nat.{_-_}
 use denote.Ref.{now}
 use borrow.Author.Tests.{not-true, not-false}
 use Rattle.model.specs.Plans.{planNumbers}
-use Rattle.source.proofs.Running.{halves-long}
+use Rattle.planbytes.proofs.Steps.{halves-long}
 use Rattle.rows.proofs.Standing.{steady, usable}
 use Rattle.source_judge.proofs.Running.{Going, begins, over, no-action, not-applied, goes, marks-there, numbers-there}
 use borrow.Author.Needs.{needs}

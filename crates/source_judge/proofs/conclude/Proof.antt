@@ -1,7 +1,7 @@
--- `source::conclude` meets its contract, case by case. Assumes nothing.
+-- `source_judge::conclude` meets its contract, case by case. Assumes nothing.
 use borrow.Author.Needs.{needs}
-use Rattle.source.proofs.conclude.Statement.{statement}
-use Rattle.source.proofs.conclude.Tie as tie
+use Rattle.source_judge.proofs.conclude.Statement.{statement}
+use Rattle.source_judge.proofs.conclude.Tie as tie
 
 enum-known-verdict : tie.Need-enum-known-verdict
 enum-known-verdict c = search needs

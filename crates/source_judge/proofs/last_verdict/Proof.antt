@@ -1,7 +1,7 @@
--- `source::last_verdict` meets its contract. Assumes nothing.
+-- `source_judge::last_verdict` meets its contract. Assumes nothing.
 use borrow.Author.Needs.{needs}
-use Rattle.source.proofs.last_verdict.Statement.{statement}
-use Rattle.source.proofs.last_verdict.Tie as tie
+use Rattle.source_judge.proofs.last_verdict.Statement.{statement}
+use Rattle.source_judge.proofs.last_verdict.Tie as tie
 
 enum-known-progress : tie.Need-enum-known-progress
 enum-known-progress c = search needs
