@@ -74,7 +74,7 @@ uint32_t ruphenqo_step_restricted(const uint8_t *task, size_t task_length, int64
 
 /* ---- judging ----
  * Whether a plan is valid: the count of its steps, and the end state with zeros behind the declared entries. Refusals 1 to 7, 10, then 11 and
- * 12 at the step, 13. Judging a restricted plan takes some 400 KB of stack, every other call some 20 KB at most. */
+ * 12 at the step, 13. Judging a restricted plan takes some 420 KB of stack, every other call some 20 KB at most. */
 uint32_t ruphenqo_judge_source(const uint8_t *task, size_t task_length, const uint8_t *plan, size_t plan_length,
                                uint64_t *steps, int64_t values[8], uint16_t modes[4], uint64_t *place);
 uint32_t ruphenqo_judge_restricted(const uint8_t *task, size_t task_length, const uint8_t *plan, size_t plan_length,

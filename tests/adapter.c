@@ -1,14 +1,43 @@
-/* adapter.c - the archive behind the function table of the comparing programs (impl.h, peer.h), for tests/all-vectors. */
+/* adapter.c - the archive behind the function table of the comparing programs (impl.h, peer.h), for tests/all-vectors and bench/run.
+   With GUARDED every file, plan and output is handed over in a copy that ends where a page begins that can't be touched. */
+#define _DEFAULT_SOURCE
 #include "peer.h"
 #include "ruphenqo.h"
 #include <string.h>
 
 typedef const uint8_t *bytes;
 
+#ifdef GUARDED
+#include <stdlib.h>
+#include <sys/mman.h>
+
+enum { FILE_COPY, PLAN_COPY, OUT_COPY, COPIES, PAGE = 4096, ROOM = 16 << 20 };
+
+static uint8_t *copied(int which, bytes b, size_t n)
+{
+    static uint8_t *ends[COPIES];
+    if (!ends[which]) {
+        uint8_t *m = mmap(NULL, ROOM + PAGE, PROT_READ | PROT_WRITE, MAP_PRIVATE | MAP_ANONYMOUS, -1, 0);
+        if (m == MAP_FAILED || mprotect(m + ROOM, PAGE, PROT_NONE)) abort();
+        ends[which] = m + ROOM;
+    }
+    if (n > ROOM) abort();
+    return n ? memcpy(ends[which] - n, b, n) : ends[which];
+}
+#define file_of(f, n) copied(FILE_COPY, f, n)
+#define plan_of(p, n) copied(PLAN_COPY, p, n)
+#define out_of(o, n) copied(OUT_COPY, o, n)
+static void given_back(uint8_t *out, bytes copy, size_t n) { if (n) memcpy(out, copy, n); }
+#else
 static uint8_t nothing;
 
 /* the library is handed a pointer also where there are no bytes */
 static bytes some(bytes b) { return b ? b : &nothing; }
+#define file_of(f, n) some(f)
+#define plan_of(p, n) some(p)
+#define out_of(o, n) (o)
+#define given_back(out, copy, n) (void)0
+#endif
 
 static struct ans counted(uint32_t number, uint64_t place, const uint64_t k[3], struct counts *c)
 {
@@ -23,14 +52,14 @@ static struct ans counted(uint32_t number, uint64_t place, const uint64_t k[3], 
 static struct ans parse_source(bytes f, size_t n, struct counts *c)
 {
     uint64_t place, k[3];
-    uint32_t number = ruphenqo_read_source(some(f), n, k, &place);
+    uint32_t number = ruphenqo_read_source(file_of(f, n), n, k, &place);
     return counted(number, place, k, c);
 }
 
 static struct ans parse_restricted(bytes f, size_t n, struct counts *c)
 {
     uint64_t place, k[3];
-    uint32_t number = ruphenqo_read_restricted(some(f), n, k, &place);
+    uint32_t number = ruphenqo_read_restricted(file_of(f, n), n, k, &place);
     return counted(number, place, k, c);
 }
 
@@ -44,28 +73,28 @@ static struct ans placed(uint32_t number, uint64_t place, uint64_t start, uint64
 static struct ans act_source(bytes f, size_t n, uint64_t k, struct part *p)
 {
     uint64_t place, start = 0, end = 0;
-    uint32_t number = ruphenqo_source_action(some(f), n, k, &start, &end, &place);
+    uint32_t number = ruphenqo_source_action(file_of(f, n), n, k, &start, &end, &place);
     return placed(number, place, start, end, p);
 }
 
 static struct ans act_restricted(bytes f, size_t n, uint64_t k, struct part *p)
 {
     uint64_t place, start = 0, end = 0;
-    uint32_t number = ruphenqo_restricted_action(some(f), n, k, &start, &end, &place);
+    uint32_t number = ruphenqo_restricted_action(file_of(f, n), n, k, &start, &end, &place);
     return placed(number, place, start, end, p);
 }
 
 static struct ans judge_source(bytes f, size_t n, bytes p, size_t np, struct s_end *e)
 {
     struct ans a;
-    a.no = ruphenqo_judge_source(some(f), n, some(p), np, &e->steps, e->s.v, e->s.m, &a.place);
+    a.no = ruphenqo_judge_source(file_of(f, n), n, plan_of(p, np), np, &e->steps, e->s.v, e->s.m, &a.place);
     return a;
 }
 
 static struct ans judge_restricted(bytes f, size_t n, bytes p, size_t np, struct r_end *e)
 {
     struct ans a;
-    a.no = ruphenqo_judge_restricted(some(f), n, some(p), np, &e->steps, e->s.v, e->s.m, &a.place);
+    a.no = ruphenqo_judge_restricted(file_of(f, n), n, plan_of(p, np), np, &e->steps, e->s.v, e->s.m, &a.place);
     return a;
 }
 
@@ -74,7 +103,7 @@ static struct ans step_source(bytes f, size_t n, const struct s_state *s, uint64
 {
     struct ans a;
     struct s_state t = *s;
-    a.no = ruphenqo_step_source(some(f), n, t.v, t.m, k, &a.place);
+    a.no = ruphenqo_step_source(file_of(f, n), n, t.v, t.m, k, &a.place);
     if (!a.no)
         *next = t;
     else if (memcmp(t.v, s->v, sizeof t.v) || memcmp(t.m, s->m, sizeof t.m))
@@ -86,7 +115,7 @@ static struct ans step_restricted(bytes f, size_t n, const struct r_state *s, ui
 {
     struct ans a;
     struct r_state t = *s;
-    a.no = ruphenqo_step_restricted(some(f), n, t.v, t.m, k, &a.place);
+    a.no = ruphenqo_step_restricted(file_of(f, n), n, t.v, t.m, k, &a.place);
     if (!a.no)
         *next = t;
     else if (memcmp(t.v, s->v, sizeof t.v) || memcmp(t.m, s->m, sizeof t.m))
@@ -97,14 +126,14 @@ static struct ans step_restricted(bytes f, size_t n, const struct r_state *s, ui
 static struct ans price_step(bytes f, size_t n, const struct s_state *s, uint64_t k, uint64_t *price)
 {
     struct ans a;
-    a.no = ruphenqo_price_step(some(f), n, s->v, s->m, k, price, &a.place);
+    a.no = ruphenqo_price_step(file_of(f, n), n, s->v, s->m, k, price, &a.place);
     return a;
 }
 
 static struct ans price_plan(bytes f, size_t n, bytes p, size_t np, uint64_t *price)
 {
     struct ans a;
-    a.no = ruphenqo_price_plan(some(f), n, some(p), np, price, &a.place);
+    a.no = ruphenqo_price_plan(file_of(f, n), n, plan_of(p, np), np, price, &a.place);
     return a;
 }
 
@@ -118,21 +147,27 @@ static struct ans written(uint32_t number, uint64_t place, uint64_t count, size_
 static struct ans lower(bytes f, size_t n, uint8_t *out, size_t cap, size_t *length)
 {
     uint64_t place, count = 0;
-    uint32_t number = ruphenqo_lower(some(f), n, out, cap, &count, &place);
+    uint8_t *lent = out_of(out, cap);
+    uint32_t number = ruphenqo_lower(file_of(f, n), n, lent, cap, &count, &place);
+    given_back(out, lent, cap);
     return written(number, place, count, length);
 }
 
 static struct ans expand(bytes f, size_t n, bytes p, size_t np, uint8_t *out, size_t cap, size_t *length)
 {
     uint64_t place, count = 0;
-    uint32_t number = ruphenqo_expand(some(f), n, some(p), np, out, cap, &count, &place);
+    uint8_t *lent = out_of(out, cap);
+    uint32_t number = ruphenqo_expand(file_of(f, n), n, plan_of(p, np), np, lent, cap, &count, &place);
+    given_back(out, lent, cap);
     return written(number, place, count, length);
 }
 
 static struct ans project(bytes f, size_t n, bytes p, size_t np, uint8_t *out, size_t cap, size_t *length)
 {
     uint64_t place, count = 0;
-    uint32_t number = ruphenqo_project(some(f), n, some(p), np, out, cap, &count, &place);
+    uint8_t *lent = out_of(out, cap);
+    uint32_t number = ruphenqo_project(file_of(f, n), n, plan_of(p, np), np, lent, cap, &count, &place);
+    given_back(out, lent, cap);
     return written(number, place, count, length);
 }
 
@@ -142,7 +177,9 @@ static struct ans listing(bytes f, size_t n, bytes p, size_t np, uint8_t *out, s
     const char *line = !f || !p ? "no file\n" : n > 16384 || np > 32768 ? "too large\n" : 0;
     uint64_t place, count = 0;
     if (!line) {
-        uint32_t number = ruphenqo_list(f, n, p, np, out, cap, &count, &place);
+        uint8_t *lent = out_of(out, cap);
+        uint32_t number = ruphenqo_list(file_of(f, n), n, plan_of(p, np), np, lent, cap, &count, &place);
+        given_back(out, lent, cap);
         return written(number, place, count, length);
     }
     if (cap < strlen(line))
