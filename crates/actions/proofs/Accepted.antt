@@ -23,7 +23,7 @@ use Rattle.model.specs.ActionBytes.{edgeOf, actionPart, decodeAction}
 use Rattle.model.proofs.ReadingLaws.{length-each}
 use Rattle.model.proofs.AcceptedTrail.{Is}
 use Rattle.model.proofs.AcceptedOk.{accepted-source-ok, accepted-restricted-ok}
-use Rattle.model.proofs.Actions.{action-decodes}
+use Rattle.model.proofs.ActionBytes.{action-decodes}
 use Rattle.model.proofs.StageWalk.{all-get}
 use Rattle.actions.specs.declared.Goal.{Goal}
 use Rattle.actions.specs.declared.SourceAction.{SourceAction as DecodedSource}

@@ -32,7 +32,7 @@ use Rattle.model.proofs.StepBounds.{true-of}
 use Rattle.model.proofs.GuardedPairing.{WithinBounds, within-bounds-is-sound, step-within-bounds}
 use Rattle.model.proofs.Guards.{guard-step}
 use Rattle.model.proofs.AcceptedPairing.{Accepted}
-use Rattle.model.proofs.LoweredOk.{accepted}
+use Rattle.model.proofs.AcceptedSource.{accepted}
 use Rattle.model.proofs.AcceptedOk.{accepted-source-ok}
 use Rattle.model.proofs.JudgedPlans.{judged, priced}
 use Rattle.source.proofs.Numbers.{quotient-small, residue-small}

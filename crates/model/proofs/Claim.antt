@@ -28,7 +28,8 @@ use Rattle.model.specs.Claim.{PlansPair, RoundTrip}
 use Rattle.model.proofs.StageWalk.{and-intro, and-parts}
 use Rattle.model.proofs.AcceptedPairing.{plans-pair-off-for-accepted}
 use Rattle.model.proofs.ReadsBack.{reads-back}
-use Rattle.model.proofs.LoweredOk.{accepted, lowered-task-ok, lowered-sizes}
+use Rattle.model.proofs.AcceptedSource.{accepted}
+use Rattle.model.proofs.LoweredOk.{lowered-task-ok, lowered-sizes}
 use Rattle.model.proofs.Answers.{given-injective, then-gives, written-at-the-front}
 use Rattle.model.proofs.JudgedPlans.{judged, judges, run-count, priced, capped, plan-reads-back, plan-read, source-step-counts, restricted-step-counts, keep-few, few-all}
 use Rattle.model.proofs.AcceptedOk.{accepted-source-ok}

@@ -25,7 +25,7 @@ use Rattle.model.proofs.StepBounds.{additionAt, AdditionsOnce, AddsIn, 
 use Rattle.model.proofs.GuardedPairing.{WithinBounds, within-bounds-is-sound, step-within-bounds}
 use Rattle.model.proofs.AcceptedPairing.{Accepted}
 use Rattle.model.proofs.ReadingLaws.{length-each, length-keys}
-use Rattle.model.proofs.LoweredOk.{accepted, modes-below}
+use Rattle.model.proofs.AcceptedSource.{accepted, modes-below}
 use Rattle.model.proofs.AcceptedOk.{accepted-source-ok, accepted-restricted-ok}
 
 -- ---- what a restricted task that keeps to the rules has

@@ -28,7 +28,8 @@ use Rattle.model.proofs.StageWalk.{and-parts}
 use Rattle.model.proofs.MacroPlace.{OpensOrOfAStage, opens-or-of-a-stage}
 use Rattle.model.proofs.Follow.{OpensOrGoesOn, run-is-followed}
 use Rattle.model.proofs.AcceptedPairing.{Accepted, plans-pair-off-for-accepted}
-use Rattle.model.proofs.LoweredOk.{accepted, lowered-sizes}
+use Rattle.model.proofs.AcceptedSource.{accepted}
+use Rattle.model.proofs.LoweredOk.{lowered-sizes}
 use Rattle.model.proofs.JudgedPlans.{judged, within-limit, restricted-step-counts}
 use Rattle.model.proofs.Answers.{given-injective, then-gives}
 use Rattle.model.proofs.Claim.{each-app}

@@ -32,7 +32,8 @@ use Rattle.model.proofs.StepBounds.{within-is-sound}
 use Rattle.model.proofs.Guards.{guard-step}
 use Rattle.model.proofs.GuardedPairing.{WithinBounds, within-bounds-is-sound, step-within-bounds}
 use Rattle.model.proofs.AcceptedPairing.{Accepted}
-use Rattle.model.proofs.LoweredOk.{accepted, lowered-task-ok, write-length}
+use Rattle.model.proofs.AcceptedSource.{accepted}
+use Rattle.model.proofs.LoweredOk.{lowered-task-ok, write-length}
 use Rattle.model.proofs.Figure.{Within, start-within, steps-within}
 use Rattle.model.proofs.Claim.{each-app}
 use Rattle.model.proofs.ReadsBack.{reads-back}

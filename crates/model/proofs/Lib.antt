@@ -1,11 +1,14 @@
 pub mod AcceptedOk
 pub mod AcceptedPairing
+pub mod AcceptedSource
 pub mod AcceptedTrail
-pub mod Actions
+pub mod ActionBytes
+pub mod ActionsAndGoal
 pub mod Answers
 pub mod Arrays
 pub mod Claim
 pub mod CommandsOk
+pub mod EncodedActions
 pub mod Figure
 pub mod FileBytes
 pub mod Follow
@@ -30,6 +33,7 @@ pub mod ReadingLaws
 pub mod ReadsBack
 pub mod StageValues
 pub mod StageWalk
+pub mod StagesOk
 pub mod StepBounds
 pub mod TrailOfTask
 pub mod Walk

@@ -1,5 +1,5 @@
 -- What the lowering asks of a source task, and of the actions that it makes: every variable and mode declared, effects on each at most once.
--- Every accepted task has it (proofs/LoweredOk).
+-- Every accepted task has it (proofs/AcceptedSource).
 -- Assumes nothing.
 use mathlib.Core.Path.{_≡_}
 use Prim.Native.Nat.{ℕ, _<_}

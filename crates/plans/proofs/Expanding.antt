@@ -1,7 +1,7 @@
 -- The loop that writes an expansion: what is left to write is the expansion of what is left of the plan, from the state reached.
 -- Assumes nothing.
 use mathlib.Core.Path.{_≡_, refl, sym, ap, ap₂, _∙_, subst}
-use Prim.Native.Nat.{ℕ, suc, _+_, _≤_, _<_}
+use Prim.Native.Nat.{ℕ, _+_, _≤_, _<_}
 use native.Mathlib.Numerals.{add-one}
 use native.Mathlib.Omega.{arith}
 use mathlib.Core.Bool.{Bool, true, false}
@@ -13,7 +13,7 @@ use lib.IntN.{ℤ}
 use Rattle.lists.specs.Writing.{Room, Wrote}
 use Rattle.lists.proofs.Numbers.{numbers-append}
 use Rattle.lists.proofs.Writing.{Left, start, step, done, recast, room, long}
-use Rattle.model.specs.Tasks.{Effect, SourceAction, SourceTask, State}
+use Rattle.model.specs.Tasks.{Effect, SourceTask, State}
 use Rattle.model.specs.Plans.{planBytes}
 use Rattle.model.specs.Systems.{orEmpty, provided, runPlan}
 use Rattle.model.specs.Steps.{integerAt, lowerBounds, upperBounds, sizesOf, soundSource, stepSource}
@@ -23,7 +23,7 @@ use Rattle.model.specs.Judging.{declaredPart}
 use Rattle.model.proofs.Pairing.{bind-gives, some-injective}
 use Rattle.model.proofs.JudgedPlans.{source-step-counts}
 use Rattle.source.specs.Step.{state, Shaped}
-use Rattle.rows.specs.Row.{effectAt, Steady, Reads, Usable, Stepped}
+use Rattle.rows.specs.Row.{effectAt, Reads, Stepped}
 use Rattle.rows.specs.Ready.{marksOf, numbersOf, Ready, Standing}
 use Rattle.rows.proofs.Standing as rows
 use Rattle.runs.specs.Strokes.{strokesOf, macroSteps, stepNumbers}

@@ -13,15 +13,12 @@ use lib.IntN.{ℤ}
 use Rattle.lists.specs.Answer.{Answer, given, refused, then}
 use Rattle.lists.proofs.Numbers.{length-numbers}
 use Rattle.model.specs.Tasks.{SourceAction, SourceTask, State}
-use Rattle.model.specs.Plans.{planBytes, readPlan}
+use Rattle.model.specs.Plans.{planBytes, planNumbers}
 use Rattle.model.specs.Systems.{orEmpty, orZero, runPlan, totalPrice}
 use Rattle.model.specs.Steps.{integerAt, lowerBounds, upperBounds, trySource, sourceStep, sourceStart, stepSource, sourceGoalHolds}
 use Rattle.model.specs.Stages.{stagesOf, opening}
 use Rattle.model.specs.Expansion.{stageWalk, openedValues, stageStepsFrom, priceOfEffect, priceFrom, expandTask}
 use Rattle.model.specs.Judging.{judge, declaredPart, judgeSourceTask, pricesFrom, priceTask, expandBytes}
-use Rattle.model.specs.Limits.{sourceLimits}
-use Rattle.model.specs.Reading.{Verdict as FileVerdict, Rejected, verdictOf}
-use Rattle.model.specs.Decoding.{onVerdict}
 use Rattle.model.proofs.Answers.{given-injective, then-gives}
 use Rattle.model.proofs.Pairing.{bind-gives}
 use Rattle.model.proofs.JudgedPlans.{judged, capped, within-limit}
@@ -31,9 +28,11 @@ use Rattle.lists.specs.declared.Written.the-variants.{Bytes, Refused}
 use Rattle.source.specs.declared.Progress.{Progress}
 use Rattle.source.specs.declared.Progress.the-variants.{Through, Stopped}
 use Rattle.source.specs.Step.{state, Shaped}
-use Rattle.source.specs.Judged.{onProgress, AcceptedWith}
+use Rattle.source.specs.Judged.{onProgress}
 use Rattle.source.proofs.Judging.{task-of, accepted-task}
 use Rattle.rows.specs.Ready.{Ready}
+use Rattle.source_judge.specs.Opening.{OpenedWith}
+use Rattle.source_judge.proofs.Opening.{opened-goes}
 use Rattle.measuring.specs.declared.Measured.{Measured}
 use Rattle.measuring.specs.Measures.{withinPrice, PlanMeasured}
 use Rattle.runs.specs.Strokes.{strokesOf, macroSteps}
@@ -130,19 +129,7 @@ module _ (t : SourceTask) (p : List ℕ) {count : ℕ} {marks : List (List ℕ)}
       ∙ ap (λ (o : Answer (ℕ × State)). then o (λ v. then (priceTask t true p) (λ c. given (2 * c)))) (sym (M .taken .ran _ _ _ S .judges t R (sourceGoalHolds t)))
       ∙ ap (λ (x₀ : State). then (judge (length (t .actions)) (stepSource t) (sourceGoalHolds t) 0 p x₀) (λ v. then (priceTask t true p) (λ c. given (2 * c)))) h
 
--- ---- the ways of expanding
-abbrev expandBytesOf : Answer SourceTask → Answer (List ℕ) → Answer (List ℕ)
-expandBytesOf o q = then o (λ t. then q (expansionAnswer t))
-
-module _ (file plan : List ℕ) where
-  pub file-rejected : (number place : ℕ) → Rejected number place ≡ verdictOf sourceLimits file → expandBytes file plan ≡ refused number place
-  file-rejected number place e = subst (λ (v : FileVerdict). expandBytesOf (onVerdict v (task-of file 0)) (readPlan plan) ≡ refused number place) e refl
-
-  module _ (count : ℕ) (h : AcceptedWith (verdictOf sourceLimits file) count) where
-    pub plan-refused : (number place : ℕ) → readPlan plan ≡ refused number place → expandBytes file plan ≡ refused number place
-    plan-refused number place e = ap₂ expandBytesOf (accepted-task file count h) e
-
-    pub plan-expanded : (p : List ℕ) → readPlan plan ≡ given p → {old after : List ℕ} {r : Written} → StepsExpanded file p old after r → Lent old (expandBytes file plan) after r
-    plan-expanded p e {old} {after} {r} s =
-        let t = task-of file count in
-        subst (λ (a : Answer (List ℕ)). Lent old a after r) (sym (ap₂ expandBytesOf (accepted-task file count h) e)) (s .meets t (accepted-task file count h))
+-- ---- from bytes
+pub plan-expanded : (file plan : List ℕ) (count steps : ℕ) → OpenedWith file plan count steps → {old after : List ℕ} {r : Written} → StepsExpanded file (planNumbers plan) old after r → Lent old (expandBytes file plan) after r
+plan-expanded file plan count steps o {old} {after} {r} s =
+    subst (λ (a : Answer (List ℕ)). Lent old a after r) (opened-goes file plan expansionAnswer count steps o) (s .meets (task-of file count) (accepted-task file count (o .accepted)))

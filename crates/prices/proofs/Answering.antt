@@ -21,7 +21,7 @@ use Rattle.model.specs.Systems.{orZero}
 use Rattle.model.specs.Steps.{integerAt, linear, stepSource, sizesOf, sourceStart, sourceGoalHolds}
 use Rattle.model.specs.Expansion.{magnitudes, priceOfEffect, priceFrom}
 use Rattle.model.specs.Judging.{judge, ifApplies, declaredPart, withRest, stepAlone, judgeSourceTask, pricesFrom, priceTask, priceStep, pricePlan}
-use Rattle.model.specs.Plans.{readPlan}
+use Rattle.model.specs.Plans.{planNumbers}
 use Rattle.model.specs.Reading.{Verdict as FileVerdict, Rejected, verdictOf}
 use Rattle.model.specs.Decoding.{sourceActionOf, onVerdict, readSource}
 use Rattle.model.specs.ActionBytes.{actionPart, decodeAction}
@@ -40,6 +40,8 @@ use Rattle.source.specs.Judged.{onProgress, AcceptedWith}
 use Rattle.source.proofs.Judging.{task-of, accepted-task, counted-task}
 use Rattle.source.proofs.Alone.{step-taken}
 use Rattle.rows.specs.Ready.{Ready}
+use Rattle.source_judge.specs.Opening.{OpenedWith}
+use Rattle.source_judge.proofs.Opening.{opened-goes}
 use Rattle.measuring.specs.declared.Measured.{Measured}
 use Rattle.measuring.specs.Measures.{PlanMeasured}
 use Rattle.prices.specs.declared.Priced.{Priced}
@@ -130,20 +132,9 @@ module _ (file : List ℕ) (x : State) (k : ℕ) where
   pub step-priced : (count : ℕ) (r : Priced) → AcceptedWith (verdictOf sourceLimits file) count → StepPriced file x k r → pricedIs r ≡ priceStep file x k
   step-priced count r h s = s .meets (task-of file count) (accepted-task file count h) ∙ accepted-as count h
 
--- ---- the ways of pricing a plan
-abbrev pricePlanOf : Answer SourceTask → Answer (List ℕ) → Answer ℕ
-pricePlanOf o q = then o (λ t. then q (λ p. then (judgeSourceTask t p) (λ v. priceTask t false p)))
+-- ---- a plan's price, from bytes
+abbrev pub priceValid : SourceTask → List ℕ → Answer ℕ
+priceValid t p = then (judgeSourceTask t p) (λ v. priceTask t false p)
 
-module _ (file plan : List ℕ) where
-  pub plan-rejected : (number place : ℕ) → Rejected number place ≡ verdictOf sourceLimits file → refused number place ≡ pricePlan file plan
-  plan-rejected number place e = subst (λ (v : FileVerdict). refused number place ≡ pricePlanOf (onVerdict v (task-of file 0)) (readPlan plan)) e refl
-
-  module _ (count : ℕ) (h : AcceptedWith (verdictOf sourceLimits file) count) where
-    read-as : (q : Answer (List ℕ)) → readPlan plan ≡ q → pricePlanOf (given (task-of file count)) q ≡ pricePlan file plan
-    read-as q e = ap₂ pricePlanOf (sym (accepted-task file count h)) (sym e)
-
-    pub plan-refused : (number place : ℕ) → readPlan plan ≡ refused number place → refused number place ≡ pricePlan file plan
-    plan-refused number place e = read-as (refused number place) e
-
-    pub plan-priced : (p : List ℕ) (r : Priced) → readPlan plan ≡ given p → StepsPriced file p r → pricedIs r ≡ pricePlan file plan
-    plan-priced p r e s = s .meets (task-of file count) (accepted-task file count h) ∙ read-as (given p) e
+pub plan-priced : (file plan : List ℕ) (count steps : ℕ) → OpenedWith file plan count steps → (r : Priced) → StepsPriced file (planNumbers plan) r → pricedIs r ≡ pricePlan file plan
+plan-priced file plan count steps o r s = s .meets (task-of file count) (accepted-task file count (o .accepted)) ∙ opened-goes file plan priceValid count steps o

@@ -9,6 +9,7 @@ use source::Progress;
 use source::State;
 use source::VARIABLES;
 use source_judge::ACTIONS;
+use source_judge::Opened;
 ghost use mathlib.Core.Path.{_≡_};
 ghost use Prim.Native.Nat.{_<_, _≤_};
 ghost use lib.ListN.{length, take};
@@ -180,11 +181,8 @@ fn price_steps(file: &[u8], count: usize, plan: &[u8], steps: usize) -> Priced
 pub fn price_plan(file: &[u8], plan: &[u8]) -> Priced
     ensures { λ r. ⌜ pricedIs r ≡ pricePlan (now (file .entry)) (now (plan .entry)) ⌝ }
 {
-    match tasks::check_source(file) {
-        tasks::Verdict::Rejected(number, place) => Priced::Refused(number, place),
-        tasks::Verdict::Accepted(_, _, actions) => match planbytes::count_steps(plan) {
-            planbytes::Counted::Refused(number, place) => Priced::Refused(number, place),
-            planbytes::Counted::Steps(steps) => price_steps(file, actions as usize, plan, steps),
-        },
+    match source_judge::open(file, plan) {
+        Opened::Refused(number, place) => Priced::Refused(number, place),
+        Opened::Ready(count, steps) => price_steps(file, count, plan, steps),
     }
 }

@@ -6,27 +6,24 @@ use native.Mathlib.Omega.{arith}
 use mathlib.Core.List.{List}
 use lib.ListN.{length, getD}
 use lib.IntN.{ℤ}
-use Rattle.lists.specs.Answer.{Answer, given, refused, then}
+use Rattle.lists.specs.Answer.{Answer, given, then}
 use Rattle.lists.specs.declared.Written.{Written}
-use Rattle.lists.specs.declared.Written.the-variants.{Refused}
 use Rattle.lists.specs.Written.{Lent}
-use Rattle.lists.proofs.Lent.{refusal}
 use Rattle.model.specs.Tasks.{SourceTask, State}
-use Rattle.model.specs.Limits.{sourceLimits}
-use Rattle.model.specs.Reading.{Verdict as FileVerdict, Rejected, verdictOf}
 use Rattle.model.specs.Steps.{lowerBounds, upperBounds, sourceStart}
 use Rattle.model.specs.Stages.{opening}
-use Rattle.model.specs.Decoding.{onVerdict, readSource}
-use Rattle.model.specs.Plans.{readPlan}
+use Rattle.model.specs.Decoding.{readSource}
+use Rattle.model.specs.Plans.{readPlan, planNumbers}
 use Rattle.model.specs.Judging.{projectBytes}
 use Rattle.model.specs.Following.{projectFrom}
 use Rattle.model.proofs.Following.{projecting-follows}
 use Rattle.actions.specs.declared.Goal.{Goal}
-use Rattle.source.specs.Judged.{AcceptedWith}
 use Rattle.source.proofs.Judging.{task-of, accepted-task}
 use Rattle.rows.specs.Ready.{numbersOf, Ready}
 use Rattle.rows.proofs.Start.{starts}
 use Rattle.source_judge.specs.Running.{AtStart}
+use Rattle.source_judge.specs.Opening.{OpenedWith}
+use Rattle.source_judge.proofs.Opening.{opened-goes}
 use Rattle.strokes.specs.Openings.{Marked, Opened}
 use Rattle.following.specs.Sources.{Openable, Sourced}
 use Rattle.following.specs.Following.{Placed}
@@ -71,24 +68,13 @@ module _ {file : List ℕ} {count : ℕ} {marks : List (List ℕ)} {numbers : Li
       pub from-start : {old after : List ℕ} {r : Written} → Projected q marks numbers n m total sources values modes goal old after r → Lent old (asBytes (projectFrom t (length q) 0 q (sourceStart t))) after r
       from-start {old} {after} {r} P = subst (λ (x : State). Lent old (asBytes (projectFrom t (length q) 0 q x)) after r) (B .holds t is .startIs) (P .meets t placed a)
 
--- ---- the three ways of projecting
-module _ (file plan old : List ℕ) where
-  answered : {after : List ℕ} {r : Written} → Lent old (then (readSource file) (λ t. then (readPlan plan) (λ q. asBytes (projectFrom t (length q) 0 q (sourceStart t))))) after r → Lent old (projectBytes file plan) after r
-  answered {after} {r} h = subst (λ (a : Answer (List ℕ)). Lent old a after r) (sym (projecting-follows file plan)) h
+-- ---- from bytes
+abbrev pub projection : SourceTask → List ℕ → Answer (List ℕ)
+projection t q = asBytes (projectFrom t (length q) 0 q (sourceStart t))
 
-  pub when-rejected : (number place : ℕ) → Rejected number place ≡ verdictOf sourceLimits file → Lent old (projectBytes file plan) old (Refused number place)
-  when-rejected number place e = answered (refusal (ap (λ (v : FileVerdict). then (onVerdict v (task-of file 0)) (λ t. then (readPlan plan) (λ q. asBytes (projectFrom t (length q) 0 q (sourceStart t))))) (sym e)))
+pub projects : (file plan : List ℕ) {old after : List ℕ} {r : Written} → Lent old (then (readSource file) (λ t. then (readPlan plan) (projection t))) after r → Lent old (projectBytes file plan) after r
+projects file plan {old} {after} {r} h = subst (λ (a : Answer (List ℕ)). Lent old a after r) (sym (projecting-follows file plan)) h
 
-  module _ (count : ℕ) (a : AcceptedWith (verdictOf sourceLimits file) count) where
-    pub when-no-plan : (number place : ℕ) → readPlan plan ≡ refused number place → Lent old (projectBytes file plan) old (Refused number place)
-    when-no-plan number place e = answered (refusal
-        (ap (λ (o : Answer SourceTask). then o (λ t. then (readPlan plan) (λ q. asBytes (projectFrom t (length q) 0 q (sourceStart t))))) (accepted-task file count a)
-        ∙ ap (λ (o : Answer (List ℕ)). then o (λ q. asBytes (projectFrom (task-of file count) (length q) 0 q (sourceStart (task-of file count))))) e))
-
-    pub when-projected : (q : List ℕ) {after : List ℕ} {r : Written} → readPlan plan ≡ given q → FileProjected file q old after r → Lent old (projectBytes file plan) after r
-    when-projected q {after} {r} e P =
-        let t = task-of file count in
-        answered (subst (λ (o : Answer (List ℕ)). Lent old o after r)
-        (sym (ap (λ (o : Answer SourceTask). then o (λ t. then (readPlan plan) (λ q. asBytes (projectFrom t (length q) 0 q (sourceStart t))))) (accepted-task file count a)
-        ∙ ap (λ (o : Answer (List ℕ)). then o (λ q. asBytes (projectFrom t (length q) 0 q (sourceStart t)))) e))
-        (P .meets t (accepted-task file count a)))
+pub plan-projected : (file plan : List ℕ) (count steps : ℕ) → OpenedWith file plan count steps → {old after : List ℕ} {r : Written} → FileProjected file (planNumbers plan) old after r → Lent old (projectBytes file plan) after r
+plan-projected file plan count steps o {old} {after} {r} P =
+    projects file plan (subst (λ (a : Answer (List ℕ)). Lent old a after r) (opened-goes file plan projection count steps o) (P .meets (task-of file count) (accepted-task file count (o .accepted))))

@@ -7,6 +7,7 @@ use rows::NUMBERS;
 use source::MODES;
 use source::VARIABLES;
 use source_judge::ACTIONS;
+use source_judge::Opened;
 ghost use mathlib.Core.Path.{_≡_};
 ghost use Prim.Native.Nat.{_≤_};
 ghost use lib.ListN.{length};
@@ -95,17 +96,8 @@ fn project_steps(file: &[u8], count: usize, plan: &[u8], steps: usize, out: &mut
 pub fn project(file: &[u8], plan: &[u8], out: &mut [u8]) -> Written
     ensures { λ r. ⌜ Lent (now (out .entry)) (projectBytes (now (file .entry)) (now (plan .entry))) (now (out .exit)) r ⌝ }
 {
-    match tasks::check_source(file) {
-        tasks::Verdict::Rejected(number, place) => Written::Refused(number, place),
-        tasks::Verdict::Accepted(_, _, actions) => match planbytes::count_steps(plan) {
-            planbytes::Counted::Refused(number, place) => Written::Refused(number, place),
-            planbytes::Counted::Steps(steps) => project_steps(
-                file,
-                actions as usize,
-                plan,
-                steps,
-                out,
-            ),
-        },
+    match source_judge::open(file, plan) {
+        Opened::Refused(number, place) => Written::Refused(number, place),
+        Opened::Ready(count, steps) => project_steps(file, count, plan, steps, out),
     }
 }

@@ -22,7 +22,7 @@ use Rattle.model.specs.Steps.{stepRestricted}
 use Rattle.model.specs.Judging.{declaredPart, withRest, ifApplies, stepAlone, stepRestrictedAlone}
 use Rattle.model.proofs.AcceptedOk.{accepted-restricted-ok}
 use Rattle.model.proofs.AcceptedTrail.{Is}
-use Rattle.model.proofs.Actions.{verdict-counts-actions}
+use Rattle.model.proofs.ActionsAndGoal.{verdict-counts-actions}
 use Rattle.model.proofs.ReadingLaws.{length-each}
 use Rattle.declarations.specs.declared.Declared.{Declared}
 use Rattle.declarations.specs.Stored.{RestrictedStored}

@@ -13,7 +13,7 @@ use Rattle.model.specs.Decoding.{readSource}
 use Rattle.model.specs.Steps.{integerAt, lowerBounds, upperBounds, sizesOf, sourceStart, soundSource}
 use Rattle.model.specs.Judging.{declaredPart}
 use Rattle.model.proofs.GuardedPairing.{within-bounds-is-sound}
-use Rattle.model.proofs.LoweredOk.{accepted}
+use Rattle.model.proofs.AcceptedSource.{accepted}
 use Rattle.declarations.specs.declared.Declared.{Declared}
 use Rattle.declarations.specs.Holding.{HoldsSource}
 use Rattle.source.specs.Step.{state, Shaped}

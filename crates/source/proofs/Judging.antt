@@ -20,7 +20,7 @@ use Rattle.model.specs.Steps.{sizesOf, goalHolds, sourceGoalHolds}
 use Rattle.model.proofs.ReadingLaws.{length-each}
 use Rattle.model.proofs.AcceptedTrail.{Is}
 use Rattle.model.proofs.AcceptedOk.{accepted-source-ok}
-use Rattle.model.proofs.Actions.{verdict-counts-actions}
+use Rattle.model.proofs.ActionsAndGoal.{verdict-counts-actions}
 use Rattle.model.proofs.StageWalk.{all-get}
 use Rattle.actions.specs.declared.Goal.{Goal}
 use Rattle.actions.specs.declared.SourceAction.{SourceAction as DecodedSource}

@@ -1,6 +1,6 @@
 -- What the steps of a plan and the goal make of an accepted file, and how the judge answers from bytes.
 -- Assumes nothing.
-use mathlib.Core.Path.{_≡_, refl, sym, ap, ap₂, _∙_, subst}
+use mathlib.Core.Path.{_≡_, refl, sym, ap, ap₂, _∙_}
 use Prim.Native.Nat.{ℕ}
 use native.Mathlib.Omega.{arith}
 use mathlib.Core.Bool.{Bool, true, false, cond}
@@ -8,14 +8,14 @@ use mathlib.Core.List.{List, _++_}
 use lib.ListN.{length, take, drop, replicate, take-append-drop}
 use lib.Seq.{length-take-le}
 use lib.IntN.{ℤ, pos}
-use Rattle.lists.specs.Answer.{Answer, given, refused, then}
+use Rattle.lists.specs.Answer.{given, refused}
 use Rattle.model.specs.Tasks.{SourceTask, State}
 use Rattle.model.specs.Limits.{sourceLimits}
-use Rattle.model.specs.Reading.{Verdict as FileVerdict, Rejected, verdictOf}
-use Rattle.model.specs.Decoding.{onVerdict, readSource}
+use Rattle.model.specs.Reading.{verdictOf}
+use Rattle.model.specs.Decoding.{readSource}
 use Rattle.model.specs.Steps.{sourceGoalHolds, stepSource}
 use Rattle.model.specs.Judging.{declaredPart, withRest, judgeSourceTask, judgeSource, judge}
-use Rattle.model.specs.Plans.{readPlan}
+use Rattle.model.specs.Plans.{planNumbers}
 use Rattle.source.specs.declared.Progress.{Progress}
 use Rattle.source.specs.declared.Progress.the-variants.{Through, Stopped}
 use Rattle.source_judge.specs.declared.Judgement.{Judgement}
@@ -24,6 +24,8 @@ use Rattle.source.specs.Judged.{onProgress, AcceptedWith}
 use Rattle.source.proofs.Trying.{kept-then}
 use Rattle.source.proofs.Judging.{task-of, accepted-task}
 use Rattle.rows.proofs.Start.{start-shaped, prepared-starts}
+use Rattle.source_judge.specs.Opening.{OpenedWith}
+use Rattle.source_judge.proofs.Opening.{opened-goes}
 use Rattle.source_judge.specs.Running.{Stands, Taken, AtStart}
 use Rattle.source_judge.specs.Answers.{lastVerdict, zeros, judgementIs, judgementOf, withState, StepsJudged}
 
@@ -59,20 +61,6 @@ module _ (file : List ℕ) (count : ℕ) (marks : List (List ℕ)) (numbers : Li
         ∙ ap₂ (λ (b : Bool) (j : ℕ). judgementOf (onProgress pr (cond b (given (j, x)) (refused 13 j)))) g s
         ∙ ap judgementOf (sym (R .judges t (B .prepared .ready t is) (sourceGoalHolds t)) ∙ ap (judge (length (t .actions)) (stepSource t) (sourceGoalHolds t) 0 p) (H .startIs))
 
--- ---- the three ways of judging
-abbrev judgeSourceOf : Answer SourceTask → Answer (List ℕ) → Answer (ℕ × State)
-judgeSourceOf o q = then o (λ t. then q (judgeSourceTask t))
-
-module _ (file plan : List ℕ) where
-  pub when-rejected : (number place : ℕ) → Rejected number place ≡ verdictOf sourceLimits file → refused number place ≡ judgeSource file plan
-  when-rejected number place e = subst (λ (v : FileVerdict). refused number place ≡ judgeSourceOf (onVerdict v (task-of file 0)) (readPlan plan)) e refl
-
-  module _ (count : ℕ) (h : AcceptedWith (verdictOf sourceLimits file) count) where
-    read-as : (q : Answer (List ℕ)) → readPlan plan ≡ q → judgeSourceOf (given (task-of file count)) q ≡ judgeSource file plan
-    read-as q e = ap₂ judgeSourceOf (sym (accepted-task file count h)) (sym e)
-
-    pub when-no-plan : (number place : ℕ) → readPlan plan ≡ refused number place → refused number place ≡ judgeSource file plan
-    when-no-plan number place e = read-as (refused number place) e
-
-    pub when-judged : (p : List ℕ) (j : Judgement) → readPlan plan ≡ given p → StepsJudged file p j → judgementIs j ≡ judgementOf (judgeSource file plan)
-    when-judged p j e s = s .meets (task-of file count) (accepted-task file count h) ∙ ap judgementOf (read-as (given p) e)
+-- ---- from bytes
+pub when-judged : (file plan : List ℕ) (count steps : ℕ) → OpenedWith file plan count steps → (j : Judgement) → StepsJudged file (planNumbers plan) j → judgementIs j ≡ judgementOf (judgeSource file plan)
+when-judged file plan count steps o j s = s .meets (task-of file count) (accepted-task file count (o .accepted)) ∙ ap judgementOf (opened-goes file plan judgeSourceTask count steps o)

@@ -1,4 +1,5 @@
-// The judge of plans on a source task: the steps of a plan, by the rows of the task's actions.
+// Plans on a source task: a file and a plan opened, the task made ready for steps, and the judge, which takes the steps by the rows of the
+// task's actions.
 //
 // What a step is and what rows mean is said in crate rows. It prices nothing.
 use declarations::Declared;
@@ -19,10 +20,30 @@ ghost use Rattle.model.specs.Reading.{verdictOf};
 ghost use Rattle.source.specs.Step.{state};
 ghost use Rattle.source.specs.Judged.{AcceptedWith};
 ghost use Rattle.source_judge.specs.Answers.{lastVerdict, judgementIs, judgementOf, withState, StepsJudged};
+ghost use Rattle.source_judge.specs.Opening.{openedIs, openedBy};
 ghost use Rattle.source_judge.specs.Running.{Stands, Taken, AtStart};
 
 // The most actions that a source task has.
 pub const ACTIONS: usize = 32;
+
+// A file and a plan that were read: how many actions and steps they have, or the refusal of the first that is refused.
+pub enum Opened {
+    Ready(usize, usize),
+    Refused(u8, u64),
+}
+
+// Reads a file, then the bytes of a plan.
+pub fn open(file: &[u8], plan: &[u8]) -> Opened
+    ensures { λ r. ⌜ openedIs r ≡ openedBy (verdictOf sourceLimits (now (file .entry))) (now (plan .entry)) ⌝ }
+{
+    match tasks::check_source(file) {
+        tasks::Verdict::Rejected(number, place) => Opened::Refused(number, place),
+        tasks::Verdict::Accepted(_, _, actions) => match planbytes::count_steps(plan) {
+            planbytes::Counted::Refused(number, place) => Opened::Refused(number, place),
+            planbytes::Counted::Steps(steps) => Opened::Ready(actions as usize, steps),
+        },
+    }
+}
 
 // What judging a plan answers: the count of its steps, or a refusal.
 pub enum Verdict {
@@ -195,11 +216,8 @@ fn judge_steps(file: &[u8], count: usize, plan: &[u8], steps: usize) -> Judgemen
 pub fn judge(file: &[u8], plan: &[u8]) -> Judgement
     ensures { λ r. ⌜ judgementIs r ≡ judgementOf (judgeSource (now (file .entry)) (now (plan .entry))) ⌝ }
 {
-    match tasks::check_source(file) {
-        tasks::Verdict::Rejected(number, place) => refuse(number, place),
-        tasks::Verdict::Accepted(_, _, actions) => match planbytes::count_steps(plan) {
-            planbytes::Counted::Refused(number, place) => refuse(number, place),
-            planbytes::Counted::Steps(steps) => judge_steps(file, actions as usize, plan, steps),
-        },
+    match open(file, plan) {
+        Opened::Refused(number, place) => refuse(number, place),
+        Opened::Ready(count, steps) => judge_steps(file, count, plan, steps),
     }
 }

@@ -1,87 +1,51 @@
--- `plans::expand` meets its contract: the file's refusals come first, then those of the plan's bytes. Assumes nothing.
-use mathlib.Core.Path.{refl, subst}
-use native.Mathlib.Omega.{arith}
+-- `plans::expand` meets its contract: what is refused of the file and the plan's bytes, else what expanding the steps gives. Assumes nothing.
+use mathlib.Core.Path.{sym}
 use denote.Ref.{now}
 use Rattle.lists.proofs.Lent.{refusal}
-use Rattle.model.specs.Plans.{planNumbers}
-use Rattle.model.specs.Reading.{Verdict}
-use Rattle.model.proofs.JudgedPlans.{plan-read}
-use Rattle.source.specs.Judged.{AcceptedWith}
-use Rattle.source.proofs.Judging.{bytes-of}
-use Rattle.planbytes.proofs.Steps.{steps-of, no-steps}
-use Rattle.plans.proofs.Lengths.{file-rejected, plan-refused, plan-expanded}
+use Rattle.source_judge.specs.Opening.{OpenedWith}
+use Rattle.source_judge.proofs.Opening.{opened-refused, opened-ready}
+use Rattle.plans.specs.Expanding.{expansionAnswer}
+use Rattle.plans.proofs.Lengths.{plan-expanded}
 use borrow.Author.Needs.{needs}
 use Rattle.plans.proofs.expand.Statement.{statement}
 use Rattle.plans.proofs.expand.Tie as tie
 
-check-source-requires : tie.Need-check-source-requires
-check-source-requires c κs = search needs
+open-requires : tie.Need-open-requires
+open-requires c κs = search needs
 
 enum-known-number : tie.Need-enum-known-number
 enum-known-number c = search needs
 
-enum-known-actions : tie.Need-enum-known-actions
-enum-known-actions c = search needs
+enum-known-count : tie.Need-enum-known-count
+enum-known-count c = search needs
 
-count-steps-requires : tie.Need-count-steps-requires
-count-steps-requires c κs = search needs
-
-enum-known-number-2 : tie.Need-enum-known-number-2
-enum-known-number-2 c = search needs
-
-enum-known-steps : tie.Need-enum-known-steps
-enum-known-steps c = search needs
-
-cast-expand-steps : tie.Need-cast-expand-steps
-cast-expand-steps c = search needs
+ready : (c : tie.After-count) → let s = c .before .before .before .before .before .before .args in OpenedWith (now (s .file)) (now (s .plan)) (c .count .given .0 .0) (c .count .given .0 .1 .0)
+ready c = opened-ready _ _ _ _ (rw (c .count .given .1) at (c .before .before .open .ensures))
 
 expand-steps-requires : tie.Need-expand-steps-requires
-expand-steps-requires c κs =
-    let s = c .before .before .before .before .before .before .before .before .before .before .before .before in
-    let a = rw (c .before .before .before .before .before .before .actions .given .1) at (c .before .before .before .before .before .before .before .before .check-source .ensures) in
-    let h = subst (λ (w : Verdict). AcceptedWith w (c .before .before .before .before .before .before .actions .given .0 .1 .1 .0)) a refl in
-    let n = steps-of (now (s .args .plan)) (c .before .before .steps .given .0 .0) (rw (c .before .before .steps .given .1) at (c .before .before .before .before .count-steps .ensures)) in
-    let bytes = bytes-of (now (s .args .plan)) (λ i. omega (arith, c .before .before .before .before .before .before .before .before .before .before .shared-slice-known2 .given i)) in
-    (h, n .1, omega (arith, plan-read (now (s .args .plan)) (planNumbers (now (s .args .plan))) bytes (n .0) .1, n .1))
+expand-steps-requires c κs = let o = ready (c .before .before) in (o .accepted, o .stepsAre, o .few)
 
 returns : tie.Need-returns
 returns c =
-    let s = c .before .before .before .before .before .before .before in
+    let v = c .before .before .before in
     let e = c .before .number .given in
-    refusal (file-rejected (now (s .args .file)) (now (s .args .plan)) (e .0 .0) (e .0 .1 .0) (rw (e .1) at (c .before .before .before .check-source .ensures)))
-
-returns-2 : tie.Need-returns-2
-returns-2 c =
-    let s = c .before .before .before .before .before .before .before .before .before .before .before in
-    let a = rw (c .before .before .before .before .before .actions .given .1) at (c .before .before .before .before .before .before .before .check-source .ensures) in
-    let h = subst (λ (w : Verdict). AcceptedWith w (c .before .before .before .before .before .actions .given .0 .1 .1 .0)) a refl in
-    let e = c .before .number2 .given in
-    refusal (plan-refused (now (s .args .file)) (now (s .args .plan)) _ h (e .0 .0) (e .0 .1 .0) (no-steps (now (s .args .plan)) (e .0 .0) (e .0 .1 .0) (rw (e .1) at (c .before .before .before .count-steps .ensures))))
+    let s = v .before .before .before .before .args in
+    refusal (sym (opened-refused (now (s .file)) (now (s .plan)) expansionAnswer (e .0 .0) (e .0 .1 .0) (rw (e .1) at (v .open .ensures))))
 
 same-length : tie.Need-same-length
 same-length c = search needs
 
-returns-3 : tie.Need-returns-3
-returns-3 c =
-    let s = c .before .before .before .before .before .before .before .before .before .before .before .before .before .before .before in
-    let a = rw (c .before .before .before .before .before .before .before .before .before .actions .given .1) at (c .before .before .before .before .before .before .before .before .before .before .before .check-source .ensures) in
-    let h = subst (λ (w : Verdict). AcceptedWith w (c .before .before .before .before .before .before .before .before .before .actions .given .0 .1 .1 .0)) a refl in
-    let n = steps-of (now (s .args .plan)) (c .before .before .before .before .before .steps .given .0 .0) (rw (c .before .before .before .before .before .steps .given .1) at (c .before .before .before .before .before .before .before .count-steps .ensures)) in
-    plan-expanded (now (s .args .file)) (now (s .args .plan)) _ h (planNumbers (now (s .args .plan))) (n .0) (c .before .before .expand-steps .ensures)
+returns-2 : tie.Need-returns-2
+returns-2 c = plan-expanded _ _ _ _ (ready (c .before .before .before .before .before)) (c .before .before .expand-steps .ensures)
 
 pub expand-spec : {M : Type 1} → statement M
 expand-spec =
     tie.close
     (tie.spec
-    check-source-requires
+    open-requires
     enum-known-number
-    enum-known-actions
-    count-steps-requires
-    enum-known-number-2
-    enum-known-steps
-    cast-expand-steps
+    enum-known-count
     expand-steps-requires
     returns
-    returns-2
     same-length
-    returns-3)
+    returns-2)
