@@ -1,4 +1,4 @@
--- What the judge's parts make of an accepted file.
+-- What is read of an accepted file is its task: the actions, the goal, what is declared.
 -- Assumes nothing.
 use mathlib.Core.Path.{_≡_, refl, sym, ap, ap₂, _∙_, subst}
 use Prim.Native.Nat.{ℕ, suc, _≤_, _<_}
