@@ -2,25 +2,25 @@
 -- goal. And the table of places has the places.
 -- Assumes nothing.
 use mathlib.Core.Path.{_≡_, refl, _∙_, sym, ap, subst, subst⁻¹}
-use mathlib.Core.List.{List, [], _∷_}
-use mathlib.Core.Option.{Option, some, Option·none-ne-some}
-use Prim.Native.Nat.{ℕ, zero, suc, _+_, _<_, _≤_}
+use mathlib.Core.List.{List, [], _∷_, map}
+use mathlib.Core.Option.{some, Option·none-ne-some}
+use Prim.Native.Nat.{ℕ, zero, suc, _<_, _≤_}
 use native.Mathlib.Omega.{arith}
-use lib.ListN.{length, getD, take, drop, getElem?, List·getD-append}
+use lib.ListN.{length, getD, take, drop, getElem?, List·getD-append, length-map}
 use lib.Seq.{take-all}
 use Rattle.integers.specs.All.{All}
 use Rattle.integers.specs.Numbers.{Bytes}
-use Rattle.lists.specs.Answer.{Answer, given, refused}
+use Rattle.lists.specs.Answer.{given}
 use Rattle.lists.specs.Writing.{splice}
 use Rattle.lists.proofs.Writing.{splice-front}
-use Rattle.model.specs.Tasks.{NumericCondition, SourceAction, RestrictedAction, SourceTask, RestrictedTask}
+use Rattle.commands.specs.declared.Command.{Command}
+use Rattle.model.specs.Tasks.{NumericCondition, noEffect, SourceAction, SourceTask, RestrictedTask}
 use Rattle.model.specs.Limits.{Limits, sourceLimits, restrictedLimits}
 use Rattle.model.specs.Steps.{sizesOf}
 use Rattle.model.specs.Reading.{Verdict, Accepted, Rejected, verdictOf, commandsOf}
-use Rattle.model.specs.Decoding.{Part, Draft, draftOf, sourceActionOf, restrictedActionOf, sourceTaskOf, restrictedTaskOf, each, onVerdict, readSource, readRestricted}
+use Rattle.model.specs.Decoding.{actionsOf, goalOf as goalCommandsOf, conditionsOf, modeConditionsOf, sourceActionOf, restrictedActionOf, sourceTaskOf, restrictedTaskOf, onVerdict, readSource, readRestricted}
 use Rattle.model.specs.TaskOk.{ConditionsOk, SourceActionOk, RestrictedActionOk, SourceTaskOk, RestrictedTaskOk}
 use Rattle.model.specs.ActionBytes.{edgeOf, actionPart, decodeAction}
-use Rattle.model.proofs.ReadingLaws.{length-each}
 use Rattle.model.proofs.AcceptedTrail.{Is}
 use Rattle.model.proofs.AcceptedOk.{accepted-source-ok, accepted-restricted-ok}
 use Rattle.model.proofs.ActionBytes.{action-decodes}
@@ -32,32 +32,32 @@ use Rattle.actions.specs.Places.{edgesOf, goalPart}
 use Rattle.actions.specs.Views.{GoalDecoded, conditionRoom, modeConditionRoom, sourceActionIs, restrictedActionIs, goalConditionsIs, goalModesIs, fittingSource, fittingRestricted}
 use Rattle.actions.specs.Within.{GoalWithin, SourceWithin, RestrictedWithin}
 use Rattle.actions.proofs.Fits.{source-fits, restricted-fits, goal-within, source-within, restricted-within}
-use Rattle.actions.proofs.GoalBytes.{edges-counted, goal-decodes}
+use Rattle.actions.proofs.GoalBytes.{edges-counted, goal-decodes, Quiet, goal-quiet}
 
 -- ---- a file that a reader gives a task for
 accepted : {A : Type 0} (v : Verdict) (t u : A) → onVerdict v t ≡ given u → Is v × (t ≡ u)
 accepted (Accepted a b c) t u e = (tt, cc)
 accepted (Rejected n w) t u e = let z : _≡_ {A = ℕ} 0 1 = cc in absurd (omega arith)
 
-get-each : {A B : Type 0} (f : A → B) (xs : List A) (k : ℕ) (x : A) → getElem? xs k ≡ some x → getElem? (each f xs) k ≡ some (f x)
-get-each f [] k x e = absurd (Option·none-ne-some x e)
-get-each f (y ∷ xs) zero x e = cc
-get-each f (y ∷ xs) (suc k) x e = get-each f xs k x e
+get-map : {A B : Type 0} (f : A → B) (xs : List A) (k : ℕ) (x : A) → getElem? xs k ≡ some x → getElem? (map f xs) k ≡ some (f x)
+get-map f [] k x e = absurd (Option·none-ne-some x e)
+get-map f (y ∷ xs) zero x e = cc
+get-map f (y ∷ xs) (suc k) x e = get-map f xs k x e
 
 -- ---- a file of either kind, read as a task with actions
-module _ {Task Action : Type 0} (l : Limits) (taskOf : Draft → Task) (actionOf : Part → Action) (actions : Task → List Action) (actionsAre : (d : Draft) → actions (taskOf d) ≡ each actionOf (d .actions))
-    (file : List ℕ) (bytes : Bytes file) (t : Task) (is : onVerdict (verdictOf l file) (taskOf (draftOf (commandsOf l file))) ≡ given t) where
+module _ {Task Action : Type 0} (l : Limits) (taskOf : List Command → Task) (actionOf : List Command → Action) (actions : Task → List Action) (actionsAre : (cs : List Command) → actions (taskOf cs) ≡ map actionOf (actionsOf cs))
+    (file : List ℕ) (bytes : Bytes file) (t : Task) (is : onVerdict (verdictOf l file) (taskOf (commandsOf l file)) ≡ given t) where
   verdict : Is (verdictOf l file)
-  verdict = accepted (verdictOf l file) (taskOf (draftOf (commandsOf l file))) t is .0
+  verdict = accepted (verdictOf l file) (taskOf (commandsOf l file)) t is .0
 
-  task : taskOf (draftOf (commandsOf l file)) ≡ t
-  task = accepted (verdictOf l file) (taskOf (draftOf (commandsOf l file))) t is .1
+  task : taskOf (commandsOf l file) ≡ t
+  task = accepted (verdictOf l file) (taskOf (commandsOf l file)) t is .1
 
-  actions-are : each actionOf (draftOf (commandsOf l file) .actions) ≡ actions t
-  actions-are = sym (actionsAre (draftOf (commandsOf l file))) ∙ ap actions task
+  actions-are : map actionOf (actionsOf (commandsOf l file)) ≡ actions t
+  actions-are = sym (actionsAre (commandsOf l file)) ∙ ap actions task
 
-  counted : length (draftOf (commandsOf l file) .actions) ≡ length (actions t)
-  counted = sym (length-each actionOf (draftOf (commandsOf l file) .actions)) ∙ ap length actions-are
+  counted : length (actionsOf (commandsOf l file)) ≡ length (actions t)
+  counted = sym (length-map (actionsOf (commandsOf l file)) actionOf) ∙ ap length actions-are
 
   -- as many edges as actions, and one more
   edges-of : length (edgesOf file) ≡ suc (length (actions t))
@@ -68,7 +68,7 @@ module _ {Task Action : Type 0} (l : Limits) (taskOf : Draft → Task) (actionOf
     action-is : getElem? (actions t) k ≡ some (actionOf (decodeAction (actionPart file k)))
     action-is =
         ap (λ (all : List Action). getElem? all k) (sym actions-are)
-        ∙ get-each actionOf (draftOf (commandsOf l file) .actions) k (decodeAction (actionPart file k)) (action-decodes l file bytes verdict k (omega (arith, below, counted)))
+        ∙ get-map actionOf (actionsOf (commandsOf l file)) k (decodeAction (actionPart file k)) (action-decodes l file bytes verdict k (omega (arith, below, counted)))
 
     action-ok : Ok (actionOf (decodeAction (actionPart file k)))
     action-ok = all-get Ok (actions t) k (actionOf (decodeAction (actionPart file k))) oks action-is
@@ -79,23 +79,30 @@ module _ {Task Action : Type 0} (l : Limits) (taskOf : Draft → Task) (actionOf
     decoded-ok : (a : Action) → a ≡ fitting (actionOf (decodeAction (actionPart file k))) → Ok a
     decoded-ok a e = subst⁻¹ Ok (e ∙ fits (actionOf (decodeAction (actionPart file k))) action-ok) action-ok
 
-  -- what is decoded from the bytes of the goal is the goal
-  module _ (goalOf : Task → List (ℕ × ℕ) × List (NumericCondition ℕ)) (goalIs : (d : Draft) → goalOf (taskOf d) ≡ (d .goal .modeConditions, d .goal .conditions))
-      (few : (length (goalOf t .0) ≤ modeConditionRoom) × (length (goalOf t .1) ≤ conditionRoom)) (g : Goal) (decoded : GoalDecoded (goalPart file (length (actions t))) g) where
-    goal-is : goalOf t ≡ (decodeAction (goalPart file (length (actions t))) .modeConditions, decodeAction (goalPart file (length (actions t))) .conditions)
+  -- the bytes of the goal have no effects
+  goal-without : Quiet (decodeAction (goalPart file (length (actions t))))
+  goal-without = subst (λ (n : ℕ). Quiet (decodeAction (goalPart file n))) counted (goal-quiet l file bytes verdict)
+
+  -- what is decoded from them is the goal
+  module _ (goalOf : Task → List (ℕ × ℕ) × List (NumericCondition ℕ))
+      (goalIs : (cs : List Command) → goalOf (taskOf cs) ≡ (modeConditionsOf (goalCommandsOf cs), conditionsOf (goalCommandsOf cs))) where
+    goal-is : goalOf t ≡ (modeConditionsOf (decodeAction (goalPart file (length (actions t)))), conditionsOf (decodeAction (goalPart file (length (actions t)))))
     goal-is =
-        ap goalOf (sym task) ∙ goalIs (draftOf (commandsOf l file))
-        ∙ ap (λ (p : Part). (p .modeConditions, p .conditions)) (goal-decodes l file bytes verdict ∙ ap (λ (n : ℕ). decodeAction (goalPart file n)) counted)
+        ap goalOf (sym task) ∙ goalIs (commandsOf l file)
+        ∙ ap (λ (cs : List Command). (modeConditionsOf cs, conditionsOf cs)) (goal-decodes l file bytes verdict ∙ ap (λ (n : ℕ). decodeAction (goalPart file n)) counted)
 
-    goal-conditions : goalConditionsIs g ≡ goalOf t .1
-    goal-conditions = decoded .conditions ∙ ap (take conditionRoom) (sym (ap (λ z. z .1) goal-is)) ∙ take-all conditionRoom (goalOf t .1) (few .1)
+    module _ (few : (length (goalOf t .0) ≤ modeConditionRoom) × (length (goalOf t .1) ≤ conditionRoom)) (g : Goal)
+        (decoded : GoalDecoded (goalPart file (length (actions t))) g) where
+      goal-conditions : goalConditionsIs g ≡ goalOf t .1
+      goal-conditions = decoded .conditions ∙ ap (take conditionRoom) (sym (ap (λ z. z .1) goal-is)) ∙ take-all conditionRoom (goalOf t .1) (few .1)
 
-    goal-modes : goalModesIs g ≡ goalOf t .0
-    goal-modes = decoded .modeConditions ∙ ap (take modeConditionRoom) (sym (ap (λ z. z .0) goal-is)) ∙ take-all modeConditionRoom (goalOf t .0) (few .0)
+      goal-modes : goalModesIs g ≡ goalOf t .0
+      goal-modes = decoded .modeConditions ∙ ap (take modeConditionRoom) (sym (ap (λ z. z .0) goal-is)) ∙ take-all modeConditionRoom (goalOf t .0) (few .0)
 
-    goal-ok : (n : ℕ) (sizes : List ℕ) → ConditionsOk l n sizes (goalOf t .0) (goalOf t .1) → GoalWithin l n sizes g
-    goal-ok n sizes h = goal-within l n sizes g
-        (subst⁻¹ (λ (ps : List (ℕ × ℕ)). ConditionsOk l n sizes ps (goalConditionsIs g)) goal-modes (subst⁻¹ (λ (cs : List (NumericCondition ℕ)). ConditionsOk l n sizes (goalOf t .0) cs) goal-conditions h))
+      goal-ok : (n : ℕ) (sizes : List ℕ) → ConditionsOk l n sizes (goalOf t .0) (goalOf t .1) → GoalWithin l n sizes g
+      goal-ok n sizes h = goal-within l n sizes g
+          (subst⁻¹ (λ (ps : List (ℕ × ℕ)). ConditionsOk l n sizes ps (goalConditionsIs g)) goal-modes
+          (subst⁻¹ (λ (cs : List (NumericCondition ℕ)). ConditionsOk l n sizes (goalOf t .0) cs) goal-conditions h))
 
 -- ---- a source file
 module _ (file : List ℕ) (bytes : Bytes file) (t : SourceTask) (is : readSource file ≡ given t) where
@@ -103,7 +110,7 @@ module _ (file : List ℕ) (bytes : Bytes file) (t : SourceTask) (is : readSourc
   sourceOk = accepted-source-ok file t is
 
   sourceModes : length (sizesOf (t .modes)) ≤ sourceLimits .modes
-  sourceModes = omega (arith, sourceOk .modesFew, length-each (λ (m : ℕ × ℕ). m .0) (t .modes))
+  sourceModes = omega (arith, sourceOk .modesFew, length-map (t .modes) (λ (m : ℕ × ℕ). m .0))
 
   pub source-edges : length (edgesOf file) ≡ suc (length (t .actions))
   source-edges = edges-of sourceLimits sourceTaskOf sourceActionOf (λ u. u .actions) (λ d. refl) file bytes t is
@@ -118,6 +125,29 @@ module _ (file : List ℕ) (bytes : Bytes file) (t : SourceTask) (is : readSourc
     pub source-action-within : SourceWithin sourceLimits (length (t .variables)) (sizesOf (t .modes)) a
     source-action-within = source-within sourceLimits (length (t .variables)) (sizesOf (t .modes)) a (decoded-ok sourceLimits sourceTaskOf sourceActionOf (λ u. u .actions) (λ d. refl) file bytes t is
         (SourceActionOk sourceLimits (length (t .variables)) (sizesOf (t .modes))) (sourceOk .actionsOk) fittingSource (λ b h. source-fits (length (t .variables)) (sizesOf (t .modes)) b h sourceModes) k below (sourceActionIs a) decoded)
+
+  -- the goal as an action of the task, which has no effects
+  abbrev pub goal-action : SourceAction
+  goal-action = record { modeConditions = t .goalModes; conditions = t .goalConditions; modeEffects = []; effect = noEffect }
+
+  pub goal-action-ok : SourceActionOk sourceLimits (length (t .variables)) (sizesOf (t .modes)) goal-action
+  goal-action-ok = record { conditionsOk = sourceOk .goal; modeEffectsIn = tt; modeEffectsOnce = tt; effectOk = tt }
+
+  -- what is decoded as an action from its bytes is that
+  pub source-goal-decoded : (a : DecodedSource) → sourceActionIs a ≡ fittingSource (sourceActionOf (decodeAction (goalPart file (length (t .actions)))))
+      → sourceActionIs a ≡ goal-action
+  source-goal-decoded a e =
+      let cs = decodeAction (goalPart file (length (t .actions))) in
+      let asks = goal-is sourceLimits sourceTaskOf sourceActionOf (λ u. u .actions) (λ d. refl) file bytes t is
+      (λ u. (u .goalModes, u .goalConditions)) (λ d. refl) in
+      let (modes, effect) = goal-without sourceLimits sourceTaskOf sourceActionOf (λ u. u .actions) (λ d. refl) file bytes t is in
+      let same : sourceActionOf cs ≡ goal-action = λ i. record {
+        modeConditions = sym (ap (λ z. z .0) asks) i;
+        conditions = sym (ap (λ z. z .1) asks) i;
+        modeEffects = modes i;
+        effect = effect i;
+      } in
+      e ∙ ap fittingSource same ∙ source-fits (length (t .variables)) (sizesOf (t .modes)) goal-action goal-action-ok sourceModes
 
   module _ (g : Goal) (decoded : GoalDecoded (goalPart file (length (t .actions))) g) where
     sourceRoom : (length (t .goalModes) ≤ modeConditionRoom) × (length (t .goalConditions) ≤ conditionRoom)
@@ -140,7 +170,7 @@ module _ (file : List ℕ) (bytes : Bytes file) (t : RestrictedTask) (is : readR
   restrictedOk = accepted-restricted-ok file t is
 
   restrictedModes : length (sizesOf (t .modes)) ≤ restrictedLimits .modes
-  restrictedModes = omega (arith, restrictedOk .modesFew, length-each (λ (m : ℕ × ℕ). m .0) (t .modes))
+  restrictedModes = omega (arith, restrictedOk .modesFew, length-map (t .modes) (λ (m : ℕ × ℕ). m .0))
 
   pub restricted-edges : length (edgesOf file) ≡ suc (length (t .actions))
   restricted-edges = edges-of restrictedLimits restrictedTaskOf restrictedActionOf (λ u. u .actions) (λ d. refl) file bytes t is
@@ -150,11 +180,6 @@ module _ (file : List ℕ) (bytes : Bytes file) (t : RestrictedTask) (is : readR
     pub restricted-action-decoded : getElem? (t .actions) k ≡ some (restrictedActionIs a)
     restricted-action-decoded = decoded-is restrictedLimits restrictedTaskOf restrictedActionOf (λ u. u .actions) (λ d. refl) file bytes t is
         (RestrictedActionOk restrictedLimits (length (t .starts)) (sizesOf (t .modes))) (restrictedOk .actionsOk) fittingRestricted (λ b h. restricted-fits (length (t .starts)) (sizesOf (t .modes)) b h restrictedModes) k below (restrictedActionIs a) decoded
-
-    -- and keeps to the rules
-    pub restricted-action-within : RestrictedWithin restrictedLimits (length (t .starts)) (sizesOf (t .modes)) a
-    restricted-action-within = restricted-within restrictedLimits (length (t .starts)) (sizesOf (t .modes)) a (decoded-ok restrictedLimits restrictedTaskOf restrictedActionOf (λ u. u .actions) (λ d. refl) file bytes t is
-        (RestrictedActionOk restrictedLimits (length (t .starts)) (sizesOf (t .modes))) (restrictedOk .actionsOk) fittingRestricted (λ b h. restricted-fits (length (t .starts)) (sizesOf (t .modes)) b h restrictedModes) k below (restrictedActionIs a) decoded)
 
   module _ (g : Goal) (decoded : GoalDecoded (goalPart file (length (t .actions))) g) where
     restrictedRoom : (length (t .goalModes) ≤ modeConditionRoom) × (length (t .goalConditions) ≤ conditionRoom)
@@ -166,10 +191,6 @@ module _ (file : List ℕ) (bytes : Bytes file) (t : RestrictedTask) (is : readR
 
     pub restricted-goal-modes : goalModesIs g ≡ t .goalModes
     restricted-goal-modes = goal-modes restrictedLimits restrictedTaskOf restrictedActionOf (λ u. u .actions) (λ d. refl) file bytes t is (λ u. (u .goalModes, u .goalConditions)) (λ d. refl) restrictedRoom g decoded
-
-    pub restricted-goal-within : GoalWithin restrictedLimits (length (t .starts)) (sizesOf (t .modes)) g
-    restricted-goal-within = goal-ok restrictedLimits restrictedTaskOf restrictedActionOf (λ u. u .actions) (λ d. refl) file bytes t is (λ u. (u .goalModes, u .goalConditions)) (λ d. refl) restrictedRoom g decoded
-        (length (t .starts)) (sizesOf (t .modes)) (restrictedOk .goal)
 
 -- ---- the table of places
 -- a table with room for the edges has each of them at its number

@@ -10,14 +10,15 @@ use lib.Seq.{drop-drop, getD-drop, set-out}
 use borrow.Author.Tests.{eq-eqb, ne-eqb}
 use Rattle.lists.specs.Writing.{splice}
 use Rattle.commands.specs.Table.{letterA, letterG, sizeOfByte}
-use Rattle.model.specs.ActionBytes.{edges, edgeOf}
+use Rattle.model.specs.Reading.{remainders}
+use Rattle.model.specs.ActionBytes.{edges, edgeOf, edgesAlong}
 use Rattle.actions.specs.Places.{edgesOf, EdgesLeft, Sought}
 
 pub all-left : (file : List ℕ) → EdgesLeft file 0 (edgesOf file)
 all-left file = record { most = suc (length file); enough = omega arith; are = refl }
 
 pub none-left : (file : List ℕ) (at : ℕ) (left : List ℕ) → length file ≤ at → EdgesLeft file at left → left ≡ []
-unfolding edges
+unfolding remainders edgesAlong
 none-left file at left h e = e .are ∙ nothing (e .most)
   where
     nothing : (most : ℕ) → edges most at (drop at file) ≡ []
@@ -32,7 +33,7 @@ module _ (file : List ℕ) (at : ℕ) (left : List ℕ) (h : at < length file) w
   first = getD-drop at file 0 0 ∙ ap (λ (i : ℕ). getD file i 0) (add-zero at)
 
   pub at-goal : getD file at 0 ≡ letterG → EdgesLeft file at left → left ≡ at ∷ []
-  unfolding edges
+  unfolding remainders edgesAlong
   at-goal g e = e .are ∙ go (e .most) (e .enough)
     where
       go : (most : ℕ) → length file < most + at → edges most at (drop at file) ≡ at ∷ []
@@ -41,7 +42,7 @@ module _ (file : List ℕ) (at : ℕ) (left : List ℕ) (h : at < length file) w
 
   module _ (size : ℕ) (is : size ≡ sizeOfByte (getD file at 0)) (moves : 0 < size) where
     pub at-action : getD file at 0 ≡ letterA → EdgesLeft file at left → (more : List ℕ) × (left ≡ at ∷ more) × EdgesLeft file (at + size) more
-    unfolding edges
+    unfolding remainders edgesAlong
     at-action g e = go (e .most) (e .enough) (e .are)
       where
         go : (most : ℕ) → length file < most + at → left ≡ edges most at (drop at file) → (more : List ℕ) × (left ≡ at ∷ more) × EdgesLeft file (at + size) more
@@ -49,7 +50,7 @@ module _ (file : List ℕ) (at : ℕ) (left : List ℕ) (h : at < length file) w
         go (suc most) b q = (edges most (at + size) (drop (at + size) file), q ∙ rw (ne-eqb _ 0 some, first, ← is, drop-drop size at file, g), record { most = most; enough = omega arith; are = refl })
 
     pub at-other : (getD file at 0 ≡ letterG → ⊥) → (getD file at 0 ≡ letterA → ⊥) → EdgesLeft file at left → EdgesLeft file (at + size) left
-    unfolding edges
+    unfolding remainders edgesAlong
     at-other g a e = go (e .most) (e .enough) (e .are)
       where
         go : (most : ℕ) → length file < most + at → left ≡ edges most at (drop at file) → EdgesLeft file (at + size) left
@@ -71,7 +72,7 @@ module _ {file : List ℕ} {k at number : ℕ} (s : Sought file k at number) whe
 
   -- it is none of those that are left, or the first
   none-found : (l : List ℕ) → s .left ≡ l → length l ≤ number → (length file ≡ edgeOf file k) × Sought file (suc k) (length file) 1
-  unfolding edges
+  unfolding remainders edgesAlong
   none-found l e h = (sym here, record { left = []; there = ends; sought = λ j. behind j ∙ past (j + suc number) (omega arith) })
     where
       past : (i : ℕ) → number ≤ i → getD (s .left) i (length file) ≡ length file

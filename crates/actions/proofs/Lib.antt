@@ -7,3 +7,4 @@ pub mod GoalBytes
 pub mod Kept
 pub mod NumericPart
 pub mod Parts
+pub mod Refusals

@@ -5,14 +5,8 @@ use Prim.Native.Nat.{ℕ}
 use mathlib.Core.List.{List, [], _++_}
 use lib.ListN.{length, take}
 use lib.IntN.{ℤ}
-use Rattle.commands.specs.declared.Command.{Command}
 use Rattle.model.specs.Tasks.{NumericCondition}
-use Rattle.model.specs.Decoding.{Part, emptyPart, inFront}
 use Rattle.actions.specs.Views.{conditionsIs, pairsIs}
-
--- what a command by itself gives of an action
-abbrev pub givenBy : Command → Part
-givenBy c = inFront c emptyPart
 
 -- of the conditions `all` the first n, which are as many as there is room for
 pub record ConditionsKept (room n : ℕ) (variables relations : List ℕ) (constants : List ℤ) (all : List (NumericCondition ℕ)) : Type 0 where

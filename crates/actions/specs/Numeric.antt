@@ -3,13 +3,13 @@
 use mathlib.Core.Path.{_≡_}
 use Prim.Native.Nat.{ℕ, _+_, _≤_}
 use mathlib.Core.Bool.{cond}
-use mathlib.Core.List.{List, _++_}
+use mathlib.Core.List.{List, _∷_, _++_}
 use lib.Dec.{ltb}
 use lib.IntN.{ℤ, pos}
 use lib.ListN.{take, set, replicate}
 use Rattle.commands.specs.declared.Command.{Command}
 use Rattle.model.specs.Tasks.{Effect, addEffect, linearEffect, quotientEffect, residueEffect}
-use Rattle.model.specs.Decoding.{Part, inFront}
+use Rattle.model.specs.Decoding.{effectOf, termsOf}
 use Rattle.actions.specs.declared.Term.{Term}
 use Rattle.actions.specs.declared.Effect.{Effect as DecodedEffect}
 use Rattle.actions.specs.declared.Effect.the-variants.{None, Add, Linear, Quotient, Residue}
@@ -55,4 +55,4 @@ effectWith n effect terms = effectFrom (n .effect) (termsIs (n .«term_count») 
 -- r is n with what a command adds: whatever follows, the action's effect is the same; and there are no more terms than there is room for
 pub record EffectTaken (n : Numeric) (c : Command) (r : Numeric) : Type 0 where
   pub few : n .«term_count» ≤ termRoom → r .«term_count» ≤ termRoom
-  pub same : (p : Part) → effectWith r (p .effect) (p .terms) ≡ effectWith n (inFront c p .effect) (inFront c p .terms)
+  pub same : (cs : List Command) → effectWith r (effectOf cs) (termsOf cs) ≡ effectWith n (effectOf (c ∷ cs)) (termsOf (c ∷ cs))

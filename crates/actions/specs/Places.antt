@@ -2,11 +2,14 @@
 -- Assumes nothing.
 use mathlib.Core.Path.{_≡_}
 use Prim.Native.Nat.{ℕ, suc, _+_, _-_, _<_}
+use mathlib.Core.Bool.{cond}
 use mathlib.Core.List.{List, [], _∷_}
+use lib.Dec.{eqb}
 use lib.ListN.{length, getD, take, drop}
 use Rattle.lists.specs.Answer.{Answer, given, refused}
 use Rattle.commands.specs.Table.{sizeOfByte}
-use Rattle.model.specs.ActionBytes.{edges, edgeOf}
+use Rattle.model.specs.Limits.{Limits}
+use Rattle.model.specs.ActionBytes.{edges, edgeOf, partAt, actionBytes}
 use Rattle.actions.specs.declared.Placed.{Placed}
 use Rattle.actions.specs.declared.Placed.the-variants.{At, Refused}
 
@@ -38,10 +41,22 @@ abbrev pub placedIs : Placed → Answer (ℕ × ℕ)
 placedIs (At start end) = given (start, end)
 placedIs (Refused number place) = refused number place
 
--- what is given; nothing where the answer is a refusal
-abbrev pub bytesGiven : Answer (List ℕ) → List ℕ
-bytesGiven (given bytes) = bytes
-bytesGiven (refused number place) = []
+-- a place told with its bytes: 0 and where they begin, or the refusal's number and place, and no bytes
+abbrev pub bytesTold : Answer (ℕ × ℕ) → List ℕ → ℕ × ℕ × List ℕ
+bytesTold (given place) file = (0, place .0, partAt file place)
+bytesTold (refused number place) file = (number, place, [])
+
+-- the bytes are those of action k of an accepted file; and of one of its actions
+abbrev pub BytesOfAction : Limits → List ℕ → ℕ → List ℕ → Type 0
+BytesOfAction l file k bytes = actionBytes l file k ≡ given bytes
+
+pub record BytesOfSome (l : Limits) (file bytes : List ℕ) : Type 0 where
+  pub number : ℕ
+  pub are : BytesOfAction l file number bytes
+
+-- the place of a refusal where a step by itself asks for its action: 11 is at step 0
+abbrev pub stepPlace : ℕ → ℕ → ℕ
+stepPlace number place = cond (eqb number 11) 0 place
 
 -- the goal of a file with so many actions stands from its G, behind them, up to its Z, which is the last byte
 abbrev pub goalPart : List ℕ → ℕ → List ℕ

@@ -2,13 +2,13 @@
 -- Assumes nothing.
 use mathlib.Core.Path.{_≡_}
 use Prim.Native.Nat.{ℕ}
-use mathlib.Core.List.{List, [], _∷_}
+use mathlib.Core.List.{List, [], _∷_, map}
 use lib.ListN.{getD, take}
 use lib.IntN.{ℤ, pos}
 use Rattle.integers.specs.Relation.{relationOf}
 use Rattle.lists.specs.Each.{tabulate}
 use Rattle.model.specs.Tasks.{variable, NumericCondition, Effect, noEffect, addEffect, linearEffect, quotientEffect, residueEffect, SourceAction, RestrictedAction}
-use Rattle.model.specs.Decoding.{each}
+use Rattle.model.specs.Decoding.{conditionsOf, modeConditionsOf}
 use Rattle.model.specs.ActionBytes.{decodeAction}
 use Rattle.model.specs.Limits.{sourceLimits, restrictedLimits}
 use Rattle.actions.specs.declared.Goal.{Goal}
@@ -53,7 +53,7 @@ abbrev pub termIs : Term → ℕ × ℤ
 termIs t = (t .variable, t .weight)
 
 abbrev pub termsIs : ℕ → List Term → List (ℕ × ℤ)
-termsIs n terms = each termIs (take n terms)
+termsIs n terms = map termIs (take n terms)
 
 -- an effect, with the terms that stand beside it
 abbrev pub effectIs : DecodedEffect → List (ℕ × ℤ) → Effect
@@ -112,5 +112,5 @@ fittingRestricted a = record {
 
 -- a goal that is decoded from bytes
 pub record GoalDecoded (bytes : List ℕ) (g : Goal) : Type 0 where
-  pub conditions : goalConditionsIs g ≡ take conditionRoom (decodeAction bytes .conditions)
-  pub modeConditions : goalModesIs g ≡ take modeConditionRoom (decodeAction bytes .modeConditions)
+  pub conditions : goalConditionsIs g ≡ take conditionRoom (conditionsOf (decodeAction bytes))
+  pub modeConditions : goalModesIs g ≡ take modeConditionRoom (modeConditionsOf (decodeAction bytes))

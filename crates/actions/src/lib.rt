@@ -4,7 +4,7 @@
 use commands::Command;
 use tasks::Verdict;
 ghost use mathlib.Core.Path.{_≡_};
-ghost use mathlib.Core.List.{[]};
+ghost use mathlib.Core.List.{[], _∷_};
 ghost use Prim.Native.Nat.{_<_, _≤_};
 ghost use lib.ListN.{length, getD};
 ghost use lib.IntN.{pos};
@@ -13,13 +13,12 @@ ghost use Rattle.commands.specs.Table.{letterC, letterP, letterE, plusSign};
 ghost use Rattle.commands.specs.Reading.{commandAt};
 ghost use Rattle.model.specs.Rules.{constant};
 ghost use Rattle.model.specs.Tasks.{noEffect};
-ghost use Rattle.model.specs.Decoding.{sourceActionOf, restrictedActionOf};
-ghost use Rattle.lists.specs.Answer.{given, then};
-ghost use Rattle.model.specs.ActionBytes.{edgeOf, ofVerdict, actionPlace, partAt, actionBytes, decodeAction};
+ghost use Rattle.model.specs.Decoding.{conditionsOf, modeConditionsOf, modeEffectsOf, additionsOf, effectOf, sourceActionOf, restrictedActionOf};
+ghost use Rattle.model.specs.ActionBytes.{edgeOf, ofVerdict, actionPlace, decodeAction};
 ghost use Rattle.model.specs.Limits.{sourceLimits, restrictedLimits};
 ghost use Rattle.tasks.specs.Views.{verdictIs};
-ghost use Rattle.actions.specs.Places.{edgesOf, Found, bodyStart, partOf, placedIs, bytesGiven, goalPart};
-ghost use Rattle.actions.specs.Kept.{givenBy, KeepsConditions, KeepsPairs, FillsConditions, FillsPairs};
+ghost use Rattle.actions.specs.Places.{edgesOf, Found, bodyStart, partOf, placedIs, bytesTold, stepPlace, goalPart};
+ghost use Rattle.actions.specs.Kept.{KeepsConditions, KeepsPairs, FillsConditions, FillsPairs};
 ghost use Rattle.actions.specs.Numeric.{nothing, withEffect, withTerm, effectWith, EffectTaken};
 ghost use Rattle.actions.specs.Views.{conditionRoom, modeConditionRoom, modeEffectRoom, additionRoom, termRoom};
 ghost use Rattle.actions.specs.Views.{sourceActionIs, restrictedActionIs, GoalDecoded, fittingEffect, fittingSource, fittingRestricted};
@@ -100,7 +99,7 @@ pub struct SourceAction {
 
 // From an offset on, the offset of the one of the commands A and, last, G before which so many of them stand; the file's length where there
 // are not so many. It is the one that `Sought` speaks of, and from there the next is number 1.
-pub fn edge_from(file: &[u8], from: usize, number: usize) -> usize
+fn edge_from(file: &[u8], from: usize, number: usize) -> usize
     ensures { λ r. ⌜ Found (now (file .entry)) from number r ⌝ }
 {
     let mut at = from;
@@ -128,7 +127,7 @@ pub fn edge_from(file: &[u8], from: usize, number: usize) -> usize
 }
 
 // The offset of the k-th of the commands A and, last, G; the file's length where there are not so many.
-pub fn find_edge(file: &[u8], k: usize) -> usize
+fn find_edge(file: &[u8], k: usize) -> usize
     ensures { λ r. ⌜ r ≡ edgeOf (now (file .entry)) k ⌝ }
 {
     edge_from(file, 0, k)
@@ -213,28 +212,57 @@ pub fn part(file: &[u8], start: usize, end: usize) -> &[u8]
     &file[..0]
 }
 
-// The part of a file where an action stands; nothing on a refusal.
-fn placed_part(file: &[u8], placed: Placed) -> &[u8]
-    ensures { λ r. ⌜ now r ≡ bytesGiven (then (placedIs placed) (λ place. given (partAt (now (file .entry)) place))) ⌝ }
+// The part of a file where an action stands, and 0 with the place where it begins; or no bytes, and the number and place of the refusal.
+fn tell_part<'a>(file: &'a [u8], placed: Placed, number: &mut u8, place: &mut u64) -> &'a [u8]
+    ensures { λ r. ⌜ bytesTold (placedIs placed) (now (file .entry)) ≡ (now (number .exit), now (place .exit), now r) ⌝ }
 {
     match placed {
-        Placed::At(start, end) => part(file, start, end),
-        Placed::Refused(_, _) => &file[..0],
+        Placed::At(start, end) => {
+            *number = 0;
+            *place = start as u64;
+            part(file, start, end)
+        }
+        Placed::Refused(refusal, at) => {
+            *number = refusal;
+            *place = at;
+            &file[..0]
+        }
     }
 }
 
-// The bytes of action k of a source file, as a part of the caller's file; none on a refusal.
-pub fn source_action_bytes(file: &[u8], k: usize) -> &[u8]
-    ensures { λ r. ⌜ now r ≡ bytesGiven (actionBytes sourceLimits (now (file .entry)) k) ⌝ }
+// The bytes of action k of a source file, as a part of the caller's file, from its A up to the next A or G. `number` and `place` say how it
+// went: 0 and the place where the part begins, or the refusal's number, which is never 0, and its place, and no bytes.
+pub fn source_action_bytes<'a>(
+    file: &'a [u8],
+    k: usize,
+    number: &mut u8,
+    place: &mut u64,
+) -> &'a [u8]
+    ensures { λ r. ⌜ bytesTold (actionPlace sourceLimits (now (file .entry)) k) (now (file .entry)) ≡ (now (number .exit), now (place .exit), now r) ⌝ }
 {
-    placed_part(file, place_source_action(file, k))
+    tell_part(file, place_source_action(file, k), number, place)
 }
 
 // The same of a restricted file.
-pub fn restricted_action_bytes(file: &[u8], k: usize) -> &[u8]
-    ensures { λ r. ⌜ now r ≡ bytesGiven (actionBytes restrictedLimits (now (file .entry)) k) ⌝ }
+pub fn restricted_action_bytes<'a>(
+    file: &'a [u8],
+    k: usize,
+    number: &mut u8,
+    place: &mut u64,
+) -> &'a [u8]
+    ensures { λ r. ⌜ bytesTold (actionPlace restrictedLimits (now (file .entry)) k) (now (file .entry)) ≡ (now (number .exit), now (place .exit), now r) ⌝ }
 {
-    placed_part(file, place_restricted_action(file, k))
+    tell_part(file, place_restricted_action(file, k), number, place)
+}
+
+// The place of a refusal where a step by itself asks for its action: it is step 0, so 11 has place 0; a file's refusals keep theirs.
+pub fn step_place(number: u8, place: u64) -> u64
+    ensures { λ r. ⌜ r ≡ stepPlace number place ⌝ }
+{
+    if number == 11 {
+        return 0;
+    }
+    place
 }
 
 // The bytes of the goal of an accepted file that has so many actions, from its G up to its Z.
@@ -259,7 +287,7 @@ fn put_condition(
 ) -> usize
     requires { ⌜ (0 < length (now rest)) × (getD (now rest) 0 0 ≡ letterC) ⌝ }
     ensures { λ r. ⌜ KeepsConditions conditionRoom count (now (variables .entry)) (now (relations .entry)) (now (constants .entry))
-        r (now (variables .exit)) (now (relations .exit)) (now (constants .exit)) (givenBy (commandAt (now (rest .entry))) .conditions) ⌝ }
+        r (now (variables .exit)) (now (relations .exit)) (now (constants .exit)) (conditionsOf (commandAt (now (rest .entry)) ∷ [])) ⌝ }
 {
     let Command::Condition(variable, relation, bits) = commands::read_condition(rest) else {
         return count;
@@ -283,7 +311,7 @@ fn put_mode_condition(
 ) -> usize
     requires { ⌜ (0 < length (now rest)) × (getD (now rest) 0 0 ≡ letterP) ⌝ }
     ensures { λ r. ⌜ KeepsPairs 0 modeConditionRoom count (now (modes .entry)) (now (values .entry))
-        r (now (modes .exit)) (now (values .exit)) (givenBy (commandAt (now (rest .entry))) .modeConditions) ⌝ }
+        r (now (modes .exit)) (now (values .exit)) (modeConditionsOf (commandAt (now (rest .entry)) ∷ [])) ⌝ }
 {
     let Command::ModeCondition(mode, value) = commands::read_mode_condition(rest) else {
         return count;
@@ -305,7 +333,7 @@ fn put_mode_effect(
 ) -> usize
     requires { ⌜ (0 < length (now rest)) × (getD (now rest) 0 0 ≡ letterE) ⌝ }
     ensures { λ r. ⌜ KeepsPairs 0 modeEffectRoom count (now (modes .entry)) (now (values .entry))
-        r (now (modes .exit)) (now (values .exit)) (givenBy (commandAt (now (rest .entry))) .modeEffects) ⌝ }
+        r (now (modes .exit)) (now (values .exit)) (modeEffectsOf (commandAt (now (rest .entry)) ∷ [])) ⌝ }
 {
     let Command::ModeEffect(mode, value) = commands::read_mode_effect(rest) else {
         return count;
@@ -327,7 +355,7 @@ fn put_addition(
 ) -> usize
     requires { ⌜ (0 < length (now rest)) × (getD (now rest) 0 0 ≡ plusSign) ⌝ }
     ensures { λ r. ⌜ KeepsPairs (pos 0) additionRoom count (now (variables .entry)) (now (amounts .entry))
-        r (now (variables .exit)) (now (amounts .exit)) (givenBy (commandAt (now (rest .entry))) .additions) ⌝ }
+        r (now (variables .exit)) (now (amounts .exit)) (additionsOf (commandAt (now (rest .entry)) ∷ [])) ⌝ }
 {
     let Command::Add(variable, bits) = commands::read_add(rest) else {
         return count;
@@ -373,13 +401,13 @@ fn gather_restricted(
     amounts: &mut [i64; ADDITIONS],
 ) -> RestrictedCounts
     ensures { λ r. ⌜ FillsConditions conditionRoom (now (variables .entry)) (now (relations .entry)) (now (constants .entry))
-        (r .conditions) (now (variables .exit)) (now (relations .exit)) (now (constants .exit)) (decodeAction (now (bytes .entry)) .conditions) ⌝ }
+        (r .conditions) (now (variables .exit)) (now (relations .exit)) (now (constants .exit)) (conditionsOf (decodeAction (now (bytes .entry)))) ⌝ }
     ensures { λ r. ⌜ FillsPairs 0 modeConditionRoom (now (modes .entry)) (now (values .entry))
-        (r .«mode_conditions») (now (modes .exit)) (now (values .exit)) (decodeAction (now (bytes .entry)) .modeConditions) ⌝ }
+        (r .«mode_conditions») (now (modes .exit)) (now (values .exit)) (modeConditionsOf (decodeAction (now (bytes .entry)))) ⌝ }
     ensures { λ r. ⌜ FillsPairs 0 modeEffectRoom (now («set_modes» .entry)) (now («set_values» .entry))
-        (r .«mode_effects») (now («set_modes» .exit)) (now («set_values» .exit)) (decodeAction (now (bytes .entry)) .modeEffects) ⌝ }
+        (r .«mode_effects») (now («set_modes» .exit)) (now («set_values» .exit)) (modeEffectsOf (decodeAction (now (bytes .entry)))) ⌝ }
     ensures { λ r. ⌜ FillsPairs (pos 0) additionRoom (now (added .entry)) (now (amounts .entry))
-        (r .additions) (now (added .exit)) (now (amounts .exit)) (decodeAction (now (bytes .entry)) .additions) ⌝ }
+        (r .additions) (now (added .exit)) (now (amounts .exit)) (additionsOf (decodeAction (now (bytes .entry)))) ⌝ }
 {
     let mut conditions: usize = 0;
     let mut mode_conditions: usize = 0;
@@ -562,12 +590,12 @@ fn gather_source(
     set_values: &mut [u16; MODE_EFFECTS],
 ) -> SourceCounts
     ensures { λ r. ⌜ FillsConditions conditionRoom (now (variables .entry)) (now (relations .entry)) (now (constants .entry))
-        (r .conditions) (now (variables .exit)) (now (relations .exit)) (now (constants .exit)) (decodeAction (now (bytes .entry)) .conditions) ⌝ }
+        (r .conditions) (now (variables .exit)) (now (relations .exit)) (now (constants .exit)) (conditionsOf (decodeAction (now (bytes .entry)))) ⌝ }
     ensures { λ r. ⌜ FillsPairs 0 modeConditionRoom (now (modes .entry)) (now (values .entry))
-        (r .«mode_conditions») (now (modes .exit)) (now (values .exit)) (decodeAction (now (bytes .entry)) .modeConditions) ⌝ }
+        (r .«mode_conditions») (now (modes .exit)) (now (values .exit)) (modeConditionsOf (decodeAction (now (bytes .entry)))) ⌝ }
     ensures { λ r. ⌜ FillsPairs 0 modeEffectRoom (now («set_modes» .entry)) (now («set_values» .entry))
-        (r .«mode_effects») (now («set_modes» .exit)) (now («set_values» .exit)) (decodeAction (now (bytes .entry)) .modeEffects) ⌝ }
-    ensures { λ r. ⌜ (effectWith (r .numeric) noEffect [] ≡ fittingEffect (decodeAction (now (bytes .entry)) .effect)) × (r .numeric .«term_count» ≤ termRoom) ⌝ }
+        (r .«mode_effects») (now («set_modes» .exit)) (now («set_values» .exit)) (modeEffectsOf (decodeAction (now (bytes .entry)))) ⌝ }
+    ensures { λ r. ⌜ (effectWith (r .numeric) noEffect [] ≡ fittingEffect (effectOf (decodeAction (now (bytes .entry))))) × (r .numeric .«term_count» ≤ termRoom) ⌝ }
 {
     let mut conditions: usize = 0;
     let mut mode_conditions: usize = 0;

@@ -26,14 +26,14 @@ fn tell_place(placed: actions::Placed) {
     }
 }
 
-fn tell_price(priced: prices::Priced) {
+fn tell_price(priced: source_state::Priced) {
     match priced {
-        prices::Priced::Refused(number, place) => lines::refusal(number, place),
-        prices::Priced::Price(price) => lines::natural(price),
+        source_state::Priced::Refused(number, place) => lines::refusal(number, place),
+        source_state::Priced::Price(price) => lines::natural(price),
     }
 }
 
-fn tell_source_state(state: source::State) {
+fn tell_source_state(state: source_state::State) {
     let values = state.values;
     let modes = state.modes;
     lines::integers(&values);
@@ -48,11 +48,11 @@ fn tell_restricted_state(state: restricted::State) {
 }
 
 fn judge_source(task: &[u8], plan: &[u8]) {
-    let judgement = source_judge::judge(task, plan);
+    let judgement = source_walk::judge(task, plan);
     let verdict = judgement.verdict;
     match verdict {
-        source_judge::Verdict::Refused(number, place) => lines::refusal(number, place),
-        source_judge::Verdict::Valid(steps) => {
+        source_walk::Verdict::Refused(number, place) => lines::refusal(number, place),
+        source_walk::Verdict::Valid(steps) => {
             lines::natural(steps);
             tell_source_state(judgement.state);
         }
@@ -73,11 +73,11 @@ fn judge_restricted(task: &[u8], plan: &[u8]) {
 
 // The state stands in the line of a refusal too: it comes back as it was handed in.
 fn step_source(task: &[u8], record: &[u8], k: usize) {
-    let answer = source::step_alone(task, states::source(record), k);
+    let answer = source_state::step_alone(task, states::source(record), k);
     let verdict = answer.verdict;
     match verdict {
-        source::StepVerdict::Refused(number, place) => lines::refusal(number, place),
-        source::StepVerdict::Applied => {}
+        source_state::StepVerdict::Refused(number, place) => lines::refusal(number, place),
+        source_state::StepVerdict::Applied => {}
     }
     tell_source_state(answer.state);
 }
@@ -114,8 +114,8 @@ fn run_steps(entry: u8, task: &[u8], second: &[u8], k: usize) {
 
 fn run_prices(entry: u8, task: &[u8], second: &[u8], k: usize) {
     match entry {
-        12 => tell_price(prices::price_plan(task, second)),
-        _ => tell_price(prices::price_step(task, states::source(second), k)),
+        12 => tell_price(source_walk::price_plan(task, second)),
+        _ => tell_price(source_state::price_step(task, states::source(second), k)),
     }
 }
 

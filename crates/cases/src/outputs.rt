@@ -57,8 +57,8 @@ fn tell(written: Written, out: &[u8]) {
 fn write(entry: u8, task: &[u8], plan: &[u8], out: &mut [u8]) -> Written {
     match entry {
         9 => lowering::lower(task, out),
-        10 => plans::expand(task, plan, out),
-        11 => projection::project(task, plan, out),
+        10 => plan_expand::expand(task, plan, out),
+        11 => plan_project::project(task, plan, out),
         _ => listing::list(task, plan, out),
     }
 }

@@ -62,12 +62,12 @@ fn read_modes(record: &[u8], start: usize, modes: &mut [u16])
 }
 
 // The state of a step in a source task.
-pub(crate) fn source(record: &[u8]) -> source::State {
+pub(crate) fn source(record: &[u8]) -> source_state::State {
     let mut values = [0i64; 8];
     let mut modes = [0u16; 4];
     read_values(record, &mut values);
     read_modes(record, 64, &mut modes);
-    source::State { values, modes }
+    source_state::State { values, modes }
 }
 
 // The same in a restricted task.

@@ -14,11 +14,12 @@ use borrow.Author.Tests.{leb-true, leb-false, eqb-false}
 use Rattle.integers.specs.Numbers.{Bytes, bytesOf, numberOf, numberAt}
 use Rattle.integers.proofs.Numbers.{length-bytes, number-bytes, bytes-number, number-small}
 use Rattle.commands.specs.Table.{rows, rowAt, rowOf, sizeOfRow, sizeOfByte}
-use Rattle.commands.specs.Reading.{commands, commandAt, readRow}
+use Rattle.commands.specs.Reading.{commandAt, readRow}
 use Rattle.commands.specs.Encoding.{rowNumber, operands, byteOf, atWidths, encode, NoRefusal, InWidths, Fits}
 use Rattle.commands.specs.declared.Command.{Command}
-use Rattle.commands.specs.declared.Command.the-variants.{Variable, Start, Mode, Action, Condition, ModeCondition, ModeEffect, Add, Linear, Term, Quotient, Residue, Goal, End, Refused}
+use Rattle.commands.specs.declared.Command.the-variants.{Refused}
 use Rattle.commands.proofs.Every.{each-at}
+use Rattle.commands.proofs.Commands.{made, made-again}
 use Rattle.commands.proofs.Rows.{total, row-byte, size-total, size-of-byte, size-as}
 use Rattle.commands.proofs.Known.{whole-as}
 
@@ -86,27 +87,6 @@ module _ (s : List ℕ) (b : Bytes s) where
       ∙ take-append-drop w (drop place s)
 
 -- ---- a command is its row and its operands
-
--- the command of a row, made of its operands
-abbrev made : ℕ → List ℕ → Command
-made i vs = getD (commands (getD vs 0 0) (getD vs 1 0) (getD vs 2 0)) i (Refused 1)
-
-made-again : (c : Command) → NoRefusal c → made (rowNumber c) (operands c) ≡ c
-made-again (Variable lower upper start) h = refl
-made-again (Start start) h = refl
-made-again (Mode size start) h = refl
-made-again Action h = refl
-made-again (Condition var relation constant) h = refl
-made-again (ModeCondition mode value) h = refl
-made-again (ModeEffect mode value) h = refl
-made-again (Add var constant) h = refl
-made-again (Linear target constant) h = refl
-made-again (Term var weight) h = refl
-made-again (Quotient target operand divisor) h = refl
-made-again (Residue target operand divisor) h = refl
-made-again Goal h = refl
-made-again End h = refl
-made-again (Refused number) h = absurd h
 
 -- what is read by row i is of row i, and its operands are the numbers after its byte
 abbrev OfRow : List ℕ → ℕ → Type 0

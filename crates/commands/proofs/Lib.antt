@@ -1,4 +1,5 @@
 pub mod Every
+pub mod Commands
 pub mod Rows
 pub mod Known
 pub mod Encoding

@@ -6,7 +6,7 @@ use Prim.Native.Nat.{ℕ, zero, suc, _+_, _*_, _≤_, _<_}
 use native.Mathlib.Omega.{arith}
 use mathlib.Core.Bool.{Bool, false, _&&_}
 use mathlib.Core.Option.{Option, none, some}
-use mathlib.Core.List.{List, [], _∷_, _++_}
+use mathlib.Core.List.{List, [], _∷_, _++_, map, flatMap}
 use lib.ListN.{length, length-append, getElem?}
 use lib.Dec.{T}
 use lib.Signed.{leZ}
@@ -14,13 +14,12 @@ use lib.IntN.{ℤ, pos, negsuc, natAbs}
 use Rattle.integers.specs.All.{All}
 use Rattle.integers.proofs.Parts.{ints, abs}
 use Rattle.lists.specs.Answer.{Answer, given, refused, then}
-use Rattle.lists.specs.Each.{flat}
-use Rattle.lists.proofs.Each.{flat-nil, flat-cons}
+use Rattle.lists.proofs.Each.{flatMap-nil, flatMap-cons}
 use Rattle.model.specs.Tasks.{Effect, noEffect, addEffect, linearEffect, quotientEffect, residueEffect, SourceAction, SourceVariable, SourceTask, State}
 use Rattle.model.specs.Limits.{sourceLimits}
 use Rattle.model.specs.TaskOk.{EffectOk, SourceVariableOk, SourceActionOk, SourceTaskOk}
 use Rattle.model.specs.Systems.{runPlan, totalPrice, orZero}
-use Rattle.model.specs.Decoding.{each, readSource}
+use Rattle.model.specs.Decoding.{readSource}
 use Rattle.model.specs.Plans.{readPlan}
 use Rattle.model.specs.Steps.{integerAt, naturalAt, modesHold, conditionsHold, result, withinBounds, putResult, setAll, trySource, sourceStep, soundSource, lowerBounds, upperBounds, sizesOf, sourceStart, stepSource, sourceGoalHolds}
 use Rattle.model.specs.Expansion.{magnitudes, priceOfEffect, priceFrom}
@@ -38,9 +37,8 @@ use Rattle.model.proofs.JudgedPlans.{judged, priced}
 use Rattle.source.proofs.Numbers.{quotient-small, residue-small}
 use Rattle.text.proofs.Digits.{at-most}
 use Rattle.listing.specs.Lines.{field, lineOf}
-use Rattle.listing.specs.Listed.{textFrom}
 use Rattle.listing.proofs.Lines.{line-long, goal-long, refused-long}
-use Rattle.listing.proofs.Listing.{text-long}
+use Rattle.listing.proofs.Listing.{textFor, text-long}
 use Rattle.console.proofs.Refusals.{Short, ShortOr, source-short, plan-short, judge-short}
 
 -- ---- a line
@@ -52,9 +50,9 @@ unfolding decimalSigned
 value-short (pos n) h = omega (arith, at-most 4 n (omega arith))
 value-short (negsuc n) h = omega (arith, at-most 4 (suc n) (omega arith))
 
-values-short : (zs : List ℤ) → All Small zs → length (flat field zs) ≤ 7 * length zs
-values-short [] h = rw (flat-nil field) (omega arith)
-values-short (z ∷ zs) (h, hs) = rw (flat-cons field z zs) (omega (arith, length-append (field z) (flat field zs), value-short z h, values-short zs hs))
+values-short : (zs : List ℤ) → All Small zs → length (flatMap field zs) ≤ 7 * length zs
+values-short [] h = rw (flatMap-nil field) (omega arith)
+values-short (z ∷ zs) (h, hs) = rw (flatMap-cons field z zs) (omega (arith, length-append (field z) (flatMap field zs), value-short z h, values-short zs hs))
 
 line-short : (i k price : ℕ) (zs : List ℤ) → i < 100_000 → k < 100 → price < 1_000_000 → All Small zs → length (lineOf i k price zs) ≤ 16 + 7 * length zs
 line-short i k price zs a b c h = omega (arith, line-long i k price zs, at-most 4 i a, at-most 1 k b, at-most 5 price c, values-short zs h)
@@ -64,7 +62,7 @@ refused-short number place (a, b) = omega (arith, refused-long number place, at-
 
 -- ---- the values of an accepted task
 bounds-small : (vs : List SourceVariable) → All (SourceVariableOk sourceLimits) vs → (j : ℕ)
-    → Small (integerAt (each (λ (b : SourceVariable). b .lower) vs) j) × Small (integerAt (each (λ (b : SourceVariable). b .upper) vs) j)
+    → Small (integerAt (map (λ (b : SourceVariable). b .lower) vs) j) × Small (integerAt (map (λ (b : SourceVariable). b .upper) vs) j)
 bounds-small [] h j = (omega arith, omega arith)
 bounds-small (b ∷ vs) (h, hs) zero = (h .0, h .1)
 bounds-small (b ∷ vs) (h, hs) (suc j) = bounds-small vs hs j
@@ -157,11 +155,11 @@ module _ (t : SourceTask) (F : SourceTaskOk t) where
       omega (arith, step-price x y k w s .1, total-small ks y z (step-inside x y k w s) r′, ap (λ (o : Option State). orZero o (totalPrice (stepSource t) (priceFrom (t .actions)) ks)) e)
 
   -- ---- the text of a plan that is read
-  plan-text : (p : List ℕ) → length p ≤ 16_384 → length (textOf (then (judgeSourceTask t p) (λ v. then (priceTask t false p) (λ total. given (textFrom t p total (sourceStart t)))))) ≤ 1_200_000
+  plan-text : (p : List ℕ) → length p ≤ 16_384 → length (textOf (then (judgeSourceTask t p) (λ v. then (priceTask t false p) (λ total. given (textFor t p total))))) ≤ 1_200_000
   plan-text p h = go (judgeSourceTask t p) refl (judge-short (length (t .actions)) (stepSource t) (sourceGoalHolds t) p 0 (sourceStart t) (omega arith))
     where
       go : (j : Answer (ℕ × State)) → judgeSourceTask t p ≡ j → ShortOr (λ (v : ℕ × State). Unit {0}) j
-          → length (textOf (then j (λ v. then (priceTask t false p) (λ total. given (textFrom t p total (sourceStart t)))))) ≤ 1_200_000
+          → length (textOf (then j (λ v. then (priceTask t false p) (λ total. given (textFor t p total))))) ≤ 1_200_000
       go (refused number place) e s = omega (arith, refused-short number place s)
       go (given (n, z)) e s =
           let run = judged (length (t .actions)) (stepSource t) (sourceGoalHolds t) p 0 (sourceStart t) n z e .0 in
@@ -169,7 +167,7 @@ module _ (t : SourceTask) (F : SourceTaskOk t) where
           rw (priced (stepSource t) (priceFrom (t .actions)) p 0 0 (sourceStart t) z run)
           (omega (
             arith,
-            text-long t p total (sourceStart t),
+            text-long (stepLines t 0 p (sourceStart t)) total,
             lines-short p 0 (sourceStart t) start-inside (omega arith),
             goal-long total,
             at-most 9 total (omega (arith, total-small p (sourceStart t) z start-inside run)),
@@ -180,11 +178,11 @@ unfolding listing
 listing-fits file plan f h = go (readSource file) refl (source-short file f)
   where
     planned : (t : SourceTask) → SourceTaskOk t → (q : Answer (List ℕ)) → ShortOr (λ (p : List ℕ). length p ≤ 16_384) q
-        → length (textOf (then q (λ p. then (judgeSourceTask t p) (λ v. then (priceTask t false p) (λ total. given (textFrom t p total (sourceStart t))))))) ≤ 1_200_000
+        → length (textOf (then q (λ p. then (judgeSourceTask t p) (λ v. then (priceTask t false p) (λ total. given (textFor t p total)))))) ≤ 1_200_000
     planned t F (refused number place) s = omega (arith, refused-short number place s)
     planned t F (given p) s = plan-text t F p s
 
     go : (o : Answer SourceTask) → readSource file ≡ o → ShortOr (λ (t : SourceTask). Unit {0}) o
-        → length (textOf (then o (λ t. then (readPlan plan) (λ p. then (judgeSourceTask t p) (λ v. then (priceTask t false p) (λ total. given (textFrom t p total (sourceStart t)))))))) ≤ 1_200_000
+        → length (textOf (then o (λ t. then (readPlan plan) (λ p. then (judgeSourceTask t p) (λ v. then (priceTask t false p) (λ total. given (textFor t p total))))))) ≤ 1_200_000
     go (refused number place) e s = omega (arith, refused-short number place s)
     go (given t) e s = planned t (accepted-source-ok file t e) (readPlan plan) (plan-short plan h)

@@ -21,8 +21,8 @@ use Rattle.planbytes.proofs.Steps.{halves-long}
 use Rattle.model.specs.Limits.{Limits, sourceLimits}
 use Rattle.model.specs.ReadingState.{ReadingState, Taken, Progress, Going, Ended, Stopped, stop, rule, begin}
 use Rattle.model.specs.Rules.{allowed, testsOf, nextOf, onwards, ruleOf, takeOf}
-use Rattle.model.specs.Reading.{Verdict, Accepted, Rejected, afterCommand, verdictFrom, verdictOf, commandsOf}
-use Rattle.model.specs.Decoding.{draftOf, sourceTaskOf, onVerdict, readSource}
+use Rattle.model.specs.Reading.{Verdict, Accepted, Rejected, acceptedWith, afterCommand, verdictFrom, verdictOf, commandsOf, verdictAlong, remainders}
+use Rattle.model.specs.Decoding.{sourceTaskOf, onVerdict, readSource}
 use Rattle.model.specs.Plans.{planNumbers, readPlan}
 use Rattle.model.specs.Judging.{ifApplies, judge}
 use Rattle.model.specs.Tasks.{SourceTask}
@@ -139,12 +139,12 @@ ShortVerdict (Rejected number place) = Short number place
 
 module _ (l : Limits) (fileLength : ℕ) (few : fileLength < 1_000_000) where
   verdict-short : (most : ℕ) (p : ReadingState) (at : ℕ) (rest : List ℕ) → at + 13 * most < 900_000 → ShortVerdict (verdictFrom l fileLength most p at rest)
-  unfolding verdictFrom
+  unfolding remainders verdictAlong
   verdict-short zero p at rest h = (omega arith, few)
   verdict-short (suc most) p at rest h =
       go (takeOf l p rest .progress) (take-low l p rest) (λ q. verdict-short most q (at + sizeOfByte (getD rest 0 0)) (drop (sizeOfByte (getD rest 0 0)) rest) (omega (arith, size-most (getD rest 0 0))))
     where
-      ended : (b : Bool) → ShortVerdict (cond b (Accepted (takeOf l p rest .state .variables) (takeOf l p rest .state .modes) (takeOf l p rest .state .actions)) (Rejected 3 (at + 1)))
+      ended : (b : Bool) → ShortVerdict (cond b (acceptedWith (takeOf l p rest .state)) (Rejected 3 (at + 1)))
       ended true = tt
       ended false = (omega arith, omega arith)
 
@@ -161,7 +161,7 @@ pub source-short : (file : List ℕ) → length file ≤ 16_384 → ShortOr (λ 
 unfolding verdictOf
 source-short file h = go (verdictFrom sourceLimits (length file) (suc (length file)) begin 0 file) (verdict-short sourceLimits (length file) (omega arith) (suc (length file)) begin 0 file (omega arith))
   where
-    go : (v : Verdict) → ShortVerdict v → ShortOr (λ (t : SourceTask). Unit {0}) (onVerdict v (sourceTaskOf (draftOf (commandsOf sourceLimits file))))
+    go : (v : Verdict) → ShortVerdict v → ShortOr (λ (t : SourceTask). Unit {0}) (onVerdict v (sourceTaskOf (commandsOf sourceLimits file)))
     go (Accepted a b c) k = tt
     go (Rejected number place) k = k
 

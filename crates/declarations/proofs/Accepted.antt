@@ -10,12 +10,12 @@ use lib.IntN.{ℤ, pos}
 use Rattle.lists.specs.Answer.{given}
 use Rattle.model.specs.Tasks.{SourceTask, RestrictedTask}
 use Rattle.model.specs.Limits.{sourceLimits, restrictedLimits}
-use Rattle.model.specs.Decoding.{readSource, readRestricted}
+use Rattle.model.specs.Decoding.{variablesOf, startsOf, modesOf, readSource, readRestricted}
 use Rattle.model.specs.Steps.{integerAt}
 use Rattle.model.specs.TaskOk.{SourceTaskOk, RestrictedTaskOk}
 use Rattle.model.proofs.AcceptedOk.{accepted-source-ok, accepted-restricted-ok}
 use Rattle.declarations.specs.declared.Declared.{Declared}
-use Rattle.declarations.specs.Declarations.{declaredIn}
+use Rattle.declarations.specs.Declarations.{declarations}
 use Rattle.declarations.specs.Stored.{variables, starts, modes, SourceStored, RestrictedStored}
 use Rattle.declarations.specs.Holding.{SourceRoom, RestrictedRoom, HoldsSource, HoldsRestricted}
 use Rattle.declarations.proofs.Declarations.{source-declares, restricted-declares}
@@ -28,11 +28,11 @@ element n l zs e j h = sym (getD-take n l j (pos 0) h) ∙ ap (λ (k : List ℤ)
 module _ {file : List ℕ} {lower upper start : List ℤ} {sizes values : List ℕ} {r : Declared} {lower′ upper′ start′ : List ℤ} {sizes′ values′ : List ℕ}
     (room : SourceRoom lower upper start sizes values) (s : SourceStored file lower upper start sizes values r lower′ upper′ start′ sizes′ values′) where
   -- of any bytes: the arrays hold what is declared, as far as there is room, and the rest of them is as it was
-  pub source-variables : VariablesHeld (sourceLimits .variables) (take (sourceLimits .variables) (declaredIn sourceLimits file .variables)) lower upper start (variables (r .variables) lower′ upper′ start′)
-  source-variables = variables-held (sourceLimits .variables) (declaredIn sourceLimits file .variables) lower upper start _ (room .lowerLong) (room .upperLong) (room .startLong) (s .variablesAre)
+  pub source-variables : VariablesHeld (sourceLimits .variables) (take (sourceLimits .variables) (variablesOf (declarations sourceLimits file))) lower upper start (variables (r .variables) lower′ upper′ start′)
+  source-variables = variables-held (sourceLimits .variables) (variablesOf (declarations sourceLimits file)) lower upper start _ (room .lowerLong) (room .upperLong) (room .startLong) (s .variablesAre)
 
-  pub source-modes : ModesHeld (sourceLimits .modes) (take (sourceLimits .modes) (declaredIn sourceLimits file .modes)) sizes values (modes (r .modes) sizes′ values′)
-  source-modes = modes-held (sourceLimits .modes) (declaredIn sourceLimits file .modes) sizes values _ (room .sizesLong) (room .valuesLong) (s .modesAre)
+  pub source-modes : ModesHeld (sourceLimits .modes) (take (sourceLimits .modes) (modesOf (declarations sourceLimits file))) sizes values (modes (r .modes) sizes′ values′)
+  source-modes = modes-held (sourceLimits .modes) (modesOf (declarations sourceLimits file)) sizes values _ (room .sizesLong) (room .valuesLong) (s .modesAre)
 
   -- of an accepted file: they hold what its task declares
   pub source-held : (t : SourceTask) → readSource file ≡ given t → HoldsSource t r lower′ upper′ start′ sizes′ values′
@@ -60,11 +60,11 @@ module _ {file : List ℕ} {lower upper start : List ℤ} {sizes values : List �
 module _ {file : List ℕ} {start : List ℤ} {sizes values : List ℕ} {r : Declared} {start′ : List ℤ} {sizes′ values′ : List ℕ}
     (room : RestrictedRoom start sizes values) (s : RestrictedStored file start sizes values r start′ sizes′ values′) where
   -- of any bytes
-  pub restricted-starts : StartsHeld (restrictedLimits .variables) (take (restrictedLimits .variables) (declaredIn restrictedLimits file .starts)) start (starts (r .variables) start′)
-  restricted-starts = starts-held (restrictedLimits .variables) (declaredIn restrictedLimits file .starts) start _ (room .startLong) (s .startsAre)
+  pub restricted-starts : StartsHeld (restrictedLimits .variables) (take (restrictedLimits .variables) (startsOf (declarations restrictedLimits file))) start (starts (r .variables) start′)
+  restricted-starts = starts-held (restrictedLimits .variables) (startsOf (declarations restrictedLimits file)) start _ (room .startLong) (s .startsAre)
 
-  pub restricted-modes : ModesHeld (restrictedLimits .modes) (take (restrictedLimits .modes) (declaredIn restrictedLimits file .modes)) sizes values (modes (r .modes) sizes′ values′)
-  restricted-modes = modes-held (restrictedLimits .modes) (declaredIn restrictedLimits file .modes) sizes values _ (room .sizesLong) (room .valuesLong) (s .modesAre)
+  pub restricted-modes : ModesHeld (restrictedLimits .modes) (take (restrictedLimits .modes) (modesOf (declarations restrictedLimits file))) sizes values (modes (r .modes) sizes′ values′)
+  restricted-modes = modes-held (restrictedLimits .modes) (modesOf (declarations restrictedLimits file)) sizes values _ (room .sizesLong) (room .valuesLong) (s .modesAre)
 
   -- of an accepted file
   pub restricted-held : (t : RestrictedTask) → readRestricted file ≡ given t → HoldsRestricted t r start′ sizes′ values′

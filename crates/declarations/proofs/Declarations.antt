@@ -20,19 +20,20 @@ use Rattle.model.specs.Tasks.{SourceVariable, SourceTask, RestrictedTask}
 use Rattle.model.specs.Limits.{Limits, sourceLimits, restrictedLimits}
 use Rattle.model.specs.ReadingState.{inDeclarations, inAction, ReadingState, Taken, Progress, Going, Ended, Stopped, begin, goOn}
 use Rattle.model.specs.Rules.{isOneOf, allowed, constant, testsOf, nextOf, onwards, ruleOf, takeOf}
-use Rattle.model.specs.Reading.{Verdict, Accepted, Rejected, verdictOf, gather, commandsFrom, commandsOf}
+use Rattle.model.specs.Reading.{Verdict, Accepted, Rejected, verdictOf, gather, commandsFrom, commandsOf, commandsAlong, remainders}
 use Rattle.model.specs.Trail.{Trail}
-use Rattle.model.specs.Decoding.{Draft, before, draftOf, sourceTaskOf, restrictedTaskOf, onVerdict, readSource, readRestricted}
+use Rattle.model.specs.Decoding.{variablesOf, startsOf, modesOf, sourceTaskOf, restrictedTaskOf, onVerdict, readSource, readRestricted}
 use Rattle.model.proofs.ReadingLaws.{clash, holds, Goes, rule-none}
-use Rattle.model.proofs.AcceptedTrail.{Alive, take-inv, Is, accepted-trail}
-use Rattle.declarations.specs.Declarations.{declaring, commandsWith, declaredIn}
+use Rattle.model.proofs.CommandFacts.{Alive}
+use Rattle.model.proofs.AcceptedTrail.{take-inv, Is, accepted-trail}
+use Rattle.declarations.specs.Declarations.{declaring, commandsWith, declarations, lettersAlong}
 
--- ---- what a draft declares
+-- ---- what commands declare
 abbrev Declarations : Type 0
 Declarations = List SourceVariable × List ℤ × List (ℕ × ℕ)
 
-abbrev declared : Draft → Declarations
-declared d = (d .variables, d .starts, d .modes)
+abbrev declared : List Command → Declarations
+declared cs = (variablesOf cs, startsOf cs, modesOf cs)
 
 -- the state after a command that is taken, other than Z
 next : (l : Limits) (p : ReadingState) (c : Command) → onwards c (nextOf p c) ≡ goOn (nextOf p c) → ruleOf l p c .progress ≡ Going → nextOf p c ≡ ruleOf l p c .state
@@ -54,7 +55,7 @@ module _ (l : Limits) where
   -- ---- from the first A or G on
   -- a command there declares nothing, and what follows it stands there too
   abbrev Quiet : ReadingState → Command → Type 0
-  Quiet p c = (inAction ≤ ruleOf l p c .state .section) × ((d : Draft) → declared (before c d) ≡ declared d)
+  Quiet p c = (inAction ≤ ruleOf l p c .state .section) × ((cs : List Command) → declared (c ∷ cs) ≡ declared cs)
 
   still : (p : ReadingState) (c : Command) → onwards c (nextOf p c) ≡ goOn (nextOf p c) → ruleOf l p c .progress ≡ Going → inAction ≤ nextOf p c .section → inAction ≤ ruleOf l p c .state .section
   still p c n g s = subst (λ (q : ReadingState). inAction ≤ q .section) (next l p c n g) s
@@ -77,9 +78,9 @@ module _ (l : Limits) where
   quiet p End s a g = absurd (subst Goes (sym g) tt)
   quiet p (Refused number) s a g = absurd (clash (sym a))
 
-  none-declared : (cs : List Command) (p : ReadingState) → inAction ≤ p .section → Trail l p cs → declared (draftOf cs) ≡ ([], [], [])
+  none-declared : (cs : List Command) (p : ReadingState) → inAction ≤ p .section → Trail l p cs → declared cs ≡ ([], [], [])
   none-declared [] p s t = refl
-  none-declared (c ∷ cs) p s (a, g, t) = let (s′, f) = quiet p c s a g in f (draftOf cs) ∙ none-declared cs (ruleOf l p c .state) s′ t
+  none-declared (c ∷ cs) p s (a, g, t) = let (s′, f) = quiet p c s a g in f cs ∙ none-declared cs (ruleOf l p c .state) s′ t
 
   -- ---- before it
   -- `more` are the declarations behind a command that declares, and `cs` all commands behind it
@@ -87,7 +88,7 @@ module _ (l : Limits) where
   Early p = (p .section ≡ inDeclarations) × (p .terms ≡ 0)
 
   abbrev Agree : Command → List Command → List Command → Type 0
-  Agree c more cs = declared (draftOf (cond (isOneOf (byteOf c) (declaring l)) (c ∷ more) [])) ≡ declared (draftOf (c ∷ cs))
+  Agree c more cs = declared (cond (isOneOf (byteOf c) (declaring l)) (c ∷ more) []) ≡ declared (c ∷ cs)
 
   -- V or U, by the kind of file, is one of the bytes that declare; A and G are none
   letter-V : l .restricted ≡ false → isOneOf letterV (declaring l) ≡ true
@@ -105,7 +106,7 @@ module _ (l : Limits) where
   neither-G false = refl
 
   declared-first : (p : ReadingState) (c : Command) (more cs : List Command) → Early p → allowed l p (byteOf c) ≡ true → ruleOf l p c .progress ≡ Going → Trail l (ruleOf l p c .state) cs
-      → (Early (ruleOf l p c .state) → declared (draftOf more) ≡ declared (draftOf cs)) → Agree c more cs
+      → (Early (ruleOf l p c .state) → declared more ≡ declared cs) → Agree c more cs
   unfolding testsOf nextOf
   declared-first p (Variable x y z) more cs (s, t) a g tr ih =
       rw (letter-V (source-only (l .restricted) (eqb (p .section) inDeclarations) a .0))
@@ -129,8 +130,8 @@ module _ (l : Limits) where
   declared-first p (Refused number) more cs (s, t) a g tr ih = absurd (clash (sym a))
 
   -- ---- along the file
-  declared-along : (most : ℕ) (p : ReadingState) (s : List ℕ) → Early p → Trail l p (commandsFrom l most p s) → declared (draftOf (commandsWith (declaring l) most s)) ≡ declared (draftOf (commandsFrom l most p s))
-  unfolding commandsWith commandsFrom
+  declared-along : (most : ℕ) (p : ReadingState) (s : List ℕ) → Early p → Trail l p (commandsFrom l most p s) → declared (commandsWith (declaring l) most s) ≡ declared (commandsFrom l most p s)
+  unfolding remainders lettersAlong commandsAlong
   declared-along zero p s (e, _) t = absurd (omega (arith, e, t))
   declared-along (suc most) p s early t =
       step (takeOf l p s .state) (takeOf l p s .progress) refl refl t (λ q early′ t′. declared-along most q (drop (sizeOfByte (getD s 0 0)) s) early′ t′)
@@ -142,37 +143,37 @@ module _ (l : Limits) where
       behind q = commandsFrom l most q (drop (sizeOfByte (getD s 0 0)) s)
 
       step : (q : ReadingState) (o : Progress) → takeOf l p s .state ≡ q → takeOf l p s .progress ≡ o → Trail l p (gather behind (commandAt s) q o)
-          → ((q : ReadingState) → Early q → Trail l q (behind q) → declared (draftOf more) ≡ declared (draftOf (behind q)))
-          → declared (draftOf (cond (isOneOf (getD s 0 0) (declaring l)) (commandAt s ∷ more) [])) ≡ declared (draftOf (gather behind (commandAt s) q o))
+          → ((q : ReadingState) → Early q → Trail l q (behind q) → declared more ≡ declared (behind q))
+          → declared (cond (isOneOf (getD s 0 0) (declaring l)) (commandAt s ∷ more) []) ≡ declared (gather behind (commandAt s) q o)
       step q Going e f (a, g, t) ih =
           let (_, b, kn) = take-inv l p s (subst Alive (sym f) tt) in
           let is : ruleOf l p (commandAt s) .state ≡ q = sym (ap (λ (t : Taken). t .state) b) ∙ e in
-          subst (λ (x : ℕ). declared (draftOf (cond (isOneOf x (declaring l)) (commandAt s ∷ more) [])) ≡ declared (draftOf (commandAt s ∷ behind q))) (byte-read s kn)
+          subst (λ (x : ℕ). declared (cond (isOneOf x (declaring l)) (commandAt s ∷ more) []) ≡ declared (commandAt s ∷ behind q)) (byte-read s kn)
           (declared-first p (commandAt s) more (behind q) early a g t (λ early′. ih q (subst Early is early′) (subst (λ (x : ReadingState). Trail l x (behind q)) is t)))
       step q Ended e f t ih = absurd (omega (arith, early .0, t))
       step q (Stopped n) e f t ih = absurd (omega (arith, early .0, t))
 
   -- THE LAW: the declarations at the front of an accepted file are what all its commands declare
-  all-declared : (file : List ℕ) → Is (verdictOf l file) → declared (declaredIn l file) ≡ declared (draftOf (commandsOf l file))
+  all-declared : (file : List ℕ) → Is (verdictOf l file) → declared (declarations l file) ≡ declared (commandsOf l file)
   unfolding commandsOf
   all-declared file h = declared-along (suc (length file)) begin file (refl, refl) (accepted-trail l file h .0)
 
-  read-declares : {A : Type 0} (file : List ℕ) (t u : A) → onVerdict (verdictOf l file) t ≡ given u → (declared (declaredIn l file) ≡ declared (draftOf (commandsOf l file))) × (t ≡ u)
+  read-declares : {A : Type 0} (file : List ℕ) (t u : A) → onVerdict (verdictOf l file) t ≡ given u → (declared (declarations l file) ≡ declared (commandsOf l file)) × (t ≡ u)
   read-declares {A} file t u e = go (verdictOf l file) refl e
     where
-      go : (v : Verdict) → verdictOf l file ≡ v → onVerdict v t ≡ given u → (declared (declaredIn l file) ≡ declared (draftOf (commandsOf l file))) × (t ≡ u)
+      go : (v : Verdict) → verdictOf l file ≡ v → onVerdict v t ≡ given u → (declared (declarations l file) ≡ declared (commandsOf l file)) × (t ≡ u)
       go (Accepted a b c) q e = (all-declared file (subst Is (sym q) tt), cc)
       go (Rejected n w) q e = let z : _≡_ {A = ℕ} 0 1 = cc in absurd (omega arith)
 
 -- ---- of either kind
 pub source-declares : (file : List ℕ) (t : SourceTask) → readSource file ≡ given t
-    → (declaredIn sourceLimits file .variables ≡ t .variables) × (declaredIn sourceLimits file .modes ≡ t .modes)
+    → (variablesOf (declarations sourceLimits file) ≡ t .variables) × (modesOf (declarations sourceLimits file) ≡ t .modes)
 source-declares file t e =
-    let (all, is) = read-declares sourceLimits file (sourceTaskOf (draftOf (commandsOf sourceLimits file))) t e in
+    let (all, is) = read-declares sourceLimits file (sourceTaskOf (commandsOf sourceLimits file)) t e in
     (ap (λ (w : Declarations). w .0) all ∙ ap (λ (u : SourceTask). u .variables) is, ap (λ (w : Declarations). w .2) all ∙ ap (λ (u : SourceTask). u .modes) is)
 
 pub restricted-declares : (file : List ℕ) (r : RestrictedTask) → readRestricted file ≡ given r
-    → (declaredIn restrictedLimits file .starts ≡ r .starts) × (declaredIn restrictedLimits file .modes ≡ r .modes)
+    → (startsOf (declarations restrictedLimits file) ≡ r .starts) × (modesOf (declarations restrictedLimits file) ≡ r .modes)
 restricted-declares file r e =
-    let (all, is) = read-declares restrictedLimits file (restrictedTaskOf (draftOf (commandsOf restrictedLimits file))) r e in
+    let (all, is) = read-declares restrictedLimits file (restrictedTaskOf (commandsOf restrictedLimits file)) r e in
     (ap (λ (w : Declarations). w .1) all ∙ ap (λ (u : RestrictedTask). u .starts) is, ap (λ (w : Declarations). w .2) all ∙ ap (λ (u : RestrictedTask). u .modes) is)

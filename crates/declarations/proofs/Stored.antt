@@ -7,15 +7,13 @@ use native.Mathlib.Nat.{add-zero, zero-add}
 use native.Mathlib.Numerals.{add-one}
 use native.Mathlib.Omega.{arith}
 use mathlib.Core.Bool.{Bool, true, false, cond}
-use mathlib.Core.List.{List, [], _∷_, _++_, foldl}
+use mathlib.Core.List.{List, [], _∷_, _++_, foldl, map}
 use lib.Dec.{ltb}
 use lib.IntN.{ℤ}
-use lib.ListN.{length, length-take, take, drop, set}
+use lib.ListN.{length, length-take, take, drop, set, length-map}
 use lib.Seq.{take-nil, sets, length-sets, sets-eq, take-append-seam, drop-append-seam}
 use borrow.Author.Tests.{ltb-true, ltb-false}
 use Rattle.model.specs.Tasks.{SourceVariable}
-use Rattle.model.specs.Decoding.{each}
-use Rattle.model.proofs.ReadingLaws.{length-each}
 use Rattle.declarations.specs.Stored.{Variables, variables, withVariable, Starts, starts, withStart, Modes, modes, withMode}
 
 -- `one` stores one more and raises the count; `all` stores a list of them, whatever the room
@@ -43,13 +41,13 @@ sum : (n k : ℕ) → n + 1 + k ≡ n + suc k
 sum n k = omega arith
 
 stored-variables : (room : ℕ) (vs : List SourceVariable) (a : Variables) → foldl (withVariable room) a vs ≡ variables (a .count + length (take (room - a .count) vs))
-    (sets (a .lower) (a .count) (each (λ v. v .lower) (take (room - a .count) vs))) (sets (a .upper) (a .count) (each (λ v. v .upper) (take (room - a .count) vs))) (sets (a .start) (a .count) (each (λ v. v .start) (take (room - a .count) vs)))
+    (sets (a .lower) (a .count) (map (λ v. v .lower) (take (room - a .count) vs))) (sets (a .upper) (a .count) (map (λ v. v .upper) (take (room - a .count) vs))) (sets (a .start) (a .count) (map (λ v. v .start) (take (room - a .count) vs)))
 stored-variables room = as-far-as-room room (λ a. a .count)
     (λ a v. variables (a .count + 1) (set (a .lower) (a .count) (v .lower)) (set (a .upper) (a .count) (v .upper)) (set (a .start) (a .count) (v .start)))
-    (λ a vs. variables (a .count + length vs) (sets (a .lower) (a .count) (each (λ v. v .lower) vs)) (sets (a .upper) (a .count) (each (λ v. v .upper) vs)) (sets (a .start) (a .count) (each (λ v. v .start) vs)))
+    (λ a vs. variables (a .count + length vs) (sets (a .lower) (a .count) (map (λ v. v .lower) vs)) (sets (a .upper) (a .count) (map (λ v. v .upper) vs)) (sets (a .start) (a .count) (map (λ v. v .start) vs)))
     (λ a v. refl)
     (λ a. ap (λ (n : ℕ). variables n (a .lower) (a .upper) (a .start)) (add-zero (a .count)))
-    (λ a v vs. ap₂ (λ (n k : ℕ). variables n (sets (set (a .lower) (a .count) (v .lower)) k (each (λ v. v .lower) vs)) (sets (set (a .upper) (a .count) (v .upper)) k (each (λ v. v .upper) vs)) (sets (set (a .start) (a .count) (v .start)) k (each (λ v. v .start) vs)))
+    (λ a v vs. ap₂ (λ (n k : ℕ). variables n (sets (set (a .lower) (a .count) (v .lower)) k (map (λ v. v .lower) vs)) (sets (set (a .upper) (a .count) (v .upper)) k (map (λ v. v .upper) vs)) (sets (set (a .start) (a .count) (v .start)) k (map (λ v. v .start) vs)))
     (sum (a .count) (length vs)) (add-one (a .count)))
 
 stored-starts : (room : ℕ) (zs : List ℤ) (a : Starts) → foldl (withStart room) a zs ≡ starts (a .count + length (take (room - a .count) zs)) (sets (a .start) (a .count) (take (room - a .count) zs))
@@ -61,13 +59,13 @@ stored-starts room = as-far-as-room room (λ a. a .count)
     (λ a z zs. ap₂ (λ (n k : ℕ). starts n (sets (set (a .start) (a .count) z) k zs)) (sum (a .count) (length zs)) (add-one (a .count)))
 
 stored-modes : (room : ℕ) (ms : List (ℕ × ℕ)) (a : Modes) → foldl (withMode room) a ms ≡ modes (a .count + length (take (room - a .count) ms))
-    (sets (a .sizes) (a .count) (each (λ m. m .0) (take (room - a .count) ms))) (sets (a .values) (a .count) (each (λ m. m .1) (take (room - a .count) ms)))
+    (sets (a .sizes) (a .count) (map (λ m. m .0) (take (room - a .count) ms))) (sets (a .values) (a .count) (map (λ m. m .1) (take (room - a .count) ms)))
 stored-modes room = as-far-as-room room (λ a. a .count)
     (λ a m. modes (a .count + 1) (set (a .sizes) (a .count) (m .0)) (set (a .values) (a .count) (m .1)))
-    (λ a ms. modes (a .count + length ms) (sets (a .sizes) (a .count) (each (λ m. m .0) ms)) (sets (a .values) (a .count) (each (λ m. m .1) ms)))
+    (λ a ms. modes (a .count + length ms) (sets (a .sizes) (a .count) (map (λ m. m .0) ms)) (sets (a .values) (a .count) (map (λ m. m .1) ms)))
     (λ a m. refl)
     (λ a. ap (λ (n : ℕ). modes n (a .sizes) (a .values)) (add-zero (a .count)))
-    (λ a m ms. ap₂ (λ (n k : ℕ). modes n (sets (set (a .sizes) (a .count) (m .0)) k (each (λ m. m .0) ms)) (sets (set (a .values) (a .count) (m .1)) k (each (λ m. m .1) ms))) (sum (a .count) (length ms)) (add-one (a .count)))
+    (λ a m ms. ap₂ (λ (n k : ℕ). modes n (sets (set (a .sizes) (a .count) (m .0)) k (map (λ m. m .0) ms)) (sets (set (a .values) (a .count) (m .1)) k (map (λ m. m .1) ms))) (sum (a .count) (length ms)) (add-one (a .count)))
 
 -- ---- the arrays
 -- an array of so many elements as there is room for: the first n are ys, and the rest is as it was
@@ -93,16 +91,16 @@ fitting room xs = let e : room - 0 ≡ room = omega arith in ap (λ (n : ℕ). t
 fits : {X : Type 0} (room : ℕ) (xs : List X) → 0 + length (take room xs) ≤ room
 fits room xs = omega (arith, length-take room xs)
 
-each-counted : {X Y : Type 0} (f : X → Y) (xs : List X) → 0 + length xs ≡ length (each f xs)
-each-counted f xs = zero-add (length xs) ∙ sym (length-each f xs)
+length-of-map : {X Y : Type 0} (f : X → Y) (xs : List X) → 0 + length xs ≡ length (map f xs)
+length-of-map f xs = zero-add (length xs) ∙ sym (length-map xs f)
 
 -- arrays of variables, of starts and of modes that hold what is listed
 pub record VariablesHeld (room : ℕ) (vs : List SourceVariable) (lower upper start : List ℤ) (a : Variables) : Type 0 where
   pub count : a .count ≡ length vs
   pub few : a .count ≤ room
-  pub allLowers : Holds room (a .count) (each (λ v. v .lower) vs) lower (a .lower)
-  pub allUppers : Holds room (a .count) (each (λ v. v .upper) vs) upper (a .upper)
-  pub allStarts : Holds room (a .count) (each (λ v. v .start) vs) start (a .start)
+  pub allLowers : Holds room (a .count) (map (λ v. v .lower) vs) lower (a .lower)
+  pub allUppers : Holds room (a .count) (map (λ v. v .upper) vs) upper (a .upper)
+  pub allStarts : Holds room (a .count) (map (λ v. v .start) vs) start (a .start)
 
 pub record StartsHeld (room : ℕ) (zs start : List ℤ) (a : Starts) : Type 0 where
   pub count : a .count ≡ length zs
@@ -112,8 +110,8 @@ pub record StartsHeld (room : ℕ) (zs start : List ℤ) (a : Starts) : Type 0 w
 pub record ModesHeld (room : ℕ) (ms : List (ℕ × ℕ)) (sizes values : List ℕ) (a : Modes) : Type 0 where
   pub count : a .count ≡ length ms
   pub few : a .count ≤ room
-  pub allSizes : Holds room (a .count) (each (λ m. m .0) ms) sizes (a .sizes)
-  pub allValues : Holds room (a .count) (each (λ m. m .1) ms) values (a .values)
+  pub allSizes : Holds room (a .count) (map (λ m. m .0) ms) sizes (a .sizes)
+  pub allValues : Holds room (a .count) (map (λ m. m .1) ms) values (a .values)
 
 -- THE LAWS: they hold as many as there is room for
 pub variables-held : (room : ℕ) (vs : List SourceVariable) (lower upper start : List ℤ) (a : Variables) → length lower ≡ room → length upper ≡ room → length start ≡ room
@@ -121,13 +119,13 @@ pub variables-held : (room : ℕ) (vs : List SourceVariable) (lower upper start 
 variables-held room vs lower upper start a lowerLong upperLong startLong e =
     subst (VariablesHeld room (take room vs) lower upper start)
     (sym (e ∙ stored-variables room vs (variables 0 lower upper start)
-    ∙ ap (λ us. variables (0 + length us) (sets lower 0 (each (λ v. v .lower) us)) (sets upper 0 (each (λ v. v .upper) us)) (sets start 0 (each (λ v. v .start) us))) (fitting room vs)))
+    ∙ ap (λ us. variables (0 + length us) (sets lower 0 (map (λ v. v .lower) us)) (sets upper 0 (map (λ v. v .upper) us)) (sets start 0 (map (λ v. v .start) us))) (fitting room vs)))
     (record {
       count = zero-add (length (take room vs));
       few = fits room vs;
-      allLowers = holds room (0 + length (take room vs)) (each (λ v. v .lower) (take room vs)) lower (each-counted (λ v. v .lower) (take room vs)) (fits room vs) lowerLong;
-      allUppers = holds room (0 + length (take room vs)) (each (λ v. v .upper) (take room vs)) upper (each-counted (λ v. v .upper) (take room vs)) (fits room vs) upperLong;
-      allStarts = holds room (0 + length (take room vs)) (each (λ v. v .start) (take room vs)) start (each-counted (λ v. v .start) (take room vs)) (fits room vs) startLong;
+      allLowers = holds room (0 + length (take room vs)) (map (λ v. v .lower) (take room vs)) lower (length-of-map (λ v. v .lower) (take room vs)) (fits room vs) lowerLong;
+      allUppers = holds room (0 + length (take room vs)) (map (λ v. v .upper) (take room vs)) upper (length-of-map (λ v. v .upper) (take room vs)) (fits room vs) upperLong;
+      allStarts = holds room (0 + length (take room vs)) (map (λ v. v .start) (take room vs)) start (length-of-map (λ v. v .start) (take room vs)) (fits room vs) startLong;
     })
 
 pub starts-held : (room : ℕ) (zs start : List ℤ) (a : Starts) → length start ≡ room → a ≡ foldl (withStart room) (starts 0 start) zs → StartsHeld room (take room zs) start a
@@ -140,5 +138,5 @@ pub modes-held : (room : ℕ) (ms : List (ℕ × ℕ)) (sizes values : List ℕ)
     → a ≡ foldl (withMode room) (modes 0 sizes values) ms → ModesHeld room (take room ms) sizes values a
 modes-held room ms sizes values a sizesLong valuesLong e =
     subst (ModesHeld room (take room ms) sizes values)
-    (sym (e ∙ stored-modes room ms (modes 0 sizes values) ∙ ap (λ us. modes (0 + length us) (sets sizes 0 (each (λ m. m .0) us)) (sets values 0 (each (λ m. m .1) us))) (fitting room ms)))
-    (record { count = zero-add (length (take room ms)); few = fits room ms; allSizes = holds room (0 + length (take room ms)) (each (λ m. m .0) (take room ms)) sizes (each-counted (λ m. m .0) (take room ms)) (fits room ms) sizesLong; allValues = holds room (0 + length (take room ms)) (each (λ m. m .1) (take room ms)) values (each-counted (λ m. m .1) (take room ms)) (fits room ms) valuesLong })
+    (sym (e ∙ stored-modes room ms (modes 0 sizes values) ∙ ap (λ us. modes (0 + length us) (sets sizes 0 (map (λ m. m .0) us)) (sets values 0 (map (λ m. m .1) us))) (fitting room ms)))
+    (record { count = zero-add (length (take room ms)); few = fits room ms; allSizes = holds room (0 + length (take room ms)) (map (λ m. m .0) (take room ms)) sizes (length-of-map (λ m. m .0) (take room ms)) (fits room ms) sizesLong; allValues = holds room (0 + length (take room ms)) (map (λ m. m .1) (take room ms)) values (length-of-map (λ m. m .1) (take room ms)) (fits room ms) valuesLong })

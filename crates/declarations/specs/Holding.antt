@@ -2,12 +2,11 @@
 -- Assumes nothing.
 use mathlib.Core.Path.{_≡_}
 use Prim.Native.Nat.{ℕ, _≤_, _<_}
-use mathlib.Core.List.{List}
+use mathlib.Core.List.{List, map}
 use lib.ListN.{length, take}
 use lib.IntN.{ℤ}
 use Rattle.model.specs.Tasks.{SourceVariable, SourceTask, RestrictedTask, State}
 use Rattle.model.specs.Limits.{sourceLimits, restrictedLimits}
-use Rattle.model.specs.Decoding.{each}
 use Rattle.model.specs.Steps.{integerAt, lowerBounds, upperBounds, sizesOf, sourceStart, restrictedStart}
 use Rattle.declarations.specs.declared.Declared.{Declared}
 
@@ -31,8 +30,8 @@ pub record HoldsSource (t : SourceTask) (r : Declared) (lower upper start : List
   pub variablesFew : r .variables ≤ sourceLimits .variables
   pub modeCount : r .modes ≡ length (t .modes)
   pub modesFew : r .modes ≤ sourceLimits .modes
-  pub lowersAre : take (r .variables) lower ≡ each (λ (b : SourceVariable). b .lower) (t .variables)
-  pub uppersAre : take (r .variables) upper ≡ each (λ (b : SourceVariable). b .upper) (t .variables)
+  pub lowersAre : take (r .variables) lower ≡ map (λ (b : SourceVariable). b .lower) (t .variables)
+  pub uppersAre : take (r .variables) upper ≡ map (λ (b : SourceVariable). b .upper) (t .variables)
   pub lowerIs : (j : ℕ) → j < r .variables → integerAt lower j ≡ lowerBounds t j
   pub upperIs : (j : ℕ) → j < r .variables → integerAt upper j ≡ upperBounds t j
   pub sizesAre : take (r .modes) sizes ≡ sizesOf (t .modes)

@@ -10,7 +10,8 @@ use lib.IntN.{ℤ}
 use Rattle.model.specs.Limits.{sourceLimits, restrictedLimits}
 use Rattle.model.specs.Tasks.{SourceVariable}
 use Rattle.declarations.specs.declared.Declared.{Declared}
-use Rattle.declarations.specs.Declarations.{declaredIn}
+use Rattle.model.specs.Decoding.{variablesOf, startsOf, modesOf}
+use Rattle.declarations.specs.Declarations.{declarations}
 
 -- ---- the variables of a source file: `count` of them are stored, a bound or start of each in every array
 pub record Variables : Type 0 where
@@ -66,9 +67,9 @@ storeModes room = foldl (withMode room)
 
 -- ---- what a reader of a whole file ensures: of arrays that held lower, upper, .. it leaves lower′, upper′, .., and it answers r
 pub record SourceStored (file : List ℕ) (lower upper start : List ℤ) (sizes values : List ℕ) (r : Declared) (lower′ upper′ start′ : List ℤ) (sizes′ values′ : List ℕ) : Type 0 where
-  pub variablesAre : variables (r .variables) lower′ upper′ start′ ≡ storeVariables (variables 0 lower upper start) (declaredIn sourceLimits file .variables)
-  pub modesAre : modes (r .modes) sizes′ values′ ≡ storeModes (sourceLimits .modes) (modes 0 sizes values) (declaredIn sourceLimits file .modes)
+  pub variablesAre : variables (r .variables) lower′ upper′ start′ ≡ storeVariables (variables 0 lower upper start) (variablesOf (declarations sourceLimits file))
+  pub modesAre : modes (r .modes) sizes′ values′ ≡ storeModes (sourceLimits .modes) (modes 0 sizes values) (modesOf (declarations sourceLimits file))
 
 pub record RestrictedStored (file : List ℕ) (start : List ℤ) (sizes values : List ℕ) (r : Declared) (start′ : List ℤ) (sizes′ values′ : List ℕ) : Type 0 where
-  pub startsAre : starts (r .variables) start′ ≡ storeStarts (starts 0 start) (declaredIn restrictedLimits file .starts)
-  pub modesAre : modes (r .modes) sizes′ values′ ≡ storeModes (restrictedLimits .modes) (modes 0 sizes values) (declaredIn restrictedLimits file .modes)
+  pub startsAre : starts (r .variables) start′ ≡ storeStarts (starts 0 start) (startsOf (declarations restrictedLimits file))
+  pub modesAre : modes (r .modes) sizes′ values′ ≡ storeModes (restrictedLimits .modes) (modes 0 sizes values) (modesOf (declarations restrictedLimits file))

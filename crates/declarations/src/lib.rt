@@ -4,12 +4,13 @@
 // elsewhere. Of an accepted file it gives all that the task declares (proofs/Accepted).
 use commands::Command;
 ghost use mathlib.Core.Path.{_≡_};
+ghost use mathlib.Core.List.{[], _∷_};
 ghost use Prim.Native.Nat.{_<_};
 ghost use lib.ListN.{length, getD};
 ghost use Rattle.commands.specs.Table.{letterV, letterU, letterM};
 ghost use Rattle.commands.specs.Reading.{commandAt};
 ghost use Rattle.model.specs.Limits.{sourceLimits, restrictedLimits};
-ghost use Rattle.declarations.specs.Declarations.{declaredBy};
+ghost use Rattle.model.specs.Decoding.{variablesOf, startsOf, modesOf};
 ghost use Rattle.declarations.specs.Stored.{variables, storeVariables, starts, storeStarts, modes, storeModes, SourceStored, RestrictedStored};
 
 // The most variables and modes that a file of each kind may declare.
@@ -38,7 +39,7 @@ fn put_variable(
 ) -> usize
     requires { ⌜ (0 < length (now rest)) × (getD (now rest) 0 0 ≡ letterV) ⌝ }
     ensures { λ r. ⌜ variables r (now (lower .exit)) (now (upper .exit)) (now (start .exit))
-        ≡ storeVariables (variables count (now (lower .entry)) (now (upper .entry)) (now (start .entry))) (declaredBy (commandAt (now (rest .entry))) .variables) ⌝ }
+        ≡ storeVariables (variables count (now (lower .entry)) (now (upper .entry)) (now (start .entry))) (variablesOf (commandAt (now (rest .entry)) ∷ [])) ⌝ }
 {
     let Command::Variable(lower_bits, upper_bits, start_bits) = commands::read_variable(rest) else {
         return count;
@@ -55,7 +56,7 @@ fn put_variable(
 // Likewise a U among the starts of a restricted file.
 fn put_start(rest: &[u8], start: &mut [i64; RESTRICTED_VARIABLES], count: usize) -> usize
     requires { ⌜ (0 < length (now rest)) × (getD (now rest) 0 0 ≡ letterU) ⌝ }
-    ensures { λ r. ⌜ starts r (now (start .exit)) ≡ storeStarts (starts count (now (start .entry))) (declaredBy (commandAt (now (rest .entry))) .starts) ⌝ }
+    ensures { λ r. ⌜ starts r (now (start .exit)) ≡ storeStarts (starts count (now (start .entry))) (startsOf (commandAt (now (rest .entry)) ∷ [])) ⌝ }
 {
     let Command::Start(bits) = commands::read_start(rest) else {
         return count;
@@ -76,7 +77,7 @@ fn put_source_mode(
 ) -> usize
     requires { ⌜ (0 < length (now rest)) × (getD (now rest) 0 0 ≡ letterM) ⌝ }
     ensures { λ r. ⌜ modes r (now (sizes .exit)) (now (values .exit))
-        ≡ storeModes (sourceLimits .modes) (modes count (now (sizes .entry)) (now (values .entry))) (declaredBy (commandAt (now (rest .entry))) .modes) ⌝ }
+        ≡ storeModes (sourceLimits .modes) (modes count (now (sizes .entry)) (now (values .entry))) (modesOf (commandAt (now (rest .entry)) ∷ [])) ⌝ }
 {
     let Command::Mode(size, value) = commands::read_mode(rest) else {
         return count;
@@ -98,7 +99,7 @@ fn put_restricted_mode(
 ) -> usize
     requires { ⌜ (0 < length (now rest)) × (getD (now rest) 0 0 ≡ letterM) ⌝ }
     ensures { λ r. ⌜ modes r (now (sizes .exit)) (now (values .exit))
-        ≡ storeModes (restrictedLimits .modes) (modes count (now (sizes .entry)) (now (values .entry))) (declaredBy (commandAt (now (rest .entry))) .modes) ⌝ }
+        ≡ storeModes (restrictedLimits .modes) (modes count (now (sizes .entry)) (now (values .entry))) (modesOf (commandAt (now (rest .entry)) ∷ [])) ⌝ }
 {
     let Command::Mode(size, value) = commands::read_mode(rest) else {
         return count;

@@ -3,3 +3,4 @@ pub mod Parts
 pub mod Products
 pub mod Division
 pub mod Cases
+pub mod All

@@ -15,9 +15,9 @@ use Rattle.actions.specs.Views.{restrictedActionIs, fittingRestricted}
 use Rattle.restricted.specs.Alone.{taskIn}
 use Rattle.restricted.specs.Step.{actionIs}
 use Rattle.restricted.proofs.Decoded.{is-action}
-use Rattle.kept.specs.Placed.{Placed}
+use Rattle.kept.specs.PlacesKept.{PlacesKept}
 
-pub action-is : {file places : List ℕ} {count k : ℕ} → Placed file places count → k < count → (bytes : List ℕ) → bytes ≡ partOf file (getD places k 0) (getD places (k + 1) 0)
+pub action-is : {file places : List ℕ} {count k : ℕ} → PlacesKept file places count → k < count → (bytes : List ℕ) → bytes ≡ partOf file (getD places k 0) (getD places (k + 1) 0)
     → (a : DecodedRestricted) → restrictedActionIs a ≡ fittingRestricted (restrictedActionOf (decodeAction bytes)) → getElem? (taskIn file .actions) k ≡ some (actionIs a)
 action-is {file} {places} {count} {k} placed known bytes part a decoded =
     is-action file (placed .bytes) (placed .accepted) k (omega (arith, placed .countIs)) a

@@ -1,3 +1,3 @@
-pub mod Placed
+pub mod PlacesKept
 pub mod Put
 pub mod Slots

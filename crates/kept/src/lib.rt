@@ -14,7 +14,7 @@ ghost use lib.ListN.{length, getElem?};
 ghost use Rattle.restricted.specs.Alone.{taskIn};
 ghost use Rattle.restricted.specs.Step.{actionIs};
 ghost use Rattle.restricted_rows.specs.Row.{rowIs};
-ghost use Rattle.kept.specs.Placed.{Placed};
+ghost use Rattle.kept.specs.PlacesKept.{PlacesKept};
 ghost use Rattle.kept.specs.Put.{ConditionsPut, PairsPut, AdditionsPut};
 ghost use Rattle.kept.specs.Slots.{Held, Kept};
 
@@ -48,7 +48,7 @@ fn lesser(a: usize, b: usize) -> usize
 
 // Action k of the file.
 fn decode_action(file: &[u8], places: &[usize], count: usize, k: usize) -> RestrictedAction
-    requires { ⌜ Placed (now file) (now places) count × (k < count) ⌝ }
+    requires { ⌜ PlacesKept (now file) (now places) count × (k < count) ⌝ }
     ensures { λ r. ⌜ getElem? (taskIn (now (file .entry)) .actions) k ≡ some (actionIs r) ⌝ }
 {
     actions::decode_restricted(actions::part(file, places[k], places[k + 1]))
@@ -169,7 +169,7 @@ pub fn keep_action(
     slot: usize,
     k: u16,
 )
-    requires { ⌜ Placed (now file) (now places) count × (k < count) × (slot < length (now tags)) × Held (now file) count (now tags) (now marks) (now numbers) ⌝ }
+    requires { ⌜ PlacesKept (now file) (now places) count × (k < count) × (slot < length (now tags)) × Held (now file) count (now tags) (now marks) (now numbers) ⌝ }
     ensures { λ _. ⌜ Kept (now (file .entry)) count (length (now (tags .entry))) slot k (now (tags .exit)) (now (marks .exit)) (now (numbers .exit)) ⌝ }
 {
     if tags[slot] == k {

@@ -72,11 +72,11 @@ fn judge(name: &[u8], bytes: isize) {
     let plan = room();
     let size = io::count(bytes, &plan);
     word(name);
-    let judgement = source_judge::judge(b"AGZ", &plan[..size]);
+    let judgement = source_walk::judge(b"AGZ", &plan[..size]);
     let verdict = judgement.verdict;
     match verdict {
-        source_judge::Verdict::Refused(number, place) => refusal(number, place),
-        source_judge::Verdict::Valid(steps) => natural(steps),
+        source_walk::Verdict::Refused(number, place) => refusal(number, place),
+        source_walk::Verdict::Valid(steps) => natural(steps),
     }
     end();
 }
@@ -121,7 +121,7 @@ fn expand(name: &[u8], plan: &[u8], lent: isize) {
     let out = &mut room[..size];
     fill(out);
     word(name);
-    match plans::expand(
+    match plan_expand::expand(
         b"V\0\0\0\0\x10\x27\0\0\x0e\x27\0\0AL\0\x0e\x27\0\0AGZ",
         plan,
         out,

@@ -3,11 +3,10 @@
 use mathlib.Core.Path.{_≡_, refl, sym, ap, _∙_}
 use Prim.Native.Nat.{ℕ, _+_}
 use native.Mathlib.Omega.{arith}
-use mathlib.Core.List.{List, [], _∷_, _++_, append-assoc}
+use mathlib.Core.List.{List, [], _∷_, _++_, append-assoc, flatMap}
 use lib.ListN.{length, length-append}
 use lib.IntN.{ℤ, pos}
-use Rattle.lists.specs.Each.{flat}
-use Rattle.lists.proofs.Each.{flat-nil, flat-cons}
+use Rattle.lists.proofs.Each.{flatMap-nil, flatMap-cons}
 use Rattle.model.specs.Listing.{decimal, decimalSigned, fieldsOf, goalLine, refusedLine}
 use Rattle.listing.specs.Lines.{field, lineOf}
 
@@ -16,15 +15,15 @@ unfolding decimalSigned
 natural n = refl
 
 -- the fields of a line, and its end
-pub fields-are : (zs : List ℤ) → fieldsOf zs ≡ flat field zs ++ (10 ∷ [])
-fields-are [] = rw (flat-nil field)
-fields-are (z ∷ zs) = rw (flat-cons field z zs) (ap (λ (xs : List ℕ). 32 ∷ xs) (ap (λ (xs : List ℕ). decimalSigned z ++ xs) (fields-are zs) ∙ sym (append-assoc (decimalSigned z) (flat field zs) (10 ∷ []))))
+pub fields-are : (zs : List ℤ) → fieldsOf zs ≡ flatMap field zs ++ (10 ∷ [])
+fields-are [] = rw (flatMap-nil field)
+fields-are (z ∷ zs) = rw (flatMap-cons field z zs) (ap (λ (xs : List ℕ). 32 ∷ xs) (ap (λ (xs : List ℕ). decimalSigned z ++ xs) (fields-are zs) ∙ sym (append-assoc (decimalSigned z) (flatMap field zs) (10 ∷ []))))
 
 -- ---- how long the lines are
 field-long : (n : ℕ) (xs : List ℕ) → length (32 ∷ (decimalSigned (pos n) ++ xs)) ≡ length (decimal n) + length xs + 1
 field-long n xs = rw (natural n) (omega (arith, length-append (decimal n) xs))
 
-pub line-long : (i k price : ℕ) (zs : List ℤ) → length (lineOf i k price zs) ≡ length (decimal i) + length (decimal k) + length (decimal price) + length (flat field zs) + 3
+pub line-long : (i k price : ℕ) (zs : List ℤ) → length (lineOf i k price zs) ≡ length (decimal i) + length (decimal k) + length (decimal price) + length (flatMap field zs) + 3
 line-long i k price zs =
     omega (
       arith,
@@ -32,7 +31,7 @@ line-long i k price zs =
       field-long k (fieldsOf (pos price ∷ zs)),
       field-long price (fieldsOf zs),
       ap length (fields-are zs),
-      length-append (flat field zs) (10 ∷ []),
+      length-append (flatMap field zs) (10 ∷ []),
     )
 
 pub goal-long : (total : ℕ) → length (goalLine total) ≡ length (decimal total) + 6

@@ -1,105 +1,115 @@
--- What the parts of the listing make of an accepted file.
+-- What is listed by the rows of a task is the listing of its file.
 -- Assumes nothing.
 use mathlib.Core.Path.{_≡_, refl, sym, ap, ap₂, _∙_, subst}
-use Prim.Native.Nat.{ℕ, _+_, _≤_}
+use Prim.Native.Nat.{ℕ, zero, suc, _+_, _≤_, _<_}
 use native.Mathlib.Omega.{arith}
-use mathlib.Core.Bool.{false}
-use mathlib.Core.List.{List}
-use lib.ListN.{length, length-append}
+use native.Mathlib.Nat.{not-suc-le-zero, le-of-suc-le-suc}
+use mathlib.Core.Bool.{Bool, true, false, cond}
+use mathlib.Core.Option.{none}
+use mathlib.Core.List.{List, [], _∷_, _++_}
+use lib.Dec.{ltb}
+use lib.ListN.{length, length-append, getElem?}
 use lib.IntN.{ℤ}
-use Rattle.integers.specs.Numbers.{Bytes}
+use borrow.Author.Tests.{ltb-true, ltb-false}
 use Rattle.lists.specs.Answer.{Answer, given, refused, then}
 use Rattle.lists.specs.Written.{Lent}
 use Rattle.lists.specs.declared.Written.{Written}
 use Rattle.model.specs.Tasks.{SourceTask, State}
-use Rattle.model.specs.Limits.{sourceLimits}
-use Rattle.model.specs.Reading.{Verdict, Accepted, Rejected, verdictOf}
-use Rattle.model.specs.Decoding.{onVerdict, readSource}
-use Rattle.model.specs.Plans.{readPlan, planNumbers}
-use Rattle.model.specs.Steps.{sourceStart}
-use Rattle.model.specs.Judging.{judgeSourceTask, priceTask, pricePlan}
-use Rattle.model.specs.Listing.{stepLines, goalLine, refusedLine, textOf, listing}
-use Rattle.model.proofs.JudgedPlans.{plan-read}
-use Rattle.planbytes.specs.Counted.{countOf}
-use Rattle.source.specs.Judged.{AcceptedWith}
-use Rattle.source.proofs.Judging.{task-of, accepted-task}
-use Rattle.planbytes.proofs.Steps.{steps-of}
-use Rattle.rows.proofs.Start.{start-shaped}
-use Rattle.source_judge.specs.Running.{AtStart}
-use Rattle.source_judge.proofs.Judging.{stands-at-start}
-use Rattle.listing.specs.Listed.{ReadyAt, Listable, textFrom, ListingWritten, actionsOf}
+use Rattle.model.specs.Plans.{planNumbers}
+use Rattle.model.specs.Steps.{sourceStart, stepSource}
+use Rattle.model.specs.Judging.{judgeSourceTask, priceTask}
+use Rattle.model.specs.Listing.{stepLine, stepLines, goalLine, refusedLine, textOf, listing}
+use Rattle.source.specs.Step.{state}
+use Rattle.rows.specs.Table.{Table, declaredBy, takesBy, afterBy, priceBy, RowsOf, Inside}
+use Rattle.rows.proofs.Tables.{price-agrees, step-agrees, inside-after}
+use Rattle.source_walk.specs.declared.Task.{Task}
+use Rattle.source_walk.specs.declared.Verdict.{Verdict}
+use Rattle.source_walk.specs.declared.Verdict.the-variants.{Valid, Refused}
+use Rattle.source_walk.specs.Opening.{opened, tableOf, Started}
+use Rattle.source_walk.specs.Walk.{Judging, judgeBy}
+use Rattle.source_walk.proofs.Opening.{refused-both, goes-on}
+use Rattle.source_walk.proofs.Judging.{answerWith, judged-is, priced-is}
+use Rattle.listing.specs.Listed.{textWith, listedWith, linesBy, listedBy}
 
--- ---- the text
 pub lent-as : {old : List ℕ} {a b : Answer (List ℕ)} {after : List ℕ} {r : Written} → a ≡ b → Lent old a after r → Lent old b after r
 lent-as {old} {after = after} {r} e l = subst (λ (c : Answer (List ℕ)). Lent old c after r) e l
 
-pub text-long : (t : SourceTask) (p : List ℕ) (total : ℕ) (x : State) → length (textFrom t p total x) ≡ 24 + length (stepLines t 0 p x) + length (goalLine total)
-text-long t p total x = omega (arith, length-append (stepLines t 0 p x) (goalLine total))
+pub text-long : (lines : List ℕ) (total : ℕ) → length (textWith lines total) ≡ 24 + length lines + length (goalLine total)
+text-long lines total = omega (arith, length-append lines (goalLine total))
 
--- ---- an accepted file, whose start is held with the rows of its actions
-module _ {file : List ℕ} {count : ℕ} {marks : List (List ℕ)} {numbers : List (List ℤ)} {n m : ℕ} {values : List ℤ} {modes : List ℕ} (B : AtStart file count marks numbers n m values modes) where
-  start-ready : (t : SourceTask) → readSource file ≡ given t → ReadyAt t count marks numbers n m values modes
-  start-ready t e = record { lower = B .lower; upper = B .upper; sizes = B .sizes; shaped = start-shaped (B .holds t e); ready = B .prepared .ready t e }
+-- ---- the lines by the rows of a task are those of its steps
+-- there is no action past the last
+past : {A : Type 0} (xs : List A) (k : ℕ) → length xs ≤ k → getElem? xs k ≡ none
+past [] k h = refl
+past (x ∷ xs) zero h = absurd (not-suc-le-zero h)
+past (x ∷ xs) (suc k) h = past xs k (le-of-suc-le-suc h)
 
-  pub start-listable : AcceptedWith (verdictOf sourceLimits file) count → {p : List ℕ} {steps : ℕ} → steps ≡ length p → steps ≤ 1_000_000 → Listable p steps count marks numbers n m values modes
-  start-listable a c l = record { stands = stands-at-start file count marks numbers n m values modes B a; counted = c; few = l }
+no-step : (t : SourceTask) (x : State) (k : ℕ) → length (t .actions) ≤ k → stepSource t x k ≡ none
+no-step t x k h = rw (past (t .actions) k h)
 
--- ---- a refusal of the plan's price is the listing's
-then-refused : {A B X : Type 0} {number place : ℕ} (o : Answer A) (k : A → Answer B) (l : A → Answer X) → ((x : A) → k x ≡ refused number place → l x ≡ refused number place) → then o k ≡ refused number place → then o l ≡ refused number place
-then-refused (given x) k l h e = h x e
-then-refused {number = number} {place} (refused a b) k l h e = let x : a ≡ number = cc in let y : b ≡ place = cc in ap₂ refused x y
+module _ {t : SourceTask} {T : Table} (R : RowsOf t T) where
+  abbrev Same : ℕ → List ℕ → State → Type 0
+  Same i p x = linesBy T i p x ≡ stepLines t i p (declaredBy T x)
 
-pub refused-listing : (file plan : List ℕ) (number place : ℕ) → refused number place ≡ pricePlan file plan → refusedLine number place ≡ listing file plan
+  lines-are : (p : List ℕ) (i : ℕ) (x : State) → Inside R x → linesBy T i p x ≡ stepLines t i p (declaredBy T x)
+  unfolding linesBy stepLines
+  lines-are [] i x I = refl
+  lines-are (k ∷ ks) i x I = go (ltb k (T .count)) refl (takesBy T x k) refl (lines-are ks (suc i) (afterBy T x k))
+    where
+      go : (a : Bool) → ltb k (T .count) ≡ a → (b : Bool) → takesBy T x k ≡ b → (Inside R (afterBy T x k) → Same (suc i) ks (afterBy T x k))
+          → cond a (cond b (stepLine i k (priceBy T x k) (declaredBy T (afterBy T x k)) ++ linesBy T (suc i) ks (afterBy T x k)) []) []
+          ≡ stepLines t i (k ∷ ks) (declaredBy T x)
+      go true e true f ih =
+          let l : k < T .count = ltb-true k (T .count) e in
+          rw (step-agrees R x I k l, f, price-agrees R x k l)
+          (ap (λ (z : List ℕ). stepLine i k (priceBy T x k) (declaredBy T (afterBy T x k)) ++ z) (ih (inside-after R x I k l f)))
+      go true e false f ih = rw (step-agrees R x I k (ltb-true k (T .count) e), f) refl
+      go false e b f ih = rw (no-step t (declaredBy T x) k (omega (arith, R .ready .counted, ltb-false k (T .count) e))) refl
+
+-- ---- what goes on from a task and a plan
+abbrev pub textFor : SourceTask → List ℕ → ℕ → List ℕ
+textFor t p total = textWith (stepLines t 0 p (sourceStart t)) total
+
+abbrev withTotal : SourceTask → List ℕ → Answer ℕ → Answer (List ℕ)
+withTotal t p price = then price (λ total. given (textFor t p total))
+
+abbrev goOn : SourceTask → List ℕ → Answer (List ℕ)
+goOn t p = then (judgeSourceTask t p) (λ v. withTotal t p (priceTask t false p))
+
+pub refused-listing : (file plan : List ℕ) (number place : ℕ) → opened file plan ≡ refused number place → refusedLine number place ≡ listing file plan
 unfolding listing
-refused-listing file plan number place e =
-    sym
-    (ap textOf
-    (then-refused (readSource file) _ _
-    (λ t. then-refused (readPlan plan) _ _ (λ p. then-refused (judgeSourceTask t p) _ _ (λ v q. ap (λ (c : Answer ℕ). then c (λ total. given (textFrom t p total (sourceStart t)))) q)))
-    (sym e)))
+refused-listing file plan number place e = sym (ap textOf (refused-both goOn file plan number place e))
 
--- ---- a plan with a price is valid
-no-result : {A G : Type 0} {number place : ℕ} {x : A} → refused number place ≡ given x → G
-no-result e = let z : _≡_ {A = ℕ} 0 1 = cc in absurd (omega arith)
+module _ {file plan : List ℕ} {r : Task} {marks : List (List ℕ)} {numbers : List (List ℤ)} {values : List ℤ} {modes : List ℕ}
+    (S : Started file plan r marks numbers values modes) where
+  abbrev T : Table
+  T = tableOf r marks numbers
 
-then-given : {A B X : Type 0} {y : B} {z : Answer X} (o : Answer A) (k : A → Answer B) (l : A → Answer X) → ((x : A) → k x ≡ given y → l x ≡ z) → then o k ≡ given y → then o l ≡ z
-then-given (given x) k l h e = h x e
-then-given (refused a b) k l h e = no-result e
+  abbrev t : SourceTask
+  t = S .task
 
-module _ (file plan : List ℕ) (total : ℕ) (e : pricePlan file plan ≡ given total) where
-  pub valid-accepted : AcceptedWith (verdictOf sourceLimits file) (actionsOf (verdictOf sourceLimits file))
-  valid-accepted = go (verdictOf sourceLimits file) e
-    where
-      go : (v : Verdict) → then (onVerdict v (task-of file 0)) (λ t. then (readPlan plan) (λ p. then (judgeSourceTask t p) (λ v. priceTask t false p))) ≡ given total → AcceptedWith v (actionsOf v)
-      go (Accepted a b c) q = refl
-      go (Rejected a b) q = no-result q
+  abbrev p : List ℕ
+  p = planNumbers plan
 
-  pub valid-plan : Bytes plan → (readPlan plan ≡ given (planNumbers plan)) × (length (planNumbers plan) ≤ 1_000_000)
-  valid-plan bytes = go (readSource file) (readPlan plan) refl e
-    where
-      go : (o : Answer SourceTask) (q : Answer (List ℕ)) → readPlan plan ≡ q → then o (λ t. then q (λ p. then (judgeSourceTask t p) (λ v. priceTask t false p))) ≡ given total
-          → (readPlan plan ≡ given (planNumbers plan)) × (length (planNumbers plan) ≤ 1_000_000)
-      go (refused a b) q h k = no-result k
-      go (given t) (refused a b) h k = no-result k
-      go (given t) (given p) h k =
-          let n : given (length p) ≡ countOf plan = sym (ap (λ (o : Answer (List ℕ)). then o (λ ks. given (length ks))) h) in
-          let s = steps-of plan (length p) n in
-          (s .0, omega (arith, s .1, plan-read plan p bytes h .1))
+  abbrev x : State
+  x = state values modes
 
-  valid-listing : Bytes plan → (t : SourceTask) → readSource file ≡ given t → textFrom t (planNumbers plan) total (sourceStart t) ≡ listing file plan
+  abbrev J : Judging
+  J = judgeBy T true p x
+
+  steps-are : linesBy T 0 p x ≡ stepLines t 0 p (sourceStart t)
+  steps-are = lines-are (S .rows) p 0 x (S .inside) ∙ ap (stepLines t 0 p) (S .start)
+
+  judged : (v : Verdict) → J .verdict ≡ v → judgeSourceTask t p ≡ answerWith v (declaredBy T (J .state))
+  judged v e = judged-is S true ∙ ap (λ (u : Verdict). answerWith u (declaredBy T (J .state))) e
+
+  by-verdict : (v : Verdict) → J .verdict ≡ v → listedWith (linesBy T 0 p x) v (J .price) ≡ textOf (goOn t p)
+  by-verdict (Valid n) e =
+      ap (λ (lines : List ℕ). textWith lines (J .price)) steps-are
+      ∙ sym (ap₂ (λ (a : Answer (ℕ × State)) (c : Answer ℕ). textOf (then a (λ v. withTotal t p c))) (judged (Valid n) e) (priced-is S n e false))
+  by-verdict (Refused number place) e =
+      sym (ap (λ (a : Answer (ℕ × State)). textOf (then a (λ v. withTotal t p (priceTask t false p)))) (judged (Refused number place) e))
+
+  pub listed-is : listedBy (tableOf r marks numbers) (planNumbers plan) (state values modes) ≡ listing file plan
   unfolding listing
-  valid-listing bytes t q =
-      let p = planNumbers plan in
-      let r = valid-plan bytes .0 in
-      let f : ℕ → Answer (List ℕ) = λ sum. given (textFrom t p sum (sourceStart t)) in
-      let k : then (judgeSourceTask t p) (λ v. priceTask t false p) ≡ given total = rw (q, r) at e in
-      let l : then (judgeSourceTask t p) (λ v. then (priceTask t false p) f) ≡ f total = then-given (judgeSourceTask t p) _ _ (λ v c. ap (λ (o : Answer ℕ). then o f) c) k in
-      rw (q, r, l)
-
-  -- the text written from the file's start on is the listing
-  module _ (bytes : Bytes plan) {count : ℕ} {marks : List (List ℕ)} {numbers : List (List ℤ)} {n m : ℕ} {values : List ℤ} {modes : List ℕ} (B : AtStart file count marks numbers n m values modes) where
-    pub start-listing : AcceptedWith (verdictOf sourceLimits file) count → {old after : List ℕ} {r : Written} → ListingWritten (planNumbers plan) count marks numbers n m values modes total old after r → Lent old (given (listing file plan)) after r
-    start-listing a W =
-        let t = task-of file count in
-        let q = accepted-task file count a in
-        lent-as (ap given (ap (textFrom t (planNumbers plan) total) (B .holds t q .startIs) ∙ valid-listing bytes t q)) (W .written t (start-ready B t q))
+  listed-is = by-verdict (J .verdict) refl ∙ sym (ap textOf (goes-on goOn file plan t (S .reads) (S .planIs .planRead)))

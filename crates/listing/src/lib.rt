@@ -2,27 +2,27 @@
 // that names the refusal.
 //
 // The text is written into output that a caller lends, its length counted first. Nothing is written where it does not fit.
+use plan_strokes::STAGES;
 use rows::MARKS;
 use rows::NUMBERS;
 use source::MODES;
 use source::VARIABLES;
-use source_judge::ACTIONS;
+use source_walk::ROWS;
 ghost use mathlib.Core.Path.{_≡_};
 ghost use Prim.Native.Nat.{_≤_};
 ghost use lib.ListN.{length, take};
 ghost use lib.IntN.{pos};
+ghost use mathlib.Core.List.{flatMap};
 ghost use Rattle.lists.specs.Answer.{given};
-ghost use Rattle.lists.specs.Each.{flat};
 ghost use Rattle.lists.specs.Writing.{Room, Wrote};
 ghost use Rattle.lists.specs.Written.{Lent};
-ghost use Rattle.model.specs.Limits.{sourceLimits};
 ghost use Rattle.model.specs.Listing.{fieldsOf, goalLine, refusedLine, listing};
-ghost use Rattle.model.specs.Judging.{pricePlan};
 ghost use Rattle.model.specs.Plans.{planNumbers};
-ghost use Rattle.model.specs.Reading.{verdictOf};
-ghost use Rattle.rows.specs.Row.{Steady, Usable};
+ghost use Rattle.source.specs.Step.{state};
+ghost use Rattle.rows.specs.Table.{table};
 ghost use Rattle.listing.specs.Lines.{field, lineOf};
-ghost use Rattle.listing.specs.Listed.{Turned, Listable, LinesLong, LinesRoom, LinesPut, ListingRoom, ListingPut, ListingWritten, actionsOf};
+ghost use Rattle.listing.specs.Listed.{Listable, linesBy, textWith, listedBy};
+ghost use Rattle.source.specs.Sizes.{VARIABLES};
 
 // A text, byte for byte.
 fn put_text(out: &mut [u8], at: usize, text: &[u8]) -> usize
@@ -59,8 +59,8 @@ fn put_count(out: &mut [u8], at: usize, n: u64) -> usize
 
 // The first n values, a space before each.
 fn put_values(out: &mut [u8], at: usize, values: &[i64; VARIABLES], n: usize) -> usize
-    requires { ⌜ (n ≤ 8) × (length (now values) ≡ 8) × Room (now out) at (flat field (take n (now values))) ⌝ }
-    ensures { λ r. ⌜ Wrote (now (out .entry)) at (flat field (take n (now (values .entry)))) (now (out .exit)) r ⌝ }
+    requires { ⌜ (n ≤ VARIABLES) × (length (now values) ≡ VARIABLES) × Room (now out) at (flatMap field (take n (now values))) ⌝ }
+    ensures { λ r. ⌜ Wrote (now (out .entry)) at (flatMap field (take n (now (values .entry)))) (now (out .exit)) r ⌝ }
 {
     let mut place = at;
     let mut i: usize = 0;
@@ -73,7 +73,7 @@ fn put_values(out: &mut [u8], at: usize, values: &[i64; VARIABLES], n: usize) ->
 
 // The first n values and the line's end.
 fn put_fields(out: &mut [u8], at: usize, values: &[i64; VARIABLES], n: usize) -> usize
-    requires { ⌜ (n ≤ 8) × (length (now values) ≡ 8) × Room (now out) at (fieldsOf (take n (now values))) ⌝ }
+    requires { ⌜ (n ≤ VARIABLES) × (length (now values) ≡ VARIABLES) × Room (now out) at (fieldsOf (take n (now values))) ⌝ }
     ensures { λ r. ⌜ Wrote (now (out .entry)) at (fieldsOf (take n (now (values .entry)))) (now (out .exit)) r ⌝ }
 {
     let end = put_values(out, at, values, n);
@@ -90,7 +90,7 @@ fn put_step_line(
     values: &[i64; VARIABLES],
     n: usize,
 ) -> usize
-    requires { ⌜ (n ≤ 8) × (length (now values) ≡ 8) × Room (now out) at (lineOf i k price (take n (now values))) ⌝ }
+    requires { ⌜ (n ≤ VARIABLES) × (length (now values) ≡ VARIABLES) × Room (now out) at (lineOf i k price (take n (now values))) ⌝ }
     ensures { λ r. ⌜ Wrote (now (out .entry)) at (lineOf i k price (take n (now (values .entry)))) (now (out .exit)) r ⌝ }
 {
     let action_at = text::put_natural(out, at, i);
@@ -122,8 +122,8 @@ fn put_refused_line(out: &mut [u8], at: usize, number: u64, place: u64) -> usize
 
 // How long the first n values are, with the space before each.
 fn values_length(values: &[i64; VARIABLES], n: usize) -> usize
-    requires { ⌜ (n ≤ 8) × (length (now values) ≡ 8) ⌝ }
-    ensures { λ r. ⌜ (r ≡ length (flat field (take n (now (values .entry))))) × (r ≤ 168) ⌝ }
+    requires { ⌜ (n ≤ VARIABLES) × (length (now values) ≡ VARIABLES) ⌝ }
+    ensures { λ r. ⌜ (r ≡ length (flatMap field (take n (now (values .entry))))) × (r ≤ 168) ⌝ }
 {
     let mut sum: usize = 0;
     let mut i: usize = 0;
@@ -136,7 +136,7 @@ fn values_length(values: &[i64; VARIABLES], n: usize) -> usize
 
 // How long the line of a step is.
 fn step_line_length(i: u64, k: u64, price: u64, values: &[i64; VARIABLES], n: usize) -> usize
-    requires { ⌜ (n ≤ 8) × (length (now values) ≡ 8) ⌝ }
+    requires { ⌜ (n ≤ VARIABLES) × (length (now values) ≡ VARIABLES) ⌝ }
     ensures { λ r. ⌜ (r ≡ length (lineOf i k price (take n (now (values .entry))))) × (r ≤ 231) ⌝ }
 {
     let counts = text::natural_length(i) + text::natural_length(k) + text::natural_length(price);
@@ -167,29 +167,6 @@ fn write_refusal(out: &mut [u8], number: u8, place: u64) -> lists::Written
     lists::Written::Bytes(need)
 }
 
-// What a step comes to: whether its action applies, and its price.
-struct Turn {
-    applied: bool,
-    price: u64,
-}
-
-// Takes the action of a row in a lent state where it applies. The price is counted from the values before.
-fn take_turn(
-    values: &mut [i64; VARIABLES],
-    modes: &mut [u16; MODES],
-    n: usize,
-    m: usize,
-    marks: &[u16; MARKS],
-    numbers: &[i64; NUMBERS],
-) -> Turn
-    requires { ⌜ Steady n m (now values) (now modes) × Usable (now marks) (now numbers) ⌝ }
-    ensures { λ r. ⌜ Turned n m (now (marks .entry)) (now (numbers .entry)) (now (values .entry)) (now (modes .entry)) r (now (values .exit)) (now (modes .exit)) ⌝ }
-{
-    let price = measuring::price(values, n, marks, numbers);
-    let applied = rows::take(values, modes, n, m, marks, numbers);
-    Turn { applied, price }
-}
-
 // How long the lines of the steps are, from a lent state on.
 fn lines_length(
     plan: &[u8],
@@ -202,9 +179,11 @@ fn lines_length(
     values: &mut [i64; VARIABLES],
     modes: &mut [u16; MODES],
 ) -> usize
-    requires { ⌜ Listable (planNumbers (now plan)) steps count (now marks) (now numbers) n m (now values) (now modes) ⌝ }
-    ensures { λ r. ⌜ LinesLong (planNumbers (now (plan .entry))) count (now (marks .entry)) (now (numbers .entry)) n m (now (values .entry)) (now (modes .entry)) r ⌝ }
+    requires { ⌜ Listable (table count (now marks) (now numbers) n m) (planNumbers (now plan)) steps (now values) (now modes) ⌝ }
+    ensures { λ r. ⌜ (r ≡ length (linesBy (table count (now (marks .entry)) (now (numbers .entry)) n m) 0
+        (planNumbers (now (plan .entry))) (state (now (values .entry)) (now (modes .entry))))) × (r ≤ 231000000) ⌝ }
 {
+    let mut times = [0i64; STAGES];
     let mut sum: usize = 0;
     let mut i: usize = 0;
     while i < steps {
@@ -212,7 +191,15 @@ fn lines_length(
         if count <= k {
             return sum;
         }
-        let turn = take_turn(values, modes, n, m, &marks[k], &numbers[k]);
+        let turn = plan_strokes::take_priced(
+            values,
+            modes,
+            n,
+            m,
+            &marks[k],
+            &numbers[k],
+            &mut times,
+        );
         if !turn.applied {
             return sum;
         }
@@ -234,8 +221,9 @@ fn measure_lines(
     values: &[i64; VARIABLES],
     modes: &[u16; MODES],
 ) -> usize
-    requires { ⌜ Listable (planNumbers (now plan)) steps count (now marks) (now numbers) n m (now values) (now modes) ⌝ }
-    ensures { λ r. ⌜ LinesLong (planNumbers (now (plan .entry))) count (now (marks .entry)) (now (numbers .entry)) n m (now (values .entry)) (now (modes .entry)) r ⌝ }
+    requires { ⌜ Listable (table count (now marks) (now numbers) n m) (planNumbers (now plan)) steps (now values) (now modes) ⌝ }
+    ensures { λ r. ⌜ (r ≡ length (linesBy (table count (now (marks .entry)) (now (numbers .entry)) n m) 0
+        (planNumbers (now (plan .entry))) (state (now (values .entry)) (now (modes .entry))))) × (r ≤ 231000000) ⌝ }
 {
     let mut last_values = *values;
     let mut last_modes = *modes;
@@ -266,10 +254,13 @@ fn put_lines(
     values: &mut [i64; VARIABLES],
     modes: &mut [u16; MODES],
 ) -> usize
-    requires { ⌜ Listable (planNumbers (now plan)) steps count (now marks) (now numbers) n m (now values) (now modes) ⌝ }
-    requires { ⌜ LinesRoom (planNumbers (now plan)) count (now marks) (now numbers) n m (now values) (now modes) (now out) at ⌝ }
-    ensures { λ r. ⌜ LinesPut (planNumbers (now (plan .entry))) count (now (marks .entry)) (now (numbers .entry)) n m (now (values .entry)) (now (modes .entry)) (now (out .entry)) at (now (out .exit)) r ⌝ }
+    requires { ⌜ Listable (table count (now marks) (now numbers) n m) (planNumbers (now plan)) steps (now values) (now modes) ⌝ }
+    requires { ⌜ Room (now out) at (linesBy (table count (now marks) (now numbers) n m) 0 (planNumbers (now plan)) (state (now values) (now modes))) ⌝ }
+    ensures { λ r. ⌜ Wrote (now (out .entry)) at (linesBy (table count (now (marks .entry)) (now (numbers .entry)) n m) 0
+        (planNumbers (now (plan .entry))) (state (now (values .entry)) (now (modes .entry))))
+        (now (out .exit)) r ⌝ }
 {
+    let mut times = [0i64; STAGES];
     let mut place = at;
     let mut i: usize = 0;
     while i < steps {
@@ -277,7 +268,15 @@ fn put_lines(
         if count <= k {
             return place;
         }
-        let turn = take_turn(values, modes, n, m, &marks[k], &numbers[k]);
+        let turn = plan_strokes::take_priced(
+            values,
+            modes,
+            n,
+            m,
+            &marks[k],
+            &numbers[k],
+            &mut times,
+        );
         if !turn.applied {
             return place;
         }
@@ -301,9 +300,13 @@ fn put_listing(
     modes: &mut [u16; MODES],
     total: u64,
 ) -> usize
-    requires { ⌜ Listable (planNumbers (now plan)) steps count (now marks) (now numbers) n m (now values) (now modes) ⌝ }
-    requires { ⌜ ListingRoom (planNumbers (now plan)) count (now marks) (now numbers) n m (now values) (now modes) total (now out) ⌝ }
-    ensures { λ r. ⌜ ListingPut (planNumbers (now (plan .entry))) count (now (marks .entry)) (now (numbers .entry)) n m (now (values .entry)) (now (modes .entry)) total (now (out .entry)) (now (out .exit)) r ⌝ }
+    requires { ⌜ Listable (table count (now marks) (now numbers) n m) (planNumbers (now plan)) steps (now values) (now modes) ⌝ }
+    requires { ⌜ Room (now out) 0 (textWith (linesBy (table count (now marks) (now numbers) n m) 0
+        (planNumbers (now plan)) (state (now values) (now modes))) total) ⌝ }
+    ensures { λ r. ⌜ Wrote (now (out .entry)) 0
+        (textWith (linesBy (table count (now (marks .entry)) (now (numbers .entry)) n m) 0
+        (planNumbers (now (plan .entry))) (state (now (values .entry)) (now (modes .entry)))) total)
+        (now (out .exit)) r ⌝ }
 {
     let lines_at = put_text(out, 0, b"step action cost values\n");
     let goal_at = put_lines(
@@ -336,8 +339,11 @@ fn write_listing(
     modes: &mut [u16; MODES],
     total: u64,
 ) -> lists::Written
-    requires { ⌜ Listable (planNumbers (now plan)) steps count (now marks) (now numbers) n m (now values) (now modes) ⌝ }
-    ensures { λ r. ⌜ ListingWritten (planNumbers (now (plan .entry))) count (now (marks .entry)) (now (numbers .entry)) n m (now (values .entry)) (now (modes .entry)) total (now (out .entry)) (now (out .exit)) r ⌝ }
+    requires { ⌜ Listable (table count (now marks) (now numbers) n m) (planNumbers (now plan)) steps (now values) (now modes) ⌝ }
+    ensures { λ r. ⌜ Lent (now (out .entry))
+        (given (textWith (linesBy (table count (now (marks .entry)) (now (numbers .entry)) n m) 0
+        (planNumbers (now (plan .entry))) (state (now (values .entry)) (now (modes .entry)))) total))
+        (now (out .exit)) r ⌝ }
 {
     let lines = measure_lines(plan, steps, count, marks, numbers, n, m, values, modes);
     let need = 24 + lines + goal_line_length(total);
@@ -360,57 +366,86 @@ fn write_listing(
     lists::Written::Bytes(need)
 }
 
-// How many actions an accepted file has.
-fn count_actions(file: &[u8]) -> usize
-    ensures { λ r. ⌜ r ≡ actionsOf (verdictOf sourceLimits (now (file .entry))) ⌝ }
+// Judges a plan from a lent state on, and lists it, or writes the line of its refusal.
+fn list_ready(
+    out: &mut [u8],
+    plan: &[u8],
+    steps: usize,
+    count: usize,
+    marks: &[[u16; MARKS]],
+    numbers: &[[i64; NUMBERS]],
+    n: usize,
+    m: usize,
+    values: &mut [i64; VARIABLES],
+    modes: &mut [u16; MODES],
+) -> lists::Written
+    requires { ⌜ Listable (table count (now marks) (now numbers) n m) (planNumbers (now plan)) steps (now values) (now modes) ⌝ }
+    ensures { λ r. ⌜ Lent (now (out .entry))
+        (given (listedBy (table count (now (marks .entry)) (now (numbers .entry)) n m)
+        (planNumbers (now (plan .entry))) (state (now (values .entry)) (now (modes .entry)))))
+        (now (out .exit)) r ⌝ }
 {
-    match tasks::check_source(file) {
-        tasks::Verdict::Accepted(_, _, actions) => actions as usize,
-        tasks::Verdict::Rejected(_, _) => 0,
-    }
-}
-
-// Lists a valid plan, whose price is known.
-fn list_valid(file: &[u8], plan: &[u8], total: u64, out: &mut [u8]) -> lists::Written
-    requires { ⌜ pricePlan (now file) (now plan) ≡ given total ⌝ }
-    ensures { λ r. ⌜ Lent (now (out .entry)) (given (listing (now (file .entry)) (now (plan .entry)))) (now (out .exit)) r ⌝ }
-{
-    let count = count_actions(file);
-    let mut marks = [[0u16; MARKS]; ACTIONS];
-    let mut numbers = [[0i64; NUMBERS]; ACTIONS];
-    let mut values = [0i64; VARIABLES];
-    let mut modes = [0u16; MODES];
-    let declared = source_judge::read_task(
-        file,
-        count,
-        &mut marks,
-        &mut numbers,
-        &mut values,
-        &mut modes,
-    );
-    let n = declared.variables;
-    let m = declared.modes;
-    write_listing(
-        out,
+    let mut last_values = *values;
+    let mut last_modes = *modes;
+    let judged = source_walk::judge_steps(
         plan,
-        plan.len() / 2,
+        steps,
         count,
-        &marks,
-        &numbers,
+        marks,
+        numbers,
         n,
         m,
-        &mut values,
-        &mut modes,
-        total,
-    )
+        true,
+        &mut last_values,
+        &mut last_modes,
+    );
+    let verdict = judged.verdict;
+    match verdict {
+        source_walk::Verdict::Refused(number, place) => write_refusal(out, number, place),
+        source_walk::Verdict::Valid(_) => write_listing(
+            out,
+            plan,
+            steps,
+            count,
+            marks,
+            numbers,
+            n,
+            m,
+            values,
+            modes,
+            judged.price,
+        ),
+    }
 }
 
 // The whole listing of a task and a plan, a refusal's line included. The only refusal is 8: the output lent is shorter than the text.
 pub fn list(file: &[u8], plan: &[u8], out: &mut [u8]) -> lists::Written
     ensures { λ r. ⌜ Lent (now (out .entry)) (given (listing (now (file .entry)) (now (plan .entry)))) (now (out .exit)) r ⌝ }
 {
-    match prices::price_plan(file, plan) {
-        prices::Priced::Refused(number, place) => write_refusal(out, number, place),
-        prices::Priced::Price(total) => list_valid(file, plan, total, out),
+    let mut marks = [[0u16; MARKS]; ROWS];
+    let mut numbers = [[0i64; NUMBERS]; ROWS];
+    let mut values = [0i64; VARIABLES];
+    let mut modes = [0u16; MODES];
+    match source_walk::open(
+        file,
+        plan,
+        &mut marks,
+        &mut numbers,
+        &mut values,
+        &mut modes,
+    ) {
+        source_walk::Opened::Refused(number, place) => write_refusal(out, number, place),
+        source_walk::Opened::Ready(t) => list_ready(
+            out,
+            plan,
+            t.steps,
+            t.actions,
+            &marks,
+            &numbers,
+            t.variables,
+            t.modes,
+            &mut values,
+            &mut modes,
+        ),
     }
 }

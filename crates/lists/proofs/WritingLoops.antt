@@ -4,22 +4,21 @@ use mathlib.Core.Path.{_≡_, ap, sym, _∙_}
 use native.Mathlib.Nat.{zero-add}
 use Prim.Native.Nat.{ℕ, _+_, _≤_, _<_, zero-le}
 use native.Mathlib.Omega.{arith}
-use mathlib.Core.List.{List, [], _∷_, _++_, append-nil}
+use mathlib.Core.List.{List, [], _∷_, _++_, append-nil, flatMap}
 use lib.ListN.{length, take, drop, getD, length-append}
-use Rattle.lists.specs.Each.{flat}
 use Rattle.lists.specs.Writing.{Room, Wrote}
-use Rattle.lists.proofs.Each.{flat-nil, flat-cons}
+use Rattle.lists.proofs.Each.{flatMap-nil, flatMap-cons}
 use Rattle.lists.proofs.Loops.{There, rest-more, rest-none}
 use Rattle.lists.proofs.Writing.{Left, start, step, done, recast, room, long}
 
 -- ---- what the elements from index i on make
 
 module _ {A : Type 0} (f : A → List ℕ) {k : ℕ} {xs : List A} {n i : ℕ} (here : There k xs n) where
-  flat-more : (d : A) → i < n → flat f (drop i (take k xs)) ≡ f (getD xs i d) ++ flat f (drop (i + 1) (take k xs))
-  flat-more d l = ap (flat f) (rest-more d here l) ∙ flat-cons f (getD xs i d) (drop (i + 1) (take k xs))
+  flat-more : (d : A) → i < n → flatMap f (drop i (take k xs)) ≡ f (getD xs i d) ++ flatMap f (drop (i + 1) (take k xs))
+  flat-more d l = ap (flatMap f) (rest-more d here l) ∙ flatMap-cons f (getD xs i d) (drop (i + 1) (take k xs))
 
-  flat-none : i ≤ n → n ≤ i → flat f (drop i (take k xs)) ≡ []
-  flat-none l m = ap (flat f) (rest-none here l m) ∙ flat-nil f
+  flat-none : i ≤ n → n ≤ i → flatMap f (drop i (take k xs)) ≡ []
+  flat-none l m = ap (flatMap f) (rest-none here l m) ∙ flatMap-nil f
 
 -- ---- a loop that writes
 
@@ -27,30 +26,30 @@ module _ {A : Type 0} (f : A → List ℕ) {k : ℕ} {xs : List A} {n i : ℕ} (
 pub record Going {A : Type 0} (f : A → List ℕ) (k : ℕ) (xs : List A) (n : ℕ) (old : List ℕ) (at : ℕ) (out : List ℕ) (place i : ℕ) : Type 0 where
   pub here : There k xs n
   pub bound : i ≤ n
-  pub left : Left old at (flat f (take k xs)) out place (flat f (drop i (take k xs)) ∷ [])
+  pub left : Left old at (flatMap f (take k xs)) out place (flatMap f (drop i (take k xs)) ∷ [])
 
 module _ {A : Type 0} {f : A → List ℕ} {k : ℕ} {xs : List A} {n : ℕ} {old : List ℕ} {at : ℕ} where
   pub going-start : There k xs n → Going f k xs n old at old at 0
-  going-start h = record { here = h; bound = zero-le; left = start old at (sym (append-nil (flat f (take k xs)))) }
+  going-start h = record { here = h; bound = zero-le; left = start old at (sym (append-nil (flatMap f (take k xs)))) }
 
   module _ {out : List ℕ} {place i : ℕ} where
-    going-more : (d : A) → Going f k xs n old at out place i → i < n → Left old at (flat f (take k xs)) out place (f (getD xs i d) ∷ flat f (drop (i + 1) (take k xs)) ∷ [])
+    going-more : (d : A) → Going f k xs n old at out place i → i < n → Left old at (flatMap f (take k xs)) out place (f (getD xs i d) ∷ flatMap f (drop (i + 1) (take k xs)) ∷ [])
     going-more d g l =
         recast
-        (append-nil (flat f (drop i (take k xs)))
+        (append-nil (flatMap f (drop i (take k xs)))
         ∙ flat-more f (g .here) d l
-        ∙ ap (λ z. f (getD xs i d) ++ z) (sym (append-nil (flat f (drop (i + 1) (take k xs))))))
+        ∙ ap (λ z. f (getD xs i d) ++ z) (sym (append-nil (flatMap f (drop (i + 1) (take k xs))))))
         (g .left)
 
     -- what the writer of the element requires
-    pub going-room : (d : A) → Going f k xs n old at out place i → i < n → Room old at (flat f (take k xs)) → Room out place (f (getD xs i d))
+    pub going-room : (d : A) → Going f k xs n old at out place i → i < n → Room old at (flatMap f (take k xs)) → Room out place (f (getD xs i d))
     going-room d g l r = room r (going-more d g l)
 
     pub going-next : (d : A) {after : List ℕ} {next : ℕ} → Going f k xs n old at out place i → i < n → Wrote out place (f (getD xs i d)) after next → Going f k xs n old at after next (i + 1)
     going-next d g l w = record { here = g .here; bound = omega arith; left = step (going-more d g l) w }
 
-    pub going-end : Going f k xs n old at out place i → n ≤ i → Wrote old at (flat f (take k xs)) out place
-    going-end g h = done (recast (append-nil (flat f (drop i (take k xs))) ∙ flat-none f (g .here) (g .bound) h) (g .left))
+    pub going-end : Going f k xs n old at out place i → n ≤ i → Wrote old at (flatMap f (take k xs)) out place
+    going-end g h = done (recast (append-nil (flatMap f (drop i (take k xs))) ∙ flat-none f (g .here) (g .bound) h) (g .left))
 
     pub going-long : Going f k xs n old at out place i → length out ≡ length old
     going-long g = long (g .left)
@@ -60,19 +59,19 @@ module _ {A : Type 0} {f : A → List ℕ} {k : ℕ} {xs : List A} {n : ℕ} {ol
 pub record Counted {A : Type 0} (f : A → List ℕ) (k : ℕ) (xs : List A) (n sum i : ℕ) : Type 0 where
   pub here : There k xs n
   pub bound : i ≤ n
-  pub whole : sum + length (flat f (drop i (take k xs))) ≡ length (flat f (take k xs))
+  pub whole : sum + length (flatMap f (drop i (take k xs))) ≡ length (flatMap f (take k xs))
 
 module _ {A : Type 0} {f : A → List ℕ} {k : ℕ} {xs : List A} {n : ℕ} where
   pub counted-start : There k xs n → Counted f k xs n 0 0
-  counted-start h = record { here = h; bound = zero-le; whole = zero-add (length (flat f (take k xs))) }
+  counted-start h = record { here = h; bound = zero-le; whole = zero-add (length (flatMap f (take k xs))) }
 
   module _ {sum i : ℕ} where
     pub counted-next : (d : A) (m : ℕ) → Counted f k xs n sum i → i < n → m ≡ length (f (getD xs i d)) → Counted f k xs n (sum + m) (i + 1)
     counted-next d m g l e = record {
       here = g .here;
       bound = omega arith;
-      whole = omega (arith, g .whole, ap length (flat-more f (g .here) d l), length-append (f (getD xs i d)) (flat f (drop (i + 1) (take k xs))));
+      whole = omega (arith, g .whole, ap length (flat-more f (g .here) d l), length-append (f (getD xs i d)) (flatMap f (drop (i + 1) (take k xs))));
     }
 
-    pub counted-end : Counted f k xs n sum i → n ≤ i → sum ≡ length (flat f (take k xs))
+    pub counted-end : Counted f k xs n sum i → n ≤ i → sum ≡ length (flatMap f (take k xs))
     counted-end g h = omega (arith, g .whole, ap length (flat-none f (g .here) (g .bound) h))

@@ -1,10 +1,10 @@
 -- What is read of an accepted file is what its task declares, and its goal.
 -- Assumes nothing.
 use mathlib.Core.Path.{_≡_, refl, sym, ap, ap₂, _∙_, subst}
-use mathlib.Core.List.{List, [], _∷_, _++_}
+use mathlib.Core.List.{List, [], _∷_, _++_, map}
 use Prim.Native.Nat.{ℕ, zero, suc, _≤_, _<_}
 use native.Mathlib.Omega.{arith}
-use lib.ListN.{length, take, getD, replicate, length-replicate}
+use lib.ListN.{length, take, getD, replicate, length-replicate, length-map}
 use lib.Seq.{getD-take, ext-getD}
 use Rattle.lists.proofs.Each.{length-tabulate, getD-tabulate}
 use lib.IntN.{ℤ, pos, natAbs}
@@ -15,9 +15,8 @@ use Rattle.lists.specs.Writing.{splice}
 use Rattle.model.specs.Tasks.{SourceVariable, State}
 use Rattle.model.specs.Limits.{sourceLimits}
 use Rattle.model.specs.Reading.{verdictOf}
-use Rattle.model.specs.Decoding.{each, readSource}
+use Rattle.model.specs.Decoding.{readSource}
 use Rattle.model.specs.Steps.{integerAt, sizesOf, sourceStart}
-use Rattle.model.proofs.ReadingLaws.{length-each}
 use Rattle.model.proofs.AcceptedOk.{accepted-source-ok}
 use Rattle.model.proofs.LoweredOk.{lowered-task-ok}
 use Rattle.actions.specs.declared.Goal.{Goal}
@@ -30,7 +29,7 @@ use Rattle.source.specs.Judged.{AcceptedWith}
 use Rattle.source.proofs.Judging.{accepted-task, counted-task}
 use Rattle.writing.specs.Parts.{Constants}
 use Rattle.writing.proofs.Sizes.{goal-writable}
-use Rattle.lowering.specs.Held.{taskOf, Placed, Declares, GoalOf}
+use Rattle.lowering.specs.Held.{taskOf, PlacesOf, Declares, GoalOf}
 
 -- ---- lists
 front-small : (n : ℕ) (xs ys : List ℤ) (i : ℕ) → All (λ (z : ℤ). natAbs z ≤ n) (xs ++ ys) → i < length xs → natAbs (integerAt xs i) ≤ n
@@ -38,13 +37,13 @@ front-small n [] ys i h l = absurd (omega arith)
 front-small n (x ∷ xs) ys zero (h, hs) l = h
 front-small n (x ∷ xs) ys (suc i) (h, hs) l = front-small n xs ys i hs (omega arith)
 
-getD-each : {A B : Type 0} (f : A → B) (xs : List A) (k : ℕ) (d : A) → getD (each f xs) k (f d) ≡ f (getD xs k d)
+getD-each : {A B : Type 0} (f : A → B) (xs : List A) (k : ℕ) (d : A) → getD (map f xs) k (f d) ≡ f (getD xs k d)
 getD-each f [] k d = refl
 getD-each f (x ∷ xs) zero d = refl
 getD-each f (x ∷ xs) (suc k) d = getD-each f xs k d
 
 -- pairs in two arrays, from their firsts and their seconds
-pairs-are : (n : ℕ) (xs ys : List ℕ) (ms : List (ℕ × ℕ)) → n ≡ length ms → take n xs ≡ each (λ (m : ℕ × ℕ). m .0) ms → take n ys ≡ each (λ (m : ℕ × ℕ). m .1) ms → pairsIs 0 n xs ys ≡ ms
+pairs-are : (n : ℕ) (xs ys : List ℕ) (ms : List (ℕ × ℕ)) → n ≡ length ms → take n xs ≡ map (λ (m : ℕ × ℕ). m .0) ms → take n ys ≡ map (λ (m : ℕ × ℕ). m .1) ms → pairsIs 0 n xs ys ≡ ms
 pairs-are n xs ys ms l e f =
     ext-getD (0, 0) (pairsIs 0 n xs ys) ms (length-tabulate n (pairAt 0 xs ys) ∙ l)
     (λ k h.
@@ -63,7 +62,7 @@ module _ (file : List ℕ) (count : ℕ) (bytes : Bytes file) (accepted : Accept
   counted = counted-task file count bytes accepted (taskOf file) is
 
   -- the offsets of the actions and of the goal, stored from the front of a table of zeros
-  pub placed : (places : List ℕ) → places ≡ splice (replicate 33 0) 0 (edgesOf file) → Placed file count places
+  pub placed : (places : List ℕ) → places ≡ splice (replicate 33 0) 0 (edgesOf file) → PlacesOf file count places
   placed places e k h = ap (λ (l : List ℕ). getD l k 0) e ∙ places-at file (replicate 33 0) (omega (arith, edges, few, length-replicate {A = ℕ} 33 0)) k (omega (arith, edges, h, counted))
     where
       edges : length (edgesOf file) ≡ suc (length (taskOf file .actions))
@@ -77,7 +76,7 @@ module _ (file : List ℕ) (count : ℕ) (bytes : Bytes file) (accepted : Accept
     starts-small i l =
         let e : take (r .variables) start ≡ sourceStart (taskOf file) .values = ap (λ (x : State). x .values) (h .startIs) in
         let ok = lowered-task-ok (taskOf file) (accepted-source-ok file (taskOf file) is) .startsIn in
-        let long : i < length (sourceStart (taskOf file) .values) = omega (arith, l, h .variableCount, length-each (λ (b : SourceVariable). b .start) (taskOf file .variables)) in
+        let long : i < length (sourceStart (taskOf file) .values) = omega (arith, l, h .variableCount, length-map (taskOf file .variables) (λ (b : SourceVariable). b .start)) in
         let small = front-small 1000000000 (sourceStart (taskOf file) .values) (pos 0 ∷ pos 0 ∷ []) i ok long in
         let same : integerAt (sourceStart (taskOf file) .values) i ≡ getD start i (pos 0) = ap (λ (z : List ℤ). integerAt z i) (sym e) ∙ getD-take (r .variables) start i (pos 0) l in
         let bound : natAbs (getD start i (pos 0)) ≤ 1000000000 = subst (λ (z : ℤ). natAbs z ≤ 1000000000) same small in

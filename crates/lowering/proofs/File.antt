@@ -1,12 +1,11 @@
 -- The lowered task's file by its parts, as they are written; how long it is; and what a file that is refused, or accepted, comes to.
 -- Assumes nothing.
 use mathlib.Core.Path.{_≡_, sym, ap, _∙_, subst}
-use mathlib.Core.List.{List, [], _∷_, _++_}
+use mathlib.Core.List.{List, [], _∷_, _++_, flatMap}
 use Prim.Native.Nat.{ℕ, suc, _+_, _*_}
 use native.Mathlib.Omega.{arith}
-use lib.ListN.{length, take, getElem?, length-append}
+use lib.ListN.{length, take, length-append, length-map}
 use lib.IntN.{ℤ, pos}
-use Rattle.lists.specs.Each.{flat}
 use Rattle.lists.specs.Answer.{Answer, given, refused, then}
 use Rattle.lists.proofs.Writing.{Left}
 use Rattle.model.specs.Tasks.{NumericCondition, RestrictedAction, SourceTask, SourceVariable}
@@ -16,19 +15,17 @@ use Rattle.model.specs.Decoding.{onVerdict, readSource}
 use Rattle.model.specs.Steps.{sourceStart}
 use Rattle.model.specs.Lowering.{lowerTask, lowerFile}
 use Rattle.model.specs.Judging.{lowerBytes}
-use Rattle.model.proofs.ReadingLaws.{length-each}
 use Rattle.actions.specs.declared.Goal.{Goal}
 use Rattle.actions.specs.Views.{pairsIs, goalModesIs, goalConditionsIs}
-use Rattle.writing.specs.Parts.{startBytes, modeBytes, actionBytes, goalBytes}
+use Rattle.writing.specs.Parts.{startBytes, modeBytes, restrictedActionBytes, goalBytes}
 use Rattle.writing.proofs.Parts.{fileParts, file-begun, file-length}
 use Rattle.lowering.specs.declared.Declarations.{Declarations}
 use Rattle.lowering.specs.Held.{taskOf, Declares, GoalOf, stagesOfTask}
-use Rattle.lowering.specs.Lowered.{actionOr, loweredActionAt}
 
 -- the parts that are written, from what is read
 abbrev pub taskParts : List ℤ → List (ℕ × ℕ) → ℕ → List RestrictedAction → List (ℕ × ℕ) → ℕ → List (NumericCondition ℕ) → List (List ℕ)
 taskParts starts modes size acts goalModes control goalConditions =
-    flat startBytes (starts ++ (pos 0 ∷ pos 0 ∷ [])) ∷ flat modeBytes (modes ++ ((size, 0) ∷ [])) ∷ flat actionBytes acts ∷ goalBytes (goalModes ++ ((control, 0) ∷ [])) goalConditions ∷ []
+    flatMap startBytes (starts ++ (pos 0 ∷ pos 0 ∷ [])) ∷ flatMap modeBytes (modes ++ ((size, 0) ∷ [])) ∷ flatMap restrictedActionBytes acts ∷ goalBytes (goalModes ++ ((control, 0) ∷ [])) goalConditions ∷ []
 
 abbrev pub partsOf : List ℕ → Declarations → Goal → ℕ → List (List ℕ)
 partsOf file d g size =
@@ -52,7 +49,7 @@ module _ (file : List ℕ) (count : ℕ) (d : Declarations) (g : Goal) (size : �
   task-begun e old = subst (λ (ps : List (List ℕ)). Left old 0 (lowerFile (taskOf file)) old 0 ps) (parts-are e) (file-begun old 0 (lowerTask (taskOf file)))
 
   -- how long it is
-  pub task-length : (bytes goal : ℕ) → bytes ≡ length (flat actionBytes (lowerTask (taskOf file) .actions)) → goal ≡ length (goalBytes (goalModesIs g ++ ((d .shape .modes, 0) ∷ [])) (goalConditionsIs g))
+  pub task-length : (bytes goal : ℕ) → bytes ≡ length (flatMap restrictedActionBytes (lowerTask (taskOf file) .actions)) → goal ≡ length (goalBytes (goalModesIs g ++ ((d .shape .modes, 0) ∷ [])) (goalConditionsIs g))
       → 5 * (d .shape .variables + 2) + 5 * (d .shape .modes + 1) + bytes + goal ≡ length (lowerFile (taskOf file))
   task-length bytes goal e f =
       let t = taskOf file in
@@ -68,7 +65,7 @@ module _ (file : List ℕ) (count : ℕ) (d : Declarations) (g : Goal) (size : �
         D .held .variablesAre,
         D .held .modesAre,
         length-append (sourceStart t .values) (pos 0 ∷ pos 0 ∷ []),
-        length-each (λ (b : SourceVariable). b .start) (t .variables),
+        length-map (t .variables) (λ (b : SourceVariable). b .start),
         length-append (t .modes) ((suc (stagesOfTask file), 0) ∷ []),
       )
 
@@ -80,11 +77,5 @@ module _ (file : List ℕ) where
   pub refused-lowers : (number place : ℕ) → Rejected number place ≡ verdictOf sourceLimits file → lowerBytes file ≡ refused number place
   refused-lowers number place e = ap (λ (o : Answer SourceTask). then o (λ t. given (lowerFile t))) (refused-reads number place e)
 
-  pub refused-actions : (k number place : ℕ) → Rejected number place ≡ verdictOf sourceLimits file → loweredActionAt file k ≡ refused number place
-  refused-actions k number place e = ap (λ (o : Answer SourceTask). then o (λ t. actionOr k (getElem? (lowerTask t .actions) k))) (refused-reads number place e)
-
   pub accepted-lowers : readSource file ≡ given (taskOf file) → lowerBytes file ≡ given (lowerFile (taskOf file))
   accepted-lowers e = ap (λ (o : Answer SourceTask). then o (λ t. given (lowerFile t))) e
-
-  pub accepted-actions : (k : ℕ) → readSource file ≡ given (taskOf file) → loweredActionAt file k ≡ actionOr k (getElem? (lowerTask (taskOf file) .actions) k)
-  accepted-actions k e = ap (λ (o : Answer SourceTask). then o (λ t. actionOr k (getElem? (lowerTask t .actions) k))) e

@@ -2,11 +2,11 @@
 -- Assumes nothing.
 use mathlib.Core.Path.{_≡_, refl, sym, ap, _∙_, subst}
 use mathlib.Core.Option.{some}
-use mathlib.Core.List.{List, [], _∷_, _++_}
+use mathlib.Core.List.{List, [], _∷_, _++_, map}
 use Prim.Native.Nat.{ℕ, zero, suc, _+_, _*_, _≤_, _<_}
 use native.Mathlib.Omega.{arith}
 use native.Mathlib.Numerals.{add-one}
-use lib.ListN.{length, drop, getElem?}
+use lib.ListN.{length, drop, getElem?, length-map}
 use lib.Seq.{drop-length}
 use lib.IntN.{ℤ, natAbs}
 use Rattle.integers.specs.All.{All}
@@ -14,12 +14,11 @@ use Rattle.lists.proofs.Each.{length-tabulate}
 use Rattle.model.specs.Tasks.{SourceVariable, SourceAction, RestrictedAction}
 use Rattle.model.specs.Limits.{sourceLimits, restrictedLimits}
 use Rattle.model.specs.TaskOk.{EffectOk, SourceVariableOk, SourceActionOk, SourceTaskOk, RestrictedActionOk}
-use Rattle.model.specs.Decoding.{each, sourceActionOf}
+use Rattle.model.specs.Decoding.{sourceActionOf}
 use Rattle.model.specs.ActionBytes.{actionPart, decodeAction}
 use Rattle.model.specs.Steps.{integerAt, sizesOf, lowerBounds, upperBounds}
 use Rattle.model.specs.Stages.{stagesOf, macro, lowerActions, stageCount}
 use Rattle.model.specs.Lowering.{numberedAll, lowerTask}
-use Rattle.model.proofs.ReadingLaws.{length-each}
 use Rattle.model.proofs.AcceptedOk.{accepted-source-ok}
 use Rattle.model.proofs.LoweredOk.{lowered-task-ok}
 use Rattle.model.proofs.StageWalk.{all-get}
@@ -49,7 +48,7 @@ sound-right : (xs ys : List RestrictedAction) → Sound (xs ++ ys) → Sound ys
 sound-right xs ys s = record { variables = s .variables; sizes = s .sizes; few = s .few; ok = all-right (RestrictedActionOk restrictedLimits (s .variables) (s .sizes)) xs ys (s .ok) }
 
 -- bounds of a file are small
-bounds-small : (f : SourceVariable → ℤ) → ((b : SourceVariable) → SourceVariableOk sourceLimits b → natAbs (f b) ≤ 10000) → (vs : List SourceVariable) (j : ℕ) → All (SourceVariableOk sourceLimits) vs → natAbs (integerAt (each f vs) j) ≤ 10000
+bounds-small : (f : SourceVariable → ℤ) → ((b : SourceVariable) → SourceVariableOk sourceLimits b → natAbs (f b) ≤ 10000) → (vs : List SourceVariable) (j : ℕ) → All (SourceVariableOk sourceLimits) vs → natAbs (integerAt (map f vs) j) ≤ 10000
 bounds-small f h [] j o = omega arith
 bounds-small f h (b ∷ vs) zero (o, os) = h b o
 bounds-small f h (b ∷ vs) (suc j) (o, os) = bounds-small f h vs j os
@@ -75,7 +74,7 @@ module _ {file : List ℕ} {count : ℕ} {h : Shape} (held : Held file count h) 
       record {
         variables = length (lowerTask (taskOf file) .starts);
         sizes = sizesOf (lowerTask (taskOf file) .modes);
-        few = omega (arith, r .modesFew, length-each (λ (m : ℕ × ℕ). m .0) (lowerTask (taskOf file) .modes));
+        few = omega (arith, r .modesFew, length-map (lowerTask (taskOf file) .modes) (λ (m : ℕ × ℕ). m .0));
         ok = r .actionsOk;
       }
 
@@ -95,7 +94,7 @@ module _ {file : List ℕ} {count : ℕ} {h : Shape} (held : Held file count h) 
       bounded = bounded;
       conditionsFew = action-ok .conditionsOk .conditionsFew;
       modeConditionsFew = action-ok .conditionsOk .modeConditionsFew;
-      modeEffectsFew = omega (arith, within .modeEffects .few, length-tabulate (a .«mode_effect_count») (pairAt 0 (a .«mode_effect_modes») (a .«mode_effect_values»)), task-ok .modesFew, length-each (λ (m : ℕ × ℕ). m .0) (taskOf file .modes));
+      modeEffectsFew = omega (arith, within .modeEffects .few, length-tabulate (a .«mode_effect_count») (pairAt 0 (a .«mode_effect_modes») (a .«mode_effect_values»)), task-ok .modesFew, length-map (taskOf file .modes) (λ (m : ℕ × ℕ). m .0));
       effectOk = subst (λ (n : ℕ). EffectOk sourceLimits n (sourceActionIs a .effect)) (sym (held .variablesAre)) (action-ok .effectOk);
     }
 

@@ -2,7 +2,7 @@
 -- Assumes nothing.
 use mathlib.Core.Path.{_≡_}
 use Prim.Native.Nat.{ℕ, _≤_}
-use mathlib.Core.List.{List}
+use mathlib.Core.List.{List, map}
 use lib.ListN.{length, take, drop, getD}
 use Rattle.integers.specs.Numbers.{Bytes}
 use Rattle.lists.specs.Answer.{given}
@@ -10,7 +10,7 @@ use Rattle.model.specs.Tasks.{SourceVariable, SourceTask, RestrictedAction}
 use Rattle.model.specs.Limits.{sourceLimits}
 use Rattle.model.specs.Reading.{commandsOf}
 use Rattle.model.specs.ActionBytes.{edgeOf}
-use Rattle.model.specs.Decoding.{each, draftOf, sourceTaskOf, readSource}
+use Rattle.model.specs.Decoding.{sourceTaskOf, readSource}
 use Rattle.model.specs.Steps.{lowerBounds, upperBounds, sourceStart}
 use Rattle.model.specs.Stages.{lowerActions, stageCount}
 use Rattle.model.specs.Lowering.{numberedAll}
@@ -22,7 +22,7 @@ use Rattle.lowering.specs.declared.Declarations.{Declarations}
 
 -- the task of an accepted file
 abbrev pub taskOf : List ℕ → SourceTask
-taskOf file = sourceTaskOf (draftOf (commandsOf sourceLimits file))
+taskOf file = sourceTaskOf (commandsOf sourceLimits file)
 
 -- the file is accepted, has so many actions, and a task of this shape
 pub record Held (file : List ℕ) (count : ℕ) (h : Shape) : Type 0 where
@@ -31,8 +31,8 @@ pub record Held (file : List ℕ) (count : ℕ) (h : Shape) : Type 0 where
   pub counted : count ≡ length (taskOf file .actions)
   pub variablesAre : h .variables ≡ length (taskOf file .variables)
   pub modesAre : h .modes ≡ length (taskOf file .modes)
-  pub lowersAre : take (h .variables) (h .lower) ≡ each (λ (b : SourceVariable). b .lower) (taskOf file .variables)
-  pub uppersAre : take (h .variables) (h .upper) ≡ each (λ (b : SourceVariable). b .upper) (taskOf file .variables)
+  pub lowersAre : take (h .variables) (h .lower) ≡ map (λ (b : SourceVariable). b .lower) (taskOf file .variables)
+  pub uppersAre : take (h .variables) (h .upper) ≡ map (λ (b : SourceVariable). b .upper) (taskOf file .variables)
 
 -- the same, whatever the shape
 pub record Shaped (file : List ℕ) (count : ℕ) : Type 0 where
@@ -40,8 +40,8 @@ pub record Shaped (file : List ℕ) (count : ℕ) : Type 0 where
   pub held : Held file count shape
 
 -- where its actions begin, and behind them its goal
-abbrev pub Placed : List ℕ → ℕ → List ℕ → Type 0
-Placed file count places = (k : ℕ) → k ≤ count → getD places k 0 ≡ edgeOf file k
+abbrev pub PlacesOf : List ℕ → ℕ → List ℕ → Type 0
+PlacesOf file count places = (k : ℕ) → k ≤ count → getD places k 0 ≡ edgeOf file k
 
 -- besides, the starts and the modes that it declares
 pub record Declares (file : List ℕ) (count : ℕ) (d : Declarations) : Type 0 where

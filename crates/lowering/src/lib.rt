@@ -1,13 +1,8 @@
-// The lowering: from a source file the restricted file, written into lent output, and its actions one by one, by value.
+// The lowering: from a source file the restricted file, written into lent output.
 //
 // A file that is refused has no lowered task. The length of the result is counted before anything is written, so that a refusal leaves the
 // output as it was.
-use actions::ADDITIONS;
-use actions::CONDITIONS;
 use actions::Goal;
-use actions::MODE_CONDITIONS;
-use actions::MODE_EFFECTS;
-use actions::RestrictedAction;
 use actions::SourceAction;
 use lists::Written;
 use source::MODES;
@@ -15,8 +10,8 @@ use source::Shape;
 use source::VARIABLES;
 ghost use mathlib.Core.Path.{_≡_};
 ghost use Prim.Native.Nat.{suc, _+_, _<_, _≤_};
-ghost use lib.ListN.{length, getElem?};
-ghost use Rattle.lists.specs.Each.{flat};
+ghost use lib.ListN.{length};
+ghost use mathlib.Core.List.{flatMap};
 ghost use Rattle.lists.specs.Writing.{Room, Wrote};
 ghost use Rattle.lists.specs.Written.{Lent};
 ghost use Rattle.model.specs.Limits.{sourceLimits};
@@ -27,9 +22,8 @@ ghost use Rattle.actions.specs.Views.{sourceActionIs, fittingSource};
 ghost use Rattle.model.specs.Lowering.{lowerTask, lowerFile};
 ghost use Rattle.model.specs.Judging.{lowerBytes};
 ghost use Rattle.source.specs.Judged.{AcceptedWith};
-ghost use Rattle.writing.specs.Parts.{actionBytes};
-ghost use Rattle.lowering.specs.Held.{taskOf, Held, Shaped, Placed, Declares, GoalOf, stagesOfTask};
-ghost use Rattle.lowering.specs.Lowered.{loweredActionAt, actionOr, answerIs, refusal};
+ghost use Rattle.writing.specs.Parts.{restrictedActionBytes};
+ghost use Rattle.lowering.specs.Held.{taskOf, Held, Shaped, PlacesOf, Declares, GoalOf, stagesOfTask};
 
 // What a file declares, by value.
 struct Declarations {
@@ -44,7 +38,7 @@ const PLACES: usize = 33;
 // Where the actions of an accepted file with so many begin, and behind them its goal.
 fn find_places(file: &[u8], count: usize) -> [usize; PLACES]
     requires { ⌜ AcceptedWith (verdictOf sourceLimits (now file)) count ⌝ }
-    ensures { λ r. ⌜ Placed (now (file .entry)) count r ⌝ }
+    ensures { λ r. ⌜ PlacesOf (now (file .entry)) count r ⌝ }
 {
     let mut places = [0usize; PLACES];
     actions::action_places(file, &mut places);
@@ -53,7 +47,7 @@ fn find_places(file: &[u8], count: usize) -> [usize; PLACES]
 
 // Action k of a file with so many actions, which begin at these places.
 fn decode_action(file: &[u8], places: &[usize; PLACES], count: usize, k: usize) -> SourceAction
-    requires { ⌜ Placed (now file) count (now places) × (k < count) × (count ≤ 32) ⌝ }
+    requires { ⌜ PlacesOf (now file) count (now places) × (k < count) × (count ≤ 32) ⌝ }
     ensures { λ r. ⌜ sourceActionIs r ≡ fittingSource (sourceActionOf (decodeAction (actionPart (now (file .entry)) k))) ⌝ }
 {
     let start = places[k];
@@ -69,8 +63,8 @@ struct Extent {
 }
 
 fn actions_extent(file: &[u8], places: &[usize; PLACES], count: usize) -> Extent
-    requires { ⌜ Shaped (now file) count × Placed (now file) count (now places) ⌝ }
-    ensures { λ r. ⌜ (r .bytes ≡ length (flat actionBytes (lowerTask (taskOf (now (file .entry))) .actions))) × (r .bytes ≤ 400000) × (r .control ≡ suc (stagesOfTask (now (file .entry)))) ⌝ }
+    requires { ⌜ Shaped (now file) count × PlacesOf (now file) count (now places) ⌝ }
+    ensures { λ r. ⌜ (r .bytes ≡ length (flatMap restrictedActionBytes (lowerTask (taskOf (now (file .entry))) .actions))) × (r .bytes ≤ 400000) × (r .control ≡ suc (stagesOfTask (now (file .entry)))) ⌝ }
 {
     let mut bytes: usize = 0;
     let mut from: u16 = 1;
@@ -96,9 +90,9 @@ fn put_actions(
     count: usize,
     shape: Shape,
 ) -> usize
-    requires { ⌜ Held (now file) count shape × Placed (now file) count (now places) ⌝ }
-    requires { ⌜ Room (now out) at (flat actionBytes (lowerTask (taskOf (now file)) .actions)) ⌝ }
-    ensures { λ r. ⌜ Wrote (now (out .entry)) at (flat actionBytes (lowerTask (taskOf (now (file .entry))) .actions)) (now (out .exit)) r ⌝ }
+    requires { ⌜ Held (now file) count shape × PlacesOf (now file) count (now places) ⌝ }
+    requires { ⌜ Room (now out) at (flatMap restrictedActionBytes (lowerTask (taskOf (now file)) .actions)) ⌝ }
+    ensures { λ r. ⌜ Wrote (now (out .entry)) at (flatMap restrictedActionBytes (lowerTask (taskOf (now (file .entry))) .actions)) (now (out .exit)) r ⌝ }
 {
     let mut place = at;
     let mut from: u16 = 1;
@@ -162,7 +156,7 @@ fn put_task(
     goal: Goal,
     control: u16,
 ) -> usize
-    requires { ⌜ Declares (now file) count declared × GoalOf (now file) goal × (control ≡ suc (stagesOfTask (now file))) × Placed (now file) count (now places) ⌝ }
+    requires { ⌜ Declares (now file) count declared × GoalOf (now file) goal × (control ≡ suc (stagesOfTask (now file))) × PlacesOf (now file) count (now places) ⌝ }
     requires { ⌜ Room (now out) 0 (lowerFile (taskOf (now file))) ⌝ }
     ensures { λ r. ⌜ Wrote (now (out .entry)) 0 (lowerFile (taskOf (now (file .entry)))) (now (out .exit)) r ⌝ }
 {
@@ -202,87 +196,5 @@ pub fn lower(file: &[u8], out: &mut [u8]) -> Written
     match tasks::check_source(file) {
         tasks::Verdict::Rejected(number, place) => Written::Refused(number, place),
         tasks::Verdict::Accepted(_, _, actions) => lower_accepted(file, actions as usize, out),
-    }
-}
-
-// Whether an action of the lowered task is given, or what refuses it.
-pub enum LoweredVerdict {
-    Given,
-    Refused(u8, u64),
-}
-
-// With it the action; on a refusal it says nothing.
-pub struct LoweredAnswer {
-    pub verdict: LoweredVerdict,
-    pub action: RestrictedAction,
-}
-
-fn no_action(number: u8, place: u64) -> LoweredAnswer
-    ensures { λ r. ⌜ answerIs r ≡ refusal number place ⌝ }
-{
-    LoweredAnswer {
-        verdict: LoweredVerdict::Refused(number, place),
-        action: RestrictedAction {
-            condition_count: 0,
-            condition_variables: [0; CONDITIONS],
-            condition_relations: [0; CONDITIONS],
-            condition_constants: [0; CONDITIONS],
-            mode_condition_count: 0,
-            mode_condition_modes: [0; MODE_CONDITIONS],
-            mode_condition_values: [0; MODE_CONDITIONS],
-            mode_effect_count: 0,
-            mode_effect_modes: [0; MODE_EFFECTS],
-            mode_effect_values: [0; MODE_EFFECTS],
-            addition_count: 0,
-            addition_variables: [0; ADDITIONS],
-            addition_amounts: [0; ADDITIONS],
-        },
-    }
-}
-
-// Action i of the lowered task of an accepted file with so many actions and a shape.
-fn find_action(
-    file: &[u8],
-    places: &[usize; PLACES],
-    count: usize,
-    shape: Shape,
-    i: usize,
-) -> LoweredAnswer
-    requires { ⌜ Held (now file) count shape × Placed (now file) count (now places) ⌝ }
-    ensures { λ r. ⌜ answerIs r ≡ actionOr i (getElem? (lowerTask (taskOf (now (file .entry))) .actions) i) ⌝ }
-{
-    let mut left = i;
-    let mut from: u16 = 1;
-    let mut k: usize = 0;
-    while k < count {
-        let action = decode_action(file, places, count, k);
-        let stages = macros::stage_count(action);
-        let n = 1 + 3 * stages;
-        if left < n {
-            return LoweredAnswer {
-                verdict: LoweredVerdict::Given,
-                action: macros::macro_action(action, shape, from, left),
-            };
-        }
-        left -= n;
-        from += stages as u16;
-        k += 1;
-    }
-    no_action(11, i as u64)
-}
-
-// Action k of the lowered task, by value: the task's refusals first, then 11 with place k where there is no action k.
-pub fn lowered_action(file: &[u8], k: usize) -> LoweredAnswer
-    ensures { λ r. ⌜ answerIs r ≡ loweredActionAt (now (file .entry)) k ⌝ }
-{
-    match tasks::check_source(file) {
-        tasks::Verdict::Rejected(number, place) => no_action(number, place),
-        tasks::Verdict::Accepted(_, _, actions) => {
-            let count = actions as usize;
-            let declared = read_declarations(file, count);
-            let shape = declared.shape;
-            let places = find_places(file, count);
-            find_action(file, &places, count, shape, k)
-        }
     }
 }

@@ -1,10 +1,9 @@
 -- A macro is its opening or single action, which can be written, and its stages.
 -- Assumes nothing.
 use mathlib.Core.Path.{_≡_, sym, ap, _∙_}
-use mathlib.Core.List.{List, [], _∷_, _++_, append-nil}
+use mathlib.Core.List.{List, [], _∷_, _++_, append-nil, flatMap}
 use Prim.Native.Nat.{ℕ}
-use Rattle.lists.specs.Each.{flat}
-use Rattle.lists.proofs.Each.{flat-cons}
+use Rattle.lists.proofs.Each.{flatMap-cons}
 use Rattle.lists.proofs.Writing.{Left, start}
 use Rattle.model.specs.Tasks.{RestrictedAction}
 use Rattle.model.specs.Limits.{restrictedLimits}
@@ -15,7 +14,7 @@ use Rattle.actions.specs.declared.SourceAction.{SourceAction as DecodedSource}
 use Rattle.actions.specs.Views.{sourceActionIs, restrictedActionIs}
 use Rattle.actions.proofs.Fits.{restricted-within}
 use Rattle.source.specs.declared.Shape.{Shape}
-use Rattle.writing.specs.Parts.{actionBytes, Writable}
+use Rattle.writing.specs.Parts.{restrictedActionBytes, Writable}
 use Rattle.writing.proofs.Sizes.{action-writable}
 use Rattle.macros.specs.Shapes.{lowerOf, upperOf, stagesIn, macroIn}
 use Rattle.macrobytes.specs.Macros.{Sound}
@@ -26,9 +25,9 @@ pub first-writable : (x : RestrictedAction) (xs : List RestrictedAction) (a : De
 first-writable x xs a s e = action-writable (s .variables) (s .sizes) a (s .few) (restricted-within restrictedLimits (s .variables) (s .sizes) a (rw e (s .ok .0)))
 
 -- before anything of it is written
-pub macro-begun : (old : List ℕ) (at : ℕ) (h : Shape) (from : ℕ) (a : DecodedSource) → Left old at (flat actionBytes (macroIn h from a)) old at
-    (actionBytes (numbered (h .variables) (h .modes) (openingAction (lowerOf h) (upperOf h) from (sourceActionIs a))) ∷ stagesBytes (h .variables) (h .modes) from (stagesIn h a) ∷ [])
+pub macro-begun : (old : List ℕ) (at : ℕ) (h : Shape) (from : ℕ) (a : DecodedSource) → Left old at (flatMap restrictedActionBytes (macroIn h from a)) old at
+    (restrictedActionBytes (numbered (h .variables) (h .modes) (openingAction (lowerOf h) (upperOf h) from (sourceActionIs a))) ∷ stagesBytes (h .variables) (h .modes) from (stagesIn h a) ∷ [])
 macro-begun old at h from a =
     let x = numbered (h .variables) (h .modes) (openingAction (lowerOf h) (upperOf h) from (sourceActionIs a)) in
     let rest = numberedAll (h .variables) (h .modes) (stagesActions from (stagesIn h a)) in
-    start old at (flat-cons actionBytes x rest ∙ ap (λ (z : List ℕ). actionBytes x ++ z) (sym (append-nil (flat actionBytes rest))))
+    start old at (flatMap-cons restrictedActionBytes x rest ∙ ap (λ (z : List ℕ). restrictedActionBytes x ++ z) (sym (append-nil (flatMap restrictedActionBytes rest))))

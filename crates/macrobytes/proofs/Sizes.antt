@@ -2,19 +2,18 @@
 -- Assumes nothing.
 use mathlib.Core.Path.{_≡_, refl, ap, _∙_}
 use mathlib.Core.Bool.{false, cond}
-use mathlib.Core.List.{List, [], _∷_, _++_}
+use mathlib.Core.List.{List, [], _∷_, _++_, flatMap}
 use Prim.Native.Nat.{ℕ, zero, suc, _+_, _*_, _≤_, _<_}
 use native.Mathlib.Omega.{arith}
 use lib.Dec.{eqb}
 use lib.ListN.{length, length-append}
 use lib.IntN.{ℤ, pos, negsuc}
 use borrow.Author.Tests.{eq-eqb, ne-eqb}
-use Rattle.lists.specs.Each.{flat}
-use Rattle.lists.proofs.Each.{flat-nil, flat-cons, length-tabulate}
+use Rattle.lists.proofs.Each.{flatMap-nil, flatMap-cons, length-tabulate}
 use Rattle.model.specs.Tasks.{NumericCondition, linearEffect, quotientEffect, residueEffect, SourceAction}
 use Rattle.model.specs.Stages.{Name, NamedAction, Stage, opposite, falling, rising, turn, firstStage, stagesActions, drainTerms, clear, move, helperA, onSourceVariables, stagesOf, addedBound, openingAction}
 use Rattle.model.specs.Lowering.{numberedConditions, numberedAdditions, numbered, numberedAll}
-use Rattle.writing.specs.Parts.{actionBytes}
+use Rattle.writing.specs.Parts.{restrictedActionBytes}
 use Rattle.writing.proofs.Parts.{action-length}
 use Rattle.actions.specs.declared.SourceAction.{SourceAction as DecodedSource}
 use Rattle.actions.specs.Views.{conditionAt, pairAt, sourceActionIs}
@@ -41,7 +40,7 @@ source-long (c ∷ cs) = ap suc (source-long cs)
 
 -- ---- any action
 numbered-long : (n m : ℕ) (a : NamedAction) (k : ℕ) → length {A = ℕ × ℕ} (cond (eqb (a .control) (a .nextControl)) [] ((m, a .nextControl) ∷ [])) ≡ k
-    → length (actionBytes (numbered n m a)) ≡ 5 + 4 * length (a .modeConditions) + 7 * length (a .conditions) + 4 * length (a .modeEffects) + 4 * k + 6 * length (a .additions)
+    → length (restrictedActionBytes (numbered n m a)) ≡ 5 + 4 * length (a .modeConditions) + 7 * length (a .conditions) + 4 * length (a .modeEffects) + 4 * k + 6 * length (a .additions)
 numbered-long n m a k e = omega (
   arith,
   e,
@@ -65,8 +64,8 @@ goes-on s [] h = ne-eqb s 0 (λ e. omega arith)
 goes-on s (d ∷ ds) h = ne-eqb s (suc s) (λ e. omega arith)
 
 module _ (n m : ℕ) where
-  pub stages-long : (s : ℕ) (ds : List Stage) → 0 < s → length (flat actionBytes (numberedAll n m (stagesActions s ds))) ≡ stagesSize ds
-  stages-long s [] h = ap length (flat-nil actionBytes)
+  pub stages-long : (s : ℕ) (ds : List Stage) → 0 < s → length (flatMap restrictedActionBytes (numberedAll n m (stagesActions s ds))) ≡ stagesSize ds
+  stages-long s [] h = ap length (flatMap-nil restrictedActionBytes)
   stages-long s (d ∷ ds) h =
       let next = firstStage (suc s) ds in
       let stay : length {A = ℕ × ℕ} (cond (eqb s s) [] ((m, s) ∷ [])) ≡ 0 = rw (eq-eqb s s refl) in
@@ -75,15 +74,15 @@ module _ (n m : ℕ) where
       let y = numbered n m (rising s d) in
       let z = numbered n m (turn s d next) in
       let rest = numberedAll n m (stagesActions (suc s) ds) in
-      let split : flat actionBytes (x ∷ y ∷ z ∷ rest) ≡ actionBytes x ++ (actionBytes y ++ (actionBytes z ++ flat actionBytes rest)) =
-      flat-cons actionBytes x (y ∷ z ∷ rest)
-      ∙ ap (λ (w : List ℕ). actionBytes x ++ w) (flat-cons actionBytes y (z ∷ rest) ∙ ap (λ (w : List ℕ). actionBytes y ++ w) (flat-cons actionBytes z rest)) in
+      let split : flatMap restrictedActionBytes (x ∷ y ∷ z ∷ rest) ≡ restrictedActionBytes x ++ (restrictedActionBytes y ++ (restrictedActionBytes z ++ flatMap restrictedActionBytes rest)) =
+      flatMap-cons restrictedActionBytes x (y ∷ z ∷ rest)
+      ∙ ap (λ (w : List ℕ). restrictedActionBytes x ++ w) (flatMap-cons restrictedActionBytes y (z ∷ rest) ∙ ap (λ (w : List ℕ). restrictedActionBytes y ++ w) (flatMap-cons restrictedActionBytes z rest)) in
       omega (
         arith,
         ap length split,
-        length-append (actionBytes x) (actionBytes y ++ (actionBytes z ++ flat actionBytes rest)),
-        length-append (actionBytes y) (actionBytes z ++ flat actionBytes rest),
-        length-append (actionBytes z) (flat actionBytes rest),
+        length-append (restrictedActionBytes x) (restrictedActionBytes y ++ (restrictedActionBytes z ++ flatMap restrictedActionBytes rest)),
+        length-append (restrictedActionBytes y) (restrictedActionBytes z ++ flatMap restrictedActionBytes rest),
+        length-append (restrictedActionBytes z) (flatMap restrictedActionBytes rest),
         numbered-long n m (falling s d) 0 stay,
         numbered-long n m (rising s d) 0 stay,
         numbered-long n m (turn s d next) 1 go,
@@ -99,7 +98,7 @@ pub linear-long : (lower upper : ℕ → ℤ) (t : ℕ) (w : ℤ) (ts : List (�
 linear-long lower upper t w ts = drained-long ts (clear t ∷ move t helperA (lower t) (upper t) ∷ [])
 
 -- ---- the opening or single action
-pub opening-long : (n m : ℕ) (lower upper : ℕ → ℤ) (from : ℕ) (a : SourceAction) → length (actionBytes (numbered n m (openingAction lower upper from a)))
+pub opening-long : (n m : ℕ) (lower upper : ℕ → ℤ) (from : ℕ) (a : SourceAction) → length (restrictedActionBytes (numbered n m (openingAction lower upper from a)))
     ≡ 5 + 4 * length (a .modeConditions) + 7 * length (a .conditions) + 4 * length (a .modeEffects) + numericBytes lower upper m from (a .effect)
 opening-long n m lower upper from a = omega (
   arith,
@@ -142,8 +141,8 @@ counts-few a f = (
 )
 
 pub macro-long : (a : DecodedSource) (h : Shape) (from numeric stages : ℕ) → numeric ≡ numericBytes (lowerOf h) (upperOf h) (h .modes) from (sourceActionIs a .effect)
-    → stages ≡ length (flat actionBytes (numberedAll (h .variables) (h .modes) (stagesActions from (stagesIn h a))))
-    → 5 + (4 * a .«mode_condition_count» + 7 * a .«condition_count») + 4 * a .«mode_effect_count» + numeric + stages ≡ length (flat actionBytes (macroIn h from a))
+    → stages ≡ length (flatMap restrictedActionBytes (numberedAll (h .variables) (h .modes) (stagesActions from (stagesIn h a))))
+    → 5 + (4 * a .«mode_condition_count» + 7 * a .«condition_count») + 4 * a .«mode_effect_count» + numeric + stages ≡ length (flatMap restrictedActionBytes (macroIn h from a))
 macro-long a h from numeric stages e f =
     let x = numbered (h .variables) (h .modes) (openingAction (lowerOf h) (upperOf h) from (sourceActionIs a)) in
     let rest = numberedAll (h .variables) (h .modes) (stagesActions from (stagesIn h a)) in
@@ -151,8 +150,8 @@ macro-long a h from numeric stages e f =
       arith,
       e,
       f,
-      ap length (flat-cons actionBytes x rest),
-      length-append (actionBytes x) (flat actionBytes rest),
+      ap length (flatMap-cons restrictedActionBytes x rest),
+      length-append (restrictedActionBytes x) (flatMap restrictedActionBytes rest),
       opening-long (h .variables) (h .modes) (lowerOf h) (upperOf h) from (sourceActionIs a),
       length-tabulate (a .«mode_condition_count») (pairAt 0 (a .«mode_condition_modes») (a .«mode_condition_values»)),
       length-tabulate (a .«condition_count») (conditionAt (a .«condition_variables») (a .«condition_relations») (a .«condition_constants»)),

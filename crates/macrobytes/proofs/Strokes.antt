@@ -2,13 +2,11 @@
 -- Assumes nothing.
 use mathlib.Core.Path.{_≡_, refl, sym, ap}
 use mathlib.Core.Bool.{false}
-use mathlib.Core.List.{List, [], _∷_, _++_}
+use mathlib.Core.List.{List, [], _∷_, _++_, flatMap}
 use Prim.Native.Nat.{ℕ}
 use lib.Dec.{eqb}
 use lib.IntN.{ℤ, pos}
 use Rattle.integers.specs.Numbers.{bytesOf}
-use Rattle.lists.specs.Each as each
-use Rattle.lists.specs.Each.{flat}
 use Rattle.lists.specs.Writing.{Room, Wrote}
 use Rattle.lists.proofs.Writing.{Left, start, room-as, wrote-as}
 use Rattle.commands.specs.Encoding.{encode}
@@ -16,7 +14,7 @@ use Rattle.commands.specs.declared.Command.the-variants.{Action, ModeEffect}
 use Rattle.model.specs.Tasks.{NumericCondition}
 use Rattle.model.specs.Stages.{leftOver, turn}
 use Rattle.model.specs.Lowering.{numberOfName, numbered}
-use Rattle.writing.specs.Parts.{modeConditionBytes, conditionBytes, modeEffectBytes, additionBytes, actionBytes}
+use Rattle.writing.specs.Parts.{modeConditionBytes, conditionBytes, modeEffectBytes, additionBytes, restrictedActionBytes}
 use Rattle.writing.proofs.Parts.{conditions-bytes, additions-bytes}
 use Rattle.macros.specs.declared.Stage.{Stage as StageByValue}
 use Rattle.macros.specs.declared.Stage.the-variants.{Drain, Refill, Divide, EmptyA, EmptyB, Clear, MoveA, MoveB}
@@ -41,27 +39,27 @@ module _ {out : List ℕ} {at : ℕ} (v : ℕ) {x y : ℤ} (e : x ≡ y) where
 
 -- ---- before anything is written
 module _ (old : List ℕ) (at : ℕ) where
-  pub none-begun : {A : Type 0} (f : A → List ℕ) → Left old at (flat f []) old at []
-  unfolding each.flat
+  pub none-begun : {A : Type 0} (f : A → List ℕ) → Left old at (flatMap f []) old at []
+  unfolding flatMap
   none-begun f = start old at refl
 
-  pub one-begun : {A : Type 0} (f : A → List ℕ) (x : A) → Left old at (flat f (x ∷ [])) old at (f x ∷ [])
-  unfolding each.flat
+  pub one-begun : {A : Type 0} (f : A → List ℕ) (x : A) → Left old at (flatMap f (x ∷ [])) old at (f x ∷ [])
+  unfolding flatMap
   one-begun f x = start old at refl
 
-  pub two-begun : {A : Type 0} (f : A → List ℕ) (x y : A) → Left old at (flat f (x ∷ y ∷ [])) old at (f x ∷ f y ∷ [])
-  unfolding each.flat
+  pub two-begun : {A : Type 0} (f : A → List ℕ) (x y : A) → Left old at (flatMap f (x ∷ y ∷ [])) old at (f x ∷ f y ∷ [])
+  unfolding flatMap
   two-begun f x y = start old at refl
 
-  pub three-begun : {A : Type 0} (f : A → List ℕ) (x y z : A) → Left old at (flat f (x ∷ y ∷ z ∷ [])) old at (f x ∷ f y ∷ f z ∷ [])
-  unfolding each.flat
+  pub three-begun : {A : Type 0} (f : A → List ℕ) (x y z : A) → Left old at (flatMap f (x ∷ y ∷ z ∷ [])) old at (f x ∷ f y ∷ f z ∷ [])
+  unfolding flatMap
   three-begun f x y z = start old at refl
 
-  pub stroke-begun : (m s : ℕ) (c : NumericCondition ℕ) (es : List (ℕ × ℤ)) → Left old at (actionBytes (strokeOf m s c es)) old at (bytesOf 1 65 ∷ modeConditionBytes (m, s) ∷ conditionBytes c ∷ flat additionBytes es ∷ [])
+  pub stroke-begun : (m s : ℕ) (c : NumericCondition ℕ) (es : List (ℕ × ℤ)) → Left old at (restrictedActionBytes (strokeOf m s c es)) old at (bytesOf 1 65 ∷ modeConditionBytes (m, s) ∷ conditionBytes c ∷ flatMap additionBytes es ∷ [])
   stroke-begun m s c es = start old at (ap (λ (z : List ℕ). encode Action ++ (modeConditionBytes (m, s) ++ (conditionBytes c ++ z))) (additions-bytes es []))
 
-  pub turn-begun : (m s next counter : ℕ) (most : ℤ) (bounds : List (NumericCondition ℕ)) → Left old at (actionBytes (turnWith m s next counter most bounds)) old at
-      (bytesOf 1 65 ∷ modeConditionBytes (m, s) ∷ conditionBytes (condition counter 2 (pos 0)) ∷ conditionBytes (condition counter 1 most) ∷ flat conditionBytes bounds ∷ modeEffectBytes (m, next) ∷ [])
+  pub turn-begun : (m s next counter : ℕ) (most : ℤ) (bounds : List (NumericCondition ℕ)) → Left old at (restrictedActionBytes (turnWith m s next counter most bounds)) old at
+      (bytesOf 1 65 ∷ modeConditionBytes (m, s) ∷ conditionBytes (condition counter 2 (pos 0)) ∷ conditionBytes (condition counter 1 most) ∷ flatMap conditionBytes bounds ∷ modeEffectBytes (m, next) ∷ [])
   turn-begun m s next counter most bounds =
       start old at
       (ap (λ (z : List ℕ). encode Action ++ (modeConditionBytes (m, s) ++ (conditionBytes (condition counter 2 (pos 0)) ++ (conditionBytes (condition counter 1 most) ++ z)))) (conditions-bytes bounds (ModeEffect m next ∷ [])))

@@ -11,18 +11,17 @@ use macros::Stage;
 use source::Shape;
 ghost use mathlib.Core.Path.{_≡_};
 ghost use mathlib.Core.Bool.{false};
-ghost use mathlib.Core.List.{List};
+ghost use mathlib.Core.List.{List, flatMap};
 ghost use Prim.Native.Nat.{ℕ, _+_, _*_, _<_, _≤_};
 ghost use lib.Dec.{eqb};
 ghost use lib.ListN.{length};
 ghost use lib.IntN.{ℤ, natAbs};
 ghost use Rattle.integers.specs.Relation.{relationNumber, relationOf};
-ghost use Rattle.lists.specs.Each.{flat};
 ghost use Rattle.lists.specs.Writing.{Room, Wrote};
 ghost use Rattle.model.specs.Stages.{stageActions, stagesActions, stagesOf};
 ghost use Rattle.model.specs.Lowering.{numbered, numberedAll};
 ghost use Rattle.actions.specs.Views.{effectIs};
-ghost use Rattle.writing.specs.Parts.{conditionBytes, additionBytes, actionBytes};
+ghost use Rattle.writing.specs.Parts.{conditionBytes, additionBytes, restrictedActionBytes};
 ghost use Rattle.macros.specs.Actions.{condition, strokeOf};
 ghost use Rattle.macros.specs.Shapes.{Lowerable, macroIn};
 ghost use Rattle.macros.specs.Stages.{stageIs, Small, BoundsSmall, additionsIs, stagesWith, StagesSmall};
@@ -50,8 +49,8 @@ fn put_amount(out: &mut [u8], at: usize, variable: u8, amount: i64) -> usize
 // What an action of a stage adds.
 fn put_additions(out: &mut [u8], at: usize, additions: Additions) -> usize
     requires { ⌜ AmountsSmall (additionsIs additions) ⌝ }
-    requires { ⌜ Room (now out) at (flat additionBytes (additionsIs additions)) ⌝ }
-    ensures { λ r. ⌜ Wrote (now (out .entry)) at (flat additionBytes (additionsIs additions)) (now (out .exit)) r ⌝ }
+    requires { ⌜ Room (now out) at (flatMap additionBytes (additionsIs additions)) ⌝ }
+    ensures { λ r. ⌜ Wrote (now (out .entry)) at (flatMap additionBytes (additionsIs additions)) (now (out .exit)) r ⌝ }
 {
     match additions {
         Additions::None => at,
@@ -80,8 +79,8 @@ fn put_stroke(
     additions: Additions,
 ) -> usize
     requires { ⌜ (relationNumber (relationOf relation) ≡ relation) × (natAbs constant ≤ 10000) × AmountsSmall (additionsIs additions) ⌝ }
-    requires { ⌜ Room (now out) at (actionBytes (strokeOf control number (condition counter relation constant) (additionsIs additions))) ⌝ }
-    ensures { λ r. ⌜ Wrote (now (out .entry)) at (actionBytes (strokeOf control number (condition counter relation constant) (additionsIs additions))) (now (out .exit)) r ⌝ }
+    requires { ⌜ Room (now out) at (restrictedActionBytes (strokeOf control number (condition counter relation constant) (additionsIs additions))) ⌝ }
+    ensures { λ r. ⌜ Wrote (now (out .entry)) at (restrictedActionBytes (strokeOf control number (condition counter relation constant) (additionsIs additions))) (now (out .exit)) r ⌝ }
 {
     let first = lists::put8(out, at, b'A');
     let second = writing::put_mode_condition(out, first, control, number);
@@ -92,8 +91,8 @@ fn put_stroke(
 // What the turn of Move asks of the target: its bounds. The other turns ask nothing more.
 fn put_target_bounds(out: &mut [u8], at: usize, stage: Stage) -> usize
     requires { ⌜ Small stage ⌝ }
-    requires { ⌜ Room (now out) at (flat conditionBytes (targetBounds stage)) ⌝ }
-    ensures { λ r. ⌜ Wrote (now (out .entry)) at (flat conditionBytes (targetBounds stage)) (now (out .exit)) r ⌝ }
+    requires { ⌜ Room (now out) at (flatMap conditionBytes (targetBounds stage)) ⌝ }
+    ensures { λ r. ⌜ Wrote (now (out .entry)) at (flatMap conditionBytes (targetBounds stage)) (now (out .exit)) r ⌝ }
 {
     match stage {
         Stage::Drain(_, _) => at,
@@ -125,8 +124,8 @@ fn put_turn(
     stage: Stage,
 ) -> usize
     requires { ⌜ (natAbs most ≤ 10000) × Small stage ⌝ }
-    requires { ⌜ Room (now out) at (actionBytes (turnWith control number next counter most (targetBounds stage))) ⌝ }
-    ensures { λ r. ⌜ Wrote (now (out .entry)) at (actionBytes (turnWith control number next counter most (targetBounds stage))) (now (out .exit)) r ⌝ }
+    requires { ⌜ Room (now out) at (restrictedActionBytes (turnWith control number next counter most (targetBounds stage))) ⌝ }
+    ensures { λ r. ⌜ Wrote (now (out .entry)) at (restrictedActionBytes (turnWith control number next counter most (targetBounds stage))) (now (out .exit)) r ⌝ }
 {
     let first = lists::put8(out, at, b'A');
     let second = writing::put_mode_condition(out, first, control, number);
@@ -147,8 +146,8 @@ fn put_stage(
     next: u16,
 ) -> usize
     requires { ⌜ (a ≤ 8) × Small stage × (eqb number next ≡ false) ⌝ }
-    requires { ⌜ Room (now out) at (flat actionBytes (numberedAll a control (stageActions number (stageIs stage) next))) ⌝ }
-    ensures { λ r. ⌜ Wrote (now (out .entry)) at (flat actionBytes (numberedAll a control (stageActions number (stageIs stage) next))) (now (out .exit)) r ⌝ }
+    requires { ⌜ Room (now out) at (flatMap restrictedActionBytes (numberedAll a control (stageActions number (stageIs stage) next))) ⌝ }
+    ensures { λ r. ⌜ Wrote (now (out .entry)) at (flatMap restrictedActionBytes (numberedAll a control (stageActions number (stageIs stage) next))) (now (out .exit)) r ⌝ }
 {
     let b = a + 1;
     let counter = macros::counter_of(stage, a, b);
@@ -177,8 +176,8 @@ fn put_stages(
 ) -> usize
     requires { ⌜ (k ≤ 4) × StagesSmall effect k terms × BoundsSmall lower upper ⌝ }
     requires { ⌜ (count ≡ length (stagesWith effect k terms lower upper)) × (count ≤ 10) × (a ≤ 8) × (0 < from) × (from ≤ 1000) ⌝ }
-    requires { ⌜ Room (now out) at (flat actionBytes (numberedAll a control (stagesActions from (stagesWith effect k terms lower upper)))) ⌝ }
-    ensures { λ r. ⌜ Wrote (now (out .entry)) at (flat actionBytes (numberedAll a control (stagesActions from (stagesWith effect k terms lower upper)))) (now (out .exit)) r ⌝ }
+    requires { ⌜ Room (now out) at (flatMap restrictedActionBytes (numberedAll a control (stagesActions from (stagesWith effect k terms lower upper)))) ⌝ }
+    ensures { λ r. ⌜ Wrote (now (out .entry)) at (flatMap restrictedActionBytes (numberedAll a control (stagesActions from (stagesWith effect k terms lower upper)))) (now (out .exit)) r ⌝ }
 {
     let mut place = at;
     let mut number = from;
@@ -196,8 +195,8 @@ fn put_stages(
 // What a source action becomes, its stages being numbered from `from`.
 pub fn put_macro(out: &mut [u8], at: usize, action: SourceAction, shape: Shape, from: u16) -> usize
     requires { ⌜ Lowerable shape action × (0 < from) × (from ≤ 1000) × Sound (macroIn shape from action) ⌝ }
-    requires { ⌜ Room (now out) at (flat actionBytes (macroIn shape from action)) ⌝ }
-    ensures { λ r. ⌜ Wrote (now (out .entry)) at (flat actionBytes (macroIn shape from action)) (now (out .exit)) r ⌝ }
+    requires { ⌜ Room (now out) at (flatMap restrictedActionBytes (macroIn shape from action)) ⌝ }
+    ensures { λ r. ⌜ Wrote (now (out .entry)) at (flatMap restrictedActionBytes (macroIn shape from action)) (now (out .exit)) r ⌝ }
 {
     let place = writing::put_action(out, at, macros::opening_action(action, shape, from));
     let effect = action.effect;
@@ -228,7 +227,7 @@ pub fn put_macro(out: &mut [u8], at: usize, action: SourceAction, shape: Shape, 
 fn stages_size(effect: Effect, k: usize) -> usize
     requires { ⌜ k ≤ 4 ⌝ }
     ensures { λ r. ⌜ ((lower upper : ℕ → ℤ) (ts : List (ℕ × ℤ)) (n m from : ℕ) → length ts ≡ k → 0 < from
-        → r ≡ length (flat actionBytes (numberedAll n m (stagesActions from (stagesOf lower upper (effectIs effect ts)))))) × (r ≤ 760) ⌝ }
+        → r ≡ length (flatMap restrictedActionBytes (numberedAll n m (stagesActions from (stagesOf lower upper (effectIs effect ts)))))) × (r ≤ 760) ⌝ }
 {
     match effect {
         Effect::None => 0,
@@ -260,7 +259,7 @@ fn numeric_size(effect: Effect) -> usize
 // How many bytes a source action becomes, in any task and wherever its stages are numbered from.
 pub fn macro_size(action: SourceAction) -> usize
     requires { ⌜ FewParts action ⌝ }
-    ensures { λ r. ⌜ ((h : Shape) (from : ℕ) → 0 < from → r ≡ length (flat actionBytes (macroIn h from action))) × (r ≤ 1000) ⌝ }
+    ensures { λ r. ⌜ ((h : Shape) (from : ℕ) → 0 < from → r ≡ length (flatMap restrictedActionBytes (macroIn h from action))) × (r ≤ 1000) ⌝ }
 {
     let effect = action.effect;
     let k = source::lesser(TERMS, action.term_count);

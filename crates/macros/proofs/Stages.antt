@@ -2,14 +2,12 @@
 -- Assumes nothing.
 use mathlib.Core.Path.{_≡_, refl, sym, ap, _∙_, subst}
 use mathlib.Core.Option.{Option, some}
-use mathlib.Core.List.{List, [], _∷_}
+use mathlib.Core.List.{List, [], _∷_, map}
 use Prim.Native.Nat.{ℕ, zero, suc, min, _+_, _*_, _≤_, _<_}
 use native.Mathlib.Omega.{arith}
-use lib.ListN.{length, getD, getElem?, take, length-take}
+use lib.ListN.{length, getD, getElem?, take, length-take, length-map}
 use lib.Seq.{take-nil}
 use lib.IntN.{ℤ}
-use Rattle.model.specs.Decoding.{each}
-use Rattle.model.proofs.ReadingLaws.{length-each}
 use Rattle.model.specs.Tasks.{linearEffect}
 use Rattle.model.specs.Stages.{Stage, drain, refill, drainTerms, stagesOf}
 use Rattle.model.specs.Limits.{sourceLimits}
@@ -46,7 +44,7 @@ module _ (rest : List Stage) where
 
 -- ---- its terms
 pub terms-length : (k : ℕ) (terms : List Term) → length (termsIs k terms) ≡ min k (length terms)
-terms-length k terms = length-each termIs (take k terms) ∙ length-take k terms
+terms-length k terms = length-map (take k terms) termIs ∙ length-take k terms
 
 pub term-at : (k : ℕ) (terms : List Term) (i : ℕ) (d : ℕ × ℤ) (e : Term) → i < k → i < length terms → getD (termsIs k terms) i d ≡ termIs (getD terms i e)
 term-at k [] i d e h l = absurd (omega arith)
@@ -56,7 +54,7 @@ term-at (suc k) (t ∷ ts) (suc i) d e h l = term-at k ts i d e (omega arith) (o
 
 -- as many as there is room for are all
 pub room-of-terms : (room k r : ℕ) (terms : List Term) → length terms ≡ room → r ≡ min room k → termsIs r terms ≡ termsIs k terms
-room-of-terms room k r terms l e = ap (each termIs) (ap (λ (z : ℕ). take z terms) e ∙ take-room room k terms l)
+room-of-terms room k r terms l e = ap (map termIs) (ap (λ (z : ℕ). take z terms) e ∙ take-room room k terms l)
   where
     take-room : {A : Type 0} (room k : ℕ) (xs : List A) → length xs ≡ room → take (min room k) xs ≡ take k xs
     take-room room k [] l = take-nil (min room k) ∙ sym (take-nil k)

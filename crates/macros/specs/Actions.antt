@@ -2,7 +2,7 @@
 -- Assumes nothing.
 use Prim.Native.Nat.{ℕ}
 use mathlib.Core.List.{List, [], _∷_, _++_}
-use lib.IntN.{ℤ, pos}
+use lib.IntN.{ℤ}
 use Rattle.integers.specs.Relation.{relationOf}
 use Rattle.model.specs.Tasks.{variable, NumericCondition, Effect, SourceAction, RestrictedAction}
 use Rattle.model.specs.Stages.{addedBound, openingAdditions}
@@ -26,15 +26,6 @@ withAddition a e = record { modeConditions = a .modeConditions; conditions = a .
 -- an action of a stage: control, mode m, is at the stage; one condition; additions
 abbrev pub strokeOf : ℕ → ℕ → NumericCondition ℕ → List (ℕ × ℤ) → RestrictedAction
 strokeOf m stage c additions = record { modeConditions = (m, stage) ∷ []; conditions = c ∷ []; modeEffects = []; additions = additions }
-
--- the turn of a stage, from a stage to the next: its counter lies between 0 and what it may leave
-abbrev pub turnOf : ℕ → ℕ → ℕ → ℕ → ℤ → RestrictedAction
-turnOf m stage next counter most = record {
-  modeConditions = (m, stage) ∷ [];
-  conditions = condition counter 2 (pos 0) ∷ condition counter 1 most ∷ [];
-  modeEffects = (m, next) ∷ [];
-  additions = [];
-}
 
 -- of a source action its conditions and mode effects
 abbrev pub sourcePart : SourceAction → RestrictedAction

@@ -10,12 +10,11 @@ use Rattle.model.specs.Stages.{Stage, helperA, helperB, drain, refill, divide, 
 use Rattle.actions.specs.declared.Term.{Term}
 use Rattle.actions.specs.declared.Effect.{Effect}
 use Rattle.actions.specs.declared.Effect.the-variants.{None, Add, Linear, Quotient, Residue}
-use Rattle.actions.specs.Views.{pairsIs, termsIs, effectIs}
+use Rattle.actions.specs.Views.{termsIs, effectIs}
 use Rattle.macros.specs.declared.Stage.{Stage as StageByValue}
 use Rattle.macros.specs.declared.Stage.the-variants.{Drain, Refill, Divide, EmptyA, EmptyB, Clear, MoveA, MoveB}
 use Rattle.macros.specs.declared.Additions.{Additions}
 use Rattle.macros.specs.declared.Additions.the-variants.{None as Nothing, One, Two, Three}
-use Rattle.macros.specs.declared.Laid.{Laid}
 
 abbrev pub stageIs : StageByValue → Stage
 stageIs (Drain t w) = drain t w
@@ -42,15 +41,12 @@ Small (Clear t) = Unit {0}
 Small (MoveA t lower upper) = BoundsSmall lower upper
 Small (MoveB t lower upper) = BoundsSmall lower upper
 
--- what an action of a stage adds; and the same in arrays
+-- what an action of a stage adds
 abbrev pub additionsIs : Additions → List (ℕ × ℤ)
 additionsIs Nothing = []
 additionsIs (One v x) = (v, x) ∷ []
 additionsIs (Two v x w y) = (v, x) ∷ (w, y) ∷ []
 additionsIs (Three v x w y u z) = (v, x) ∷ (w, y) ∷ (u, z) ∷ []
-
-abbrev pub laidIs : Laid → List (ℕ × ℤ)
-laidIs e = pairsIs (pos 0) (e .count) (e .variables) (e .amounts)
 
 -- the stages of each effect that has any, its target's bounds given
 abbrev pub linearStages : ℕ → List (ℕ × ℤ) → ℤ → ℤ → List Stage

@@ -1,35 +1,32 @@
-// What a source action becomes in the restricted task: its opening or single action, and the actions of its stages, each by value.
+// What a source action becomes in the restricted task: its opening or single action by value, and of each of its stages the numbers that its
+// three actions are made of.
 //
-// It knows one source action and the shape of its task, never a file. Its callers say which action of a macro they want, and from which
-// number on its stages are counted.
+// It knows one source action and the shape of its task, never a file. Its callers say which stage they want, and from which number on the
+// stages are counted.
 use actions::ADDITIONS;
-use actions::CONDITIONS;
 use actions::Effect;
-use actions::MODE_CONDITIONS;
-use actions::MODE_EFFECTS;
 use actions::RestrictedAction;
 use actions::SourceAction;
 use actions::TERMS;
 use actions::Term;
 use source::Shape;
 ghost use mathlib.Core.Path.{_≡_};
-ghost use mathlib.Core.List.{[], _∷_};
+ghost use mathlib.Core.List.{[]};
 ghost use Prim.Native.Nat.{ℕ, suc, _+_, _*_, _<_, _≤_};
 ghost use mathlib.Core.Option.{some};
-ghost use lib.ListN.{length, replicate, getElem?};
+ghost use lib.ListN.{length, getElem?};
 ghost use lib.IntN.{ℤ, pos, natAbs, negℤ, _-ℤ_};
 ghost use lib.Signed.{ltZ};
 ghost use Rattle.integers.specs.Division.{unitLess, sign};
 ghost use Rattle.model.specs.Limits.{sourceLimits};
 ghost use Rattle.model.specs.TaskOk.{Factor};
-ghost use lib.Dec.{eqb};
-ghost use mathlib.Core.Bool.{false, cond};
-ghost use Rattle.model.specs.Stages.{leftOver, opposite, falling, rising, turn, stageActions, stagesOf, openingAction};
-ghost use Rattle.model.specs.Lowering.{numberOfName, numberedAdditions, numbered, numberedAll};
+ghost use mathlib.Core.Bool.{cond};
+ghost use Rattle.model.specs.Stages.{leftOver, opposite, stagesOf, openingAction};
+ghost use Rattle.model.specs.Lowering.{numberOfName, numberedAdditions, numbered};
 ghost use Rattle.actions.specs.Views.{effectIs, termsIs, sourceActionIs, restrictedActionIs};
-ghost use Rattle.macros.specs.Actions.{condition, withCondition, withModeCondition, withModeEffect, withAddition, strokeOf, turnOf, sourcePart, withNumeric};
-ghost use Rattle.macros.specs.Shapes.{lowerOf, upperOf, Bounded, Moderate, Lowerable, stagesIn, macroIn, nextNumber};
-ghost use Rattle.macros.specs.Stages.{stageIs, Small, BoundsSmall, additionsIs, laidIs, linearStages, quotientStages, residueStages, WeightsSmall, stagesWith, StagesSmall, targetIs};
+ghost use Rattle.macros.specs.Actions.{condition, withCondition, withModeCondition, withModeEffect, withAddition, sourcePart, withNumeric};
+ghost use Rattle.macros.specs.Shapes.{lowerOf, upperOf, Bounded, Moderate, Lowerable, nextNumber};
+ghost use Rattle.macros.specs.Stages.{stageIs, Small, BoundsSmall, additionsIs, linearStages, quotientStages, residueStages, WeightsSmall, stagesWith, StagesSmall, targetIs};
 
 // A stage of a macro: Drain (variable, weight), Refill (variable), Divide (c), Empty of A or of B, Clear (target), Move from A or from B
 // (target, its bounds).
@@ -50,61 +47,6 @@ pub enum Additions {
     One(u8, i64),
     Two(u8, i64, u8, i64),
     Three(u8, i64, u8, i64, u8, i64),
-}
-
-// The same in arrays: the first `count` of them.
-struct Laid {
-    count: usize,
-    variables: [u8; ADDITIONS],
-    amounts: [i64; ADDITIONS],
-}
-
-// At most three numbers at the front of an array, one function for each type.
-fn variables_of(first: u8, second: u8, third: u8) -> [u8; ADDITIONS]
-    ensures { λ r. ⌜ r ≡ first ∷ second ∷ third ∷ replicate 13 0 ⌝ }
-{
-    let mut variables = [0u8; ADDITIONS];
-    variables[0] = first;
-    variables[1] = second;
-    variables[2] = third;
-    variables
-}
-
-fn amounts_of(first: i64, second: i64, third: i64) -> [i64; ADDITIONS]
-    ensures { λ r. ⌜ r ≡ first ∷ second ∷ third ∷ replicate 13 (pos 0) ⌝ }
-{
-    let mut amounts = [0i64; ADDITIONS];
-    amounts[0] = first;
-    amounts[1] = second;
-    amounts[2] = third;
-    amounts
-}
-
-fn lay_out(additions: Additions) -> Laid
-    ensures { λ r. ⌜ laidIs r ≡ additionsIs additions ⌝ }
-{
-    match additions {
-        Additions::None => Laid {
-            count: 0,
-            variables: variables_of(0, 0, 0),
-            amounts: amounts_of(0, 0, 0),
-        },
-        Additions::One(v, x) => Laid {
-            count: 1,
-            variables: variables_of(v, 0, 0),
-            amounts: amounts_of(x, 0, 0),
-        },
-        Additions::Two(v, x, w, y) => Laid {
-            count: 2,
-            variables: variables_of(v, w, 0),
-            amounts: amounts_of(x, y, 0),
-        },
-        Additions::Three(v, x, w, y, u, z) => Laid {
-            count: 3,
-            variables: variables_of(v, w, u),
-            amounts: amounts_of(x, y, z),
-        },
-    }
 }
 
 // −z.
@@ -262,108 +204,12 @@ fn with_addition(action: RestrictedAction, variable: u8, amount: i64) -> Restric
     more
 }
 
-// An action of a stage with one C and no E: falling or rising.
-fn stroke(
-    counter: u8,
-    relation: u8,
-    constant: i64,
-    control: u8,
-    number: u16,
-    additions: Additions,
-) -> RestrictedAction
-    ensures { λ r. ⌜ restrictedActionIs r ≡ strokeOf control number (condition counter relation constant) (additionsIs additions) ⌝ }
-{
-    let mut condition_variables = [0u8; CONDITIONS];
-    let mut condition_relations = [0u8; CONDITIONS];
-    let mut condition_constants = [0i64; CONDITIONS];
-    let mut mode_condition_modes = [0u8; MODE_CONDITIONS];
-    let mut mode_condition_values = [0u16; MODE_CONDITIONS];
-    condition_variables[0] = counter;
-    condition_relations[0] = relation;
-    condition_constants[0] = constant;
-    mode_condition_modes[0] = control;
-    mode_condition_values[0] = number;
-    let added = lay_out(additions);
-    let addition_variables = added.variables;
-    let addition_amounts = added.amounts;
-    RestrictedAction {
-        condition_count: 1,
-        condition_variables,
-        condition_relations,
-        condition_constants,
-        mode_condition_count: 1,
-        mode_condition_modes,
-        mode_condition_values,
-        mode_effect_count: 0,
-        mode_effect_modes: [0; MODE_EFFECTS],
-        mode_effect_values: [0; MODE_EFFECTS],
-        addition_count: added.count,
-        addition_variables,
-        addition_amounts,
-    }
-}
-
-// Falling, of the stage with a number.
-fn falling_action(stage: Stage, a: u8, b: u8, control: u8, number: u16) -> RestrictedAction
-    requires { ⌜ (b ≡ suc a) × Small stage ⌝ }
-    ensures { λ r. ⌜ restrictedActionIs r ≡ numbered a control (falling number (stageIs stage)) ⌝ }
-{
-    let counter = counter_of(stage, a, b);
-    stroke(counter, 2, unit(stage), control, number, falls(stage, a, b))
-}
-
-// Rising.
-fn rising_action(stage: Stage, a: u8, b: u8, control: u8, number: u16) -> RestrictedAction
-    requires { ⌜ (b ≡ suc a) × Small stage ⌝ }
-    ensures { λ r. ⌜ restrictedActionIs r ≡ numbered a control (rising number (stageIs stage)) ⌝ }
-{
-    let counter = counter_of(stage, a, b);
-    stroke(counter, 1, -1, control, number, rises(stage, a, b))
-}
-
-// The turn of a stage that has no target.
-fn plain_turn(counter: u8, most: i64, control: u8, number: u16, next: u16) -> RestrictedAction
-    ensures { λ r. ⌜ restrictedActionIs r ≡ turnOf control number next counter most ⌝ }
-{
-    let low = stroke(counter, 2, 0, control, number, Additions::None);
-    with_mode_effect(with_condition(low, counter, 1, most), control, next)
-}
-
 // The most that the turn leaves in the counter: 0, in Divide |c| − 1.
 pub fn most_left(stage: Stage) -> i64
     requires { ⌜ Small stage ⌝ }
     ensures { λ r. ⌜ r ≡ pos (leftOver (stageIs stage .kind)) ⌝ }
 {
     unit(stage) - 1
-}
-
-// The turn, which sets the next stage, or 0 in the last; that of Move needs the target within its bounds.
-fn turn_action(stage: Stage, a: u8, b: u8, control: u8, number: u16, next: u16) -> RestrictedAction
-    requires { ⌜ (b ≡ suc a) × Small stage × (eqb number next ≡ false) ⌝ }
-    ensures { λ r. ⌜ restrictedActionIs r ≡ numbered a control (turn number (stageIs stage) next) ⌝ }
-{
-    let counter = counter_of(stage, a, b);
-    let base = plain_turn(counter, most_left(stage), control, number, next);
-    match stage {
-        Stage::Drain(_, _) => base,
-        Stage::Refill(_) => base,
-        Stage::Divide(_) => base,
-        Stage::EmptyA => base,
-        Stage::EmptyB => base,
-        Stage::Clear(_) => base,
-        Stage::MoveA(t, lower, upper) => with_condition(
-            with_condition(base, t, 2, lower),
-            t,
-            1,
-            upper,
-        ),
-        Stage::MoveB(t, lower, upper) => with_condition(
-            with_condition(base, t, 2, lower),
-            t,
-            1,
-            upper,
-        ),
-    }
 }
 
 // Of a source action its conditions and mode effects.
@@ -561,20 +407,6 @@ pub fn target_of(effect: Effect) -> u8
     }
 }
 
-// Stage j of an action.
-fn stage_at(action: SourceAction, shape: Shape, j: usize) -> Stage
-    requires { ⌜ Lowerable shape action × (j < length (stagesIn shape action)) ⌝ }
-    ensures { λ r. ⌜ (getElem? (stagesIn shape action) j ≡ some (stageIs r)) × Small r ⌝ }
-{
-    let effect = action.effect;
-    let k = source::lesser(TERMS, action.term_count);
-    let terms = action.terms;
-    let target = target_of(effect);
-    let lower = lower_of(shape, target);
-    let upper = upper_of(shape, target);
-    stage_with(effect, k, terms, lower, upper, j)
-}
-
 // What the turn of a stage sets control to, so many stages following.
 pub fn next_stage(number: u16, following: usize) -> u16
     requires { ⌜ number ≤ 2000 ⌝ }
@@ -584,40 +416,4 @@ pub fn next_stage(number: u16, following: usize) -> u16
         return 0;
     }
     number + 1
-}
-
-// One of the three actions of a stage: 0 falling, 1 rising, 2 the turn.
-fn stage_action(
-    stage: Stage,
-    shape: Shape,
-    number: u16,
-    following: usize,
-    which: usize,
-) -> RestrictedAction
-    requires { ⌜ Small stage × (shape .variables ≤ 8) × (shape .modes ≤ 4) × (0 < number) × (number ≤ 2000) × (which < 3) ⌝ }
-    ensures { λ r. ⌜ getElem? (numberedAll (shape .variables) (shape .modes) (stageActions number (stageIs stage) (nextNumber number following))) which ≡ some (restrictedActionIs r) ⌝ }
-{
-    let a = shape.variables as u8;
-    let b = a + 1;
-    let control = shape.modes as u8;
-    match which {
-        0 => falling_action(stage, a, b, control, number),
-        1 => rising_action(stage, a, b, control, number),
-        _ => turn_action(stage, a, b, control, number, next_stage(number, following)),
-    }
-}
-
-// Action i of what a source action becomes: its opening or single action, then three actions a stage.
-pub fn macro_action(action: SourceAction, shape: Shape, from: u16, i: usize) -> RestrictedAction
-    requires { ⌜ Lowerable shape action × (0 < from) × (from ≤ 1000) × (i < 1 + 3 * length (stagesIn shape action)) ⌝ }
-    ensures { λ r. ⌜ getElem? (macroIn shape from action) i ≡ some (restrictedActionIs r) ⌝ }
-{
-    if i == 0 {
-        return opening_action(action, shape, from);
-    }
-    let j = (i - 1) / 3;
-    let which = (i - 1) % 3;
-    let stage = stage_at(action, shape, j);
-    let following = stage_count(action) - (j + 1);
-    stage_action(stage, shape, from + j as u16, following, which)
 }

@@ -5,8 +5,8 @@ use Prim.Native.Nat.{ℕ, zero, suc, _+_, _≤_, _<_}
 use native.Mathlib.Omega.{arith}
 use mathlib.Core.Bool.{Bool, false, cond}
 use mathlib.Core.Option.{none, some}
-use mathlib.Core.List.{List, [], _∷_}
-use lib.ListN.{length}
+use mathlib.Core.List.{List, [], _∷_, map}
+use lib.ListN.{length, length-map}
 use lib.Dec.{T, eqb}
 use lib.Signed.{leZ}
 use lib.IntN.{ℤ, pos, negsuc, natAbs}
@@ -19,11 +19,10 @@ use Rattle.model.specs.NamedSystems.{modeEffectOn}
 use Rattle.model.specs.Steps.{integerAt, naturalAt, sizesOf, lowerBounds, upperBounds, sourceStart}
 use Rattle.model.specs.InTask.{Once, EffectIn, ActionIn}
 use Rattle.model.specs.Limits.{Limits, sourceLimits}
-use Rattle.model.specs.Decoding.{each}
 use Rattle.model.specs.TaskOk.{Distinct, keys, ValuesIn, Factor, AmountOk, ModeOk, ConditionIn, ConditionOk, EffectOk, SourceActionOk, SourceVariableOk, SourceTaskOk}
 use Rattle.model.proofs.StageWalk.{all-map}
-use Rattle.model.proofs.AcceptedPairing.{Accepted, EffUpTo}
-use Rattle.model.proofs.ReadingLaws.{length-each, length-keys}
+use Rattle.model.proofs.AcceptedPairing.{Accepted}
+use Rattle.model.proofs.ReadingLaws.{length-keys}
 
 -- ---- numbers that stand apart are named once
 apart-none : (k : ℕ) (es : List (ℕ × ℕ)) → All (λ (j : ℕ). eqb j k ≡ false) (keys es) → modeEffectOn es k ≡ none
@@ -62,17 +61,6 @@ eff-in n (linearEffect t w ts) (h, k, f, (i, a)) = (h, go ts i)
 eff-in n (quotientEffect t y c) (h, k, f) = (h, k)
 eff-in n (residueEffect t y c) (h, k, f) = (h, k)
 
-eff-up : (n : ℕ) (e : Effect) → EffectOk sourceLimits n e → EffUpTo 1_000_000_000 e
-eff-up n noEffect h = tt
-eff-up n (addEffect t c) h = omega (arith, h .1 .1)
-eff-up n (linearEffect t w ts) (h, k, f, (i, a)) = (omega (arith, k), go ts i)
-  where
-    go : (ts : List (ℕ × ℤ)) → All (AmountOk sourceLimits n) ts → All (λ (p : ℕ × ℤ). natAbs (p .1) ≤ 1_000_000_000) ts
-    go [] i = tt
-    go (p ∷ ts) (i, is) = (omega (arith, i .1 .1), go ts is)
-eff-up n (quotientEffect t y c) (h, k, f) = omega (arith, factor-less c f, f .1)
-eff-up n (residueEffect t y c) (h, k, f) = omega (arith, factor-less c f, f .1)
-
 act-in : (n : ℕ) (sizes : List ℕ) (a : SourceAction) → SourceActionOk sourceLimits n sizes a → ActionIn n (length sizes) a
 act-in n sizes a k = record {
   modeConditionsIn = firsts sizes (a .modeConditions) (k .conditionsOk .modeConditionsIn);
@@ -94,12 +82,12 @@ between C a z b h k p q = go z (abs-pn a) (abs-pn b) h k
     go (pos n) e f h k = omega (ints, e, f, h, k, p, q)
     go (negsuc n) e f h k = omega (ints, e, f, h, k, p, q)
 
-pub lower-up : (vs : List SourceVariable) → All (SourceVariableOk sourceLimits) vs → (j : ℕ) → natAbs (integerAt (each (λ (b : SourceVariable). b .lower) vs) j) ≤ 10_000
+pub lower-up : (vs : List SourceVariable) → All (SourceVariableOk sourceLimits) vs → (j : ℕ) → natAbs (integerAt (map (λ (b : SourceVariable). b .lower) vs) j) ≤ 10_000
 lower-up [] h j = omega arith
 lower-up (b ∷ vs) (h, hs) zero = h .0
 lower-up (b ∷ vs) (h, hs) (suc j) = lower-up vs hs j
 
-pub upper-up : (vs : List SourceVariable) → All (SourceVariableOk sourceLimits) vs → (j : ℕ) → natAbs (integerAt (each (λ (b : SourceVariable). b .upper) vs) j) ≤ 10_000
+pub upper-up : (vs : List SourceVariable) → All (SourceVariableOk sourceLimits) vs → (j : ℕ) → natAbs (integerAt (map (λ (b : SourceVariable). b .upper) vs) j) ≤ 10_000
 upper-up [] h j = omega arith
 upper-up (b ∷ vs) (h, hs) zero = h .1
 upper-up (b ∷ vs) (h, hs) (suc j) = upper-up vs hs j
@@ -107,19 +95,14 @@ upper-up (b ∷ vs) (h, hs) (suc j) = upper-up vs hs j
 pub start-in : (b : SourceVariable) → SourceVariableOk sourceLimits b → natAbs (b .start) ≤ 1_000_000_000
 start-in b h = omega (arith, between 10_000 (b .lower) (b .start) (b .upper) (h .2) (h .3) (h .0) (h .1))
 
-start-up : (vs : List SourceVariable) → All (SourceVariableOk sourceLimits) vs → (j : ℕ) → natAbs (integerAt (each (λ (b : SourceVariable). b .start) vs) j) ≤ 1_000_000_000
-start-up [] h j = omega arith
-start-up (b ∷ vs) (h, hs) zero = start-in b h
-start-up (b ∷ vs) (h, hs) (suc j) = start-up vs hs j
-
 start-good : (vs : List SourceVariable) → All (SourceVariableOk sourceLimits) vs → (j : ℕ)
-    → T (leZ (integerAt (each (λ (b : SourceVariable). b .lower) vs) j) (integerAt (each (λ (b : SourceVariable). b .start) vs) j)) × T (leZ (integerAt (each (λ (b : SourceVariable). b .start) vs) j) (integerAt (each (λ (b : SourceVariable). b .upper) vs) j))
+    → T (leZ (integerAt (map (λ (b : SourceVariable). b .lower) vs) j) (integerAt (map (λ (b : SourceVariable). b .start) vs) j)) × T (leZ (integerAt (map (λ (b : SourceVariable). b .start) vs) j) (integerAt (map (λ (b : SourceVariable). b .upper) vs) j))
 start-good [] h j = (tt, tt)
 start-good (b ∷ vs) (h, hs) zero = (h .2, h .3)
 start-good (b ∷ vs) (h, hs) (suc j) = start-good vs hs j
 
-pub modes-below : (l : Limits) (ms : List (ℕ × ℕ)) → All (ModeOk l) ms → (j : ℕ) → j < length (each (λ (m : ℕ × ℕ). m .1) ms)
-    → naturalAt (each (λ (m : ℕ × ℕ). m .1) ms) j < naturalAt (sizesOf ms) j
+pub modes-below : (l : Limits) (ms : List (ℕ × ℕ)) → All (ModeOk l) ms → (j : ℕ) → j < length (map (λ (m : ℕ × ℕ). m .1) ms)
+    → naturalAt (map (λ (m : ℕ × ℕ). m .1) ms) j < naturalAt (sizesOf ms) j
 modes-below l [] h j q = absurd (omega (arith, q))
 modes-below l (m ∷ ms) (h, hs) zero q = h .0
 modes-below l (m ∷ ms) (h, hs) (suc j) q = modes-below l ms hs j (omega (arith, q))
@@ -133,14 +116,12 @@ module _ (t : SourceTask) (S : SourceTaskOk t) where
   accepted = record {
     actionsIn = subst (λ (m : ℕ). All (ActionIn (length (t .variables)) m) (t .actions)) long
         (all-map (SourceActionOk sourceLimits (length (t .variables)) (sizesOf (t .modes))) (ActionIn (length (t .variables)) (length (sizesOf (t .modes)))) (act-in (length (t .variables)) (sizesOf (t .modes))) (t .actions) (S .actionsOk));
-    constants = all-map (SourceActionOk sourceLimits (length (t .variables)) (sizesOf (t .modes))) (λ (a : SourceAction). EffUpTo 1_000_000_000 (a .effect)) (λ a k. eff-up (length (t .variables)) (a .effect) (k .effectOk)) (t .actions) (S .actionsOk);
     sets = all-map (SourceActionOk sourceLimits (length (t .variables)) (sizesOf (t .modes))) (λ (a : SourceAction). ValuesIn (sizesOf (t .modes)) (a .modeEffects)) (λ a k. k .modeEffectsIn) (t .actions) (S .actionsOk);
     sizesLength = long;
     goalModesIn = subst (λ (m : ℕ). All (λ (p : ℕ × ℕ). p .0 < m) (t .goalModes)) long (firsts (sizesOf (t .modes)) (t .goalModes) (S .goal .modeConditionsIn));
     goalConditionsIn = cond-vars (length (t .variables)) (t .goalConditions) (S .goal .conditionsIn);
-    valuesLength = length-each (λ (b : SourceVariable). b .start) (t .variables);
-    modesLength = length-each (λ (m : ℕ × ℕ). m .1) (t .modes);
+    valuesLength = length-map (t .variables) (λ (b : SourceVariable). b .start);
+    modesLength = length-map (t .modes) (λ (m : ℕ × ℕ). m .1);
     good = start-good (t .variables) (S .variablesIn);
     below = modes-below sourceLimits (t .modes) (S .modesIn);
-    starts = start-up (t .variables) (S .variablesIn);
   }

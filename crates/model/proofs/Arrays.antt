@@ -16,7 +16,7 @@ use Rattle.model.specs.Tasks.{Measured, variable, weightedSum, NumericCo
 use Rattle.model.specs.Steps.{measure, conditionsHold, modesHold, integerAt, naturalAt, addAll, setAll}
 use Rattle.integers.specs.Relation.{related}
 use Rattle.model.specs.NamedSystems.{modeEffectOn, orDefault, setModes}
-use Rattle.model.specs.Stages.{Name, source, helperA, helperB, hold, usesLeft}
+use Rattle.model.specs.Stages.{Name, source, helperA, helperB, hold}
 use Rattle.model.specs.Expansion.{sameName, additionTo, addTo, plus, namedValues}
 use Rattle.model.specs.Lowering.{numberOfName, numberedMeasure, numberedConditions, numberedAdditions}
 use Rattle.model.specs.InTask.{NameIn, MeasureIn, Once}
@@ -56,27 +56,18 @@ same→eq (source i) (source j) t = ap source (eqb→eq i j t)
 same→eq (source i) helperA t = absurd t
 same→eq (source i) helperB t = absurd t
 same→eq (source i) (hold j) t = absurd t
-same→eq (source i) (usesLeft j) t = absurd t
 same→eq helperA (source j) t = absurd t
 same→eq helperA helperA t = refl
 same→eq helperA helperB t = absurd t
 same→eq helperA (hold j) t = absurd t
-same→eq helperA (usesLeft j) t = absurd t
 same→eq helperB (source j) t = absurd t
 same→eq helperB helperA t = absurd t
 same→eq helperB helperB t = refl
 same→eq helperB (hold j) t = absurd t
-same→eq helperB (usesLeft j) t = absurd t
 same→eq (hold i) (source j) t = absurd t
 same→eq (hold i) helperA t = absurd t
 same→eq (hold i) helperB t = absurd t
 same→eq (hold i) (hold j) t = ap hold (eqb→eq i j t)
-same→eq (hold i) (usesLeft j) t = absurd t
-same→eq (usesLeft i) (source j) t = absurd t
-same→eq (usesLeft i) helperA t = absurd t
-same→eq (usesLeft i) helperB t = absurd t
-same→eq (usesLeft i) (hold j) t = absurd t
-same→eq (usesLeft i) (usesLeft j) t = ap usesLeft (eqb→eq i j t)
 
 -- each variable is named once
 abbrev pub NamesOnce : List (Name × ℤ) → Type 0
@@ -97,7 +88,6 @@ core-get v a b (source i) h = List·getD-append v (a ∷ b ∷ []) (pos 0) i h
 core-get v a b helperA h = ap (integerAt (v ++ (a ∷ b ∷ []))) (sym (add-zero (length v))) ∙ get-back v (a ∷ b ∷ []) 0 (pos 0)
 core-get v a b helperB h = ap (integerAt (v ++ (a ∷ b ∷ []))) (sym (add-one (length v))) ∙ get-back v (a ∷ b ∷ []) 1 (pos 0)
 core-get v a b (hold j) h = absurd h
-core-get v a b (usesLeft j) h = absurd h
 
 abbrev bumped : Name → ℤ → (Name → ℤ) → Name → ℤ
 bumped w d f x = cond (sameName w x) (f x +ℤ d) (f x)
@@ -111,7 +101,7 @@ core-one v a b (source i) d h = record {
   lengths = length-set v i (integerAt v i +ℤ d);
   is = set-front v (a ∷ b ∷ []) i (integerAt v i +ℤ d) h;
   reads = values-equal (integerAt (set v i (integerAt v i +ℤ d))) a b (bumped (source i) d (namedValues (integerAt v) a b))
-      (λ j. by-place i (λ c k. cond c (integerAt v k +ℤ d) (integerAt v k)) (λ c k. cond c (integerAt v i +ℤ d) (integerAt v k)) refl (λ k. refl) j ∙ sym (get-set v i j (integerAt v i +ℤ d) (pos 0) h)) refl refl (λ j. refl) (λ j. refl);
+      (λ j. by-place i (λ c k. cond c (integerAt v k +ℤ d) (integerAt v k)) (λ c k. cond c (integerAt v i +ℤ d) (integerAt v k)) refl (λ k. refl) j ∙ sym (get-set v i j (integerAt v i +ℤ d) (pos 0) h)) refl refl (λ j. refl);
 }
 core-one v a b helperA d h = record {
   V₀ = v;
@@ -119,7 +109,7 @@ core-one v a b helperA d h = record {
   b = b;
   lengths = refl;
   is = ap (λ (k : ℕ). set (v ++ (a ∷ b ∷ [])) k (a +ℤ d)) (sym (add-zero (length v))) ∙ set-back v (a ∷ b ∷ []) 0 (a +ℤ d);
-  reads = values-equal (integerAt v) (a +ℤ d) b (bumped helperA d (namedValues (integerAt v) a b)) (λ j. refl) refl refl (λ j. refl) (λ j. refl);
+  reads = values-equal (integerAt v) (a +ℤ d) b (bumped helperA d (namedValues (integerAt v) a b)) (λ j. refl) refl refl (λ j. refl);
 }
 core-one v a b helperB d h = record {
   V₀ = v;
@@ -127,10 +117,9 @@ core-one v a b helperB d h = record {
   b = b +ℤ d;
   lengths = refl;
   is = ap (λ (k : ℕ). set (v ++ (a ∷ b ∷ [])) k (b +ℤ d)) (sym (add-one (length v))) ∙ set-back v (a ∷ b ∷ []) 1 (b +ℤ d);
-  reads = values-equal (integerAt v) a (b +ℤ d) (bumped helperB d (namedValues (integerAt v) a b)) (λ j. refl) refl refl (λ j. refl) (λ j. refl);
+  reads = values-equal (integerAt v) a (b +ℤ d) (bumped helperB d (namedValues (integerAt v) a b)) (λ j. refl) refl refl (λ j. refl);
 }
 core-one v a b (hold j) d h = absurd h
-core-one v a b (usesLeft j) d h = absurd h
 
 pub values-laid-get : (n : ℕ) (l : List ℤ) (f : Name → ℤ) (w : Name) → ValuesLaid n l f → NameIn n w → integerAt l (numberOfName n w) ≡ f w
 values-laid-get n l f w L = subst (λ (k : ℕ). NameIn k w → integerAt l (numberOfName k w) ≡ f w) (L .lengths)

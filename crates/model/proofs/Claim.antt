@@ -1,186 +1,230 @@
--- DEMAND 3, the claim of specs/Claim, for every file that the source reader accepts: the pairing of plans as lists, carried to bytes on both
--- sides. R is the task that the restricted reader finds in the lowered file.
+-- DEMAND 3, the claim of specs/Claim, for every file that the source reader accepts: the pairing of plans as lists of numbers, carried to bytes
+-- on both sides. R is the task that the restricted reader finds in the lowered file.
 -- Assumes nothing.
-use mathlib.Core.Path.{_≡_, refl, sym, ap, ap₂, _∙_, subst}
+use mathlib.Core.Path.{_≡_, sym, ap, _∙_, subst}
 use Prim.Native.Nat.{ℕ, suc, _+_, _≤_, _<_}
 use native.Mathlib.Omega.{arith}
-use mathlib.Core.Bool.{true, false}
+use mathlib.Core.Bool.{Bool}
 use mathlib.Core.Option.{Option, some}
-use mathlib.Core.List.{List, [], _∷_, _++_}
-use lib.ListN.{length}
+use mathlib.Core.List.{List, [], _∷_}
+use lib.ListN.{length, length-append}
 use lib.Dec.{T}
+use lib.IntN.{pos}
+use borrow.Author.Tests.{eq-eqb}
 use Rattle.integers.specs.All.{All}
-use Rattle.lists.specs.Answer.{Answer, given, then, lent}
 use Rattle.integers.specs.Numbers.{Bytes}
-use Rattle.model.specs.Systems.{runPlan, totalPrice, guarded}
-use Rattle.model.specs.Walks.{Pairing}
-use Rattle.model.specs.Steps.{conditionsHold, modesHold, integerAt, naturalAt, restrictedStep, soundSource, soundRestricted, sizesOf, lowerBounds, upperBounds, sourceStart, stepSource, sourceGoalHolds, restrictedGoalHolds}
+use Rattle.lists.specs.Answer.{Answer, given, then, lent}
+use Rattle.lists.proofs.Numbers.{halves-numbers}
+use Rattle.model.specs.Systems.{runPlan, totalPrice}
+use Rattle.model.specs.Steps.{conditionsHold, modesHold, integerAt, naturalAt, soundSource, soundRestricted, sizesOf, lowerBounds, upperBounds}
+use Rattle.model.specs.Steps.{sourceStart, restrictedStart, stepSource, stepRestricted, sourceGoalHolds, restrictedGoalHolds}
 use Rattle.model.specs.Tasks.{State, SourceTask, RestrictedTask}
-use Rattle.model.specs.Stages.{opening, sourceNumber, stageCount}
+use Rattle.model.specs.Stages.{stageCount}
 use Rattle.model.specs.Lowering.{helpersAtRest, lowerTask, lowerFile}
-use Rattle.model.specs.Expansion.{stageStepsFrom, priceFrom, expandTask, projectTask}
+use Rattle.model.specs.Expansion.{sourceNumberOf, priceFrom, expandTask, projectTask}
 use Rattle.model.specs.InTask.{SourceGoal, LoweredGoal}
-use Rattle.model.specs.Decoding.{each, readSource, readRestricted}
+use Rattle.model.specs.Decoding.{readSource, readRestricted}
 use Rattle.model.specs.TaskOk.{SourceTaskOk}
-use Rattle.model.specs.Plans.{planBytes, readPlan}
-use Rattle.model.specs.Judging.{judge, judgeSourceTask, judgeRestrictedTask, priceTask, judgeSource, judgeRestricted, pricePlan, lowerBytes, expandBytes, projectBytes}
-use Rattle.model.specs.Claim.{PlansPair, RoundTrip}
+use Rattle.model.specs.Plans.{planBytes, planNumbers, readPlan}
+use Rattle.model.specs.Judging.{judge, judgeSourceTask, judgeRestrictedTask, judgeSource, judgeRestricted}
+use Rattle.model.specs.Judging.{pricePlan, lowerBytes, expandBytes, projectBytes}
+use Rattle.model.specs.Claim.{Pair, PlansPair, RoundTrip}
 use Rattle.model.proofs.StageWalk.{and-intro, and-parts}
-use Rattle.model.proofs.AcceptedPairing.{plans-pair-off-for-accepted}
+use Rattle.model.proofs.LoweredPairing.{PlansPairOff, rest-of-start, plans-pair-off}
 use Rattle.model.proofs.ReadsBack.{reads-back}
 use Rattle.model.proofs.AcceptedSource.{accepted}
-use Rattle.model.proofs.LoweredOk.{lowered-task-ok, lowered-sizes}
+use Rattle.model.proofs.LoweredOk.{lowered-task-ok}
 use Rattle.model.proofs.Answers.{given-injective, then-gives, written-at-the-front}
-use Rattle.model.proofs.JudgedPlans.{judged, judges, run-count, priced, capped, plan-reads-back, plan-read, source-step-counts, restricted-step-counts, keep-few, few-all}
+use Rattle.model.proofs.JudgedPlans.{judged, judges, run-count, priced, capped, plan-reads-back, plan-is-bytes, read-numbers, plan-read}
+use Rattle.model.proofs.JudgedPlans.{source-step-counts, restricted-step-counts, keep-few, few-all}
 use Rattle.model.proofs.AcceptedOk.{accepted-source-ok}
+use Rattle.model.proofs.Figure.{source-run-in-bounds}
+use Rattle.model.proofs.Forced.{at-most-one-action-applies}
+use Rattle.model.proofs.Followed.{expansion-follows}
 
 -- a call's result, written into any output, is handed to the second call, which gives the first plan
-round-trip : (first : Answer (List ℕ)) (second : List ℕ → Answer (List ℕ)) (plan bytes : List ℕ) → first ≡ given bytes → second bytes ≡ given plan → RoundTrip first second plan
-round-trip first second plan bytes e f old n after w out = ap (lent out) (ap second (written-at-the-front old after n bytes (sym (ap (lent old) e) ∙ w)) ∙ f)
+round-trip : (first : Answer (List ℕ)) (second : List ℕ → Answer (List ℕ)) (plan bytes : List ℕ)
+    → first ≡ given bytes → second bytes ≡ given plan → RoundTrip first second plan
+round-trip first second plan bytes e f old n after w out =
+    ap (lent out) (ap second (written-at-the-front old after n bytes (sym (ap (lent old) e) ∙ w)) ∙ f)
 
-pub each-app : (f : ℕ × ℕ → ℕ) (xs ys : List (ℕ × ℕ)) → each f (xs ++ ys) ≡ each f xs ++ each f ys
-each-app f [] ys = refl
-each-app f (x ∷ xs) ys = ap (λ (z : List ℕ). f x ∷ z) (each-app f xs ys)
+zero-plus : (n : ℕ) → 0 + n ≡ n
+zero-plus n = omega arith
 
--- ---- the calls on an accepted source file
-module _ (t : SourceTask) (S : SourceTaskOk t) where
-  abbrev z : ℕ
-  z = suc (stageCount (lowerBounds t) (upperBounds t) (t .actions))
+-- ---- a valid plan by its bytes, of T and of R alike: they are read, the plan runs to y, and the goal holds there
+module _ {X : Type 0} (count : ℕ) (step : X → ℕ → Option X) (goal : X → Bool) (start : X) where
+  record Valid (plan : List ℕ) (y : X) : Type 0 where
+    reads : readPlan plan ≡ given (planNumbers plan)
+    runs : runPlan step (planNumbers plan) start ≡ some y
+    ends : T (goal y)
 
-  abbrev stepR : State → ℕ → Option State
-  stepR = guarded (soundRestricted (sizesOf (t .modes) ++ (z ∷ []))) (restrictedStep (lowerTask t .actions))
+  judged-is-valid : (plan : List ℕ) (n : ℕ) (y : X) → then (readPlan plan) (λ p. judge count step goal 0 p start) ≡ given (n, y) → Valid plan y
+  judged-is-valid plan n y j =
+      let (p, r, j′) = then-gives (readPlan plan) (λ p. judge count step goal 0 p start) (n, y) j in
+      let (run, end, _, _) = judged count step goal p 0 start n y j′ in
+      let q : p ≡ planNumbers plan = read-numbers plan p r in
+      record { reads = r ∙ ap given q; runs = ap (λ (l : List ℕ). runPlan step l start) (sym q) ∙ run; ends = end }
 
-  abbrev price : State → ℕ → ℕ
-  price = priceFrom (t .actions)
+  module _ (few : count ≤ 65_536) (counts : (x : X) (k : ℕ) (y : X) → step x k ≡ some y → k < count) where
+    valid-is-judged : (plan : List ℕ) (y : X) → Valid plan y → judge count step goal 0 (planNumbers plan) start ≡ given (length (planNumbers plan), y)
+    valid-is-judged plan y v =
+        judges count step goal (planNumbers plan) 0 start y (v .runs) (v .ends) (run-count count step goal counts (planNumbers plan) start y (v .runs))
+        ∙ ap (λ (n : ℕ). given (n, y)) (zero-plus (length (planNumbers plan)))
 
-  pairing : Pairing (stepSource t) stepR helpersAtRest (opening (lowerBounds t) (upperBounds t) (t .actions)) (sourceNumber (lowerBounds t) (upperBounds t) (t .actions)) (stageStepsFrom (lowerBounds t) (upperBounds t) (t .actions)) price
-      (sourceStart t) (SourceGoal (t .goalModes) (t .goalConditions)) (LoweredGoal (length (t .modes)) (t .goalModes) (t .goalConditions)) 1_000_000
-  pairing = plans-pair-off-for-accepted (length (t .variables)) (length (t .modes)) (lowerBounds t) (upperBounds t) (t .actions) (sizesOf (t .modes)) (t .goalModes) (t .goalConditions) (sourceStart t) (accepted t S)
+    -- the bytes of a plan that runs
+    written-is-valid : (p : List ℕ) (y : X) → length p ≤ 1_000_000 → runPlan step p start ≡ some y → T (goal y)
+        → (planNumbers (planBytes p) ≡ p) × Valid (planBytes p) y
+    written-is-valid p y short run end =
+        let numbers : All (λ (k : ℕ). k < 65_536) p = few-all count 65_536 few p (run-count count step goal counts p start y run) in
+        let q : planNumbers (planBytes p) ≡ p = halves-numbers p numbers in (
+          q,
+          record { reads = plan-reads-back p numbers short ∙ ap given (sym q); runs = ap (λ (l : List ℕ). runPlan step l start) q ∙ run; ends = end },
+        )
 
-  -- R's judge, on R as it is read
-  judge-R : (q : List ℕ) → judgeRestrictedTask (lowerTask t) q ≡ judge (length (lowerTask t .actions)) stepR (restrictedGoalHolds (lowerTask t)) 0 q (helpersAtRest (sourceStart t))
-  judge-R q = ap₂ (λ (s m : List ℕ). judge (length (lowerTask t .actions)) (guarded (soundRestricted s) (restrictedStep (lowerTask t .actions))) (restrictedGoalHolds (lowerTask t)) 0 q (record { values = lowerTask t .starts; modes = m }))
-      (lowered-sizes t S) (each-app (λ (m : ℕ × ℕ). m .1) (t .modes) ((z, 0) ∷ []))
+-- ---- the calls on an accepted source file, and on the file that it is lowered to
+module _ (t : SourceTask) (S : SourceTaskOk t) (file : List ℕ) (e : readSource file ≡ given t) where
+  abbrev R : RestrictedTask
+  R = lowerTask t
 
+  R-reads : readRestricted (lowerFile t) ≡ given R
+  R-reads = reads-back R (lowered-task-ok t S)
+
+  pairing : PlansPairOff t (t .goalModes) (t .goalConditions)
+  pairing = plans-pair-off t S (t .goalModes) (t .goalConditions) (accepted t S .goalModesIn) (accepted t S .goalConditionsIn)
+
+  abbrev ValidT : List ℕ → State → Type 0
+  ValidT = Valid (length (t .actions)) (stepSource t) (sourceGoalHolds t) (sourceStart t)
+
+  abbrev ValidR : List ℕ → State → Type 0
+  ValidR = Valid (length (R .actions)) (stepRestricted R) (restrictedGoalHolds R) (restrictedStart R)
+
+  few-T : length (t .actions) ≤ 65_536
+  few-T = omega (arith, S .actionsFew)
+
+  few-R : length (R .actions) ≤ 65_536
+  few-R = omega (arith, lowered-task-ok t S .actionsFew)
+
+  counts-T : (x : State) (k : ℕ) (y : State) → stepSource t x k ≡ some y → k < length (t .actions)
+  counts-T = source-step-counts (soundSource (lowerBounds t) (upperBounds t) (sizesOf (t .modes))) (lowerBounds t) (upperBounds t) (t .actions)
+
+  counts-R : (x : State) (k : ℕ) (y : State) → stepRestricted R x k ≡ some y → k < length (R .actions)
+  counts-R = restricted-step-counts (soundRestricted (sizesOf (R .modes))) (R .actions)
+
+  judged-T : (plan : List ℕ) (s : State) → ValidT plan s → judgeSourceTask t (planNumbers plan) ≡ given (length (planNumbers plan), s)
+  judged-T = valid-is-judged (length (t .actions)) (stepSource t) (sourceGoalHolds t) (sourceStart t) few-T counts-T
+
+  judged-R : (restricted : List ℕ) (x : State) → ValidR restricted x
+      → judgeRestrictedTask R (planNumbers restricted) ≡ given (length (planNumbers restricted), x)
+  judged-R = valid-is-judged (length (R .actions)) (stepRestricted R) (restrictedGoalHolds R) (restrictedStart R) few-R counts-R
+
+  valid-T : (plan : List ℕ) (n : ℕ) (s : State) → judgeSource file plan ≡ given (n, s) → ValidT plan s
+  valid-T plan n s j = judged-is-valid (length (t .actions)) (stepSource t) (sourceGoalHolds t) (sourceStart t) plan n s (rw e at j)
+
+  valid-R : (restricted : List ℕ) (n : ℕ) (x : State) → judgeRestricted (lowerFile t) restricted ≡ given (n, x) → ValidR restricted x
+  valid-R restricted n x j =
+      judged-is-valid (length (R .actions)) (stepRestricted R) (restrictedGoalHolds R) (restrictedStart R) restricted n x (rw R-reads at j)
+
+  -- every valid source plan has a price
+  price-is : (plan : List ℕ) (s : State) → ValidT plan s → pricePlan file plan ≡ given (length (expandTask t (planNumbers plan)))
+  price-is plan s v = rw (e, v .reads, judged-T plan s v)
+      (priced (stepSource t) (priceFrom (t .actions)) (planNumbers plan) 0 0 (sourceStart t) s (v .runs)
+      ∙ ap given (zero-plus (totalPrice (stepSource t) (priceFrom (t .actions)) (planNumbers plan) (sourceStart t))
+      ∙ sym (pairing .lengths (planNumbers plan) s (v .runs))))
+
+  -- ---- two valid plans, one the expansion of the other and the other its projection, are a pair
+  module _ (plan restricted : List ℕ) (b : Bytes plan) (c : Bytes restricted) (s : State) (v : ValidT plan s) (w : ValidR restricted (helpersAtRest s))
+      (expanded : expandTask t (planNumbers plan) ≡ planNumbers restricted) (projected : projectTask t (planNumbers restricted) ≡ planNumbers plan) where
+    few : length (planNumbers restricted) ≤ 1_000_000
+    few = plan-read restricted (planNumbers restricted) c (w .reads) .1
+
+    expands : expandBytes file plan ≡ given restricted
+    expands = rw (
+      e,
+      v .reads,
+      judged-T plan s v,
+      capped (stepSource t) (priceFrom (t .actions)) (planNumbers plan) 0 0 (sourceStart t) s (v .runs)
+          (omega (arith, few, ap length expanded, pairing .lengths (planNumbers plan) s (v .runs))),
+    )
+        (ap given (ap planBytes expanded ∙ plan-read restricted (planNumbers restricted) c (w .reads) .0))
+
+    projects : projectBytes file restricted ≡ given plan
+    projects = rw (e, R-reads, w .reads, judged-R restricted (helpersAtRest s) w)
+        (ap given (ap planBytes projected ∙ plan-read plan (planNumbers plan) b (v .reads) .0))
+
+    pair : Pair t R file (lowerFile t) plan restricted
+    pair = let (values, modes, _, _) = source-run-in-bounds t S (planNumbers plan) s (v .runs) in record {
+      planIsBytes = b;
+      restrictedIsBytes = c;
+      steps = length (planNumbers plan);
+      end = s;
+      valid = rw (e, v .reads) (judged-T plan s v);
+      endValues = values;
+      endModes = modes;
+      validInR = rw (R-reads, w .reads) (judged-R restricted (helpersAtRest s) w);
+      price = price-is plan s v ∙ ap (λ (l : List ℕ). given (length l)) expanded;
+      few = few;
+      expands = expands;
+      projects = projects;
+      expandedAndProjected = round-trip (expandBytes file plan) (projectBytes file) plan restricted expands projects;
+      projectedAndExpanded = round-trip (projectBytes file restricted) (expandBytes file) restricted plan projects expands;
+      forced = sym (expansion-follows t S (planNumbers plan) s (v .runs) (omega (arith, few, ap length expanded)) ∙ expanded);
+    }
+
+  -- ---- what the pairing of lists of numbers asks and gives of the goals
   goal-in : (x : State) → T (sourceGoalHolds t x) → SourceGoal (t .goalModes) (t .goalConditions) x
-  goal-in x h = and-parts (modesHold (t .goalModes) (naturalAt (x .modes))) (conditionsHold (t .goalConditions) (integerAt (x .values))) h
+  goal-in x = and-parts (modesHold (t .goalModes) (naturalAt (x .modes))) (conditionsHold (t .goalConditions) (integerAt (x .values)))
 
   goal-out : (x : State) → SourceGoal (t .goalModes) (t .goalConditions) x → T (sourceGoalHolds t x)
-  goal-out x h = and-intro (modesHold (t .goalModes) (naturalAt (x .modes))) (conditionsHold (t .goalConditions) (integerAt (x .values))) (h .0) (h .1)
+  goal-out x (a, b) = and-intro (modesHold (t .goalModes) (naturalAt (x .modes))) (conditionsHold (t .goalConditions) (integerAt (x .values))) a b
 
-  goalR-in : (x : State) → T (restrictedGoalHolds (lowerTask t) x) → LoweredGoal (length (t .modes)) (t .goalModes) (t .goalConditions) x
-  goalR-in x h = and-parts (modesHold (lowerTask t .goalModes) (naturalAt (x .modes))) (conditionsHold (t .goalConditions) (integerAt (x .values))) h
+  goalR-in : (x : State) → T (restrictedGoalHolds R x) → LoweredGoal (length (t .modes)) (t .goalModes) (t .goalConditions) x
+  goalR-in x = and-parts (modesHold (R .goalModes) (naturalAt (x .modes))) (conditionsHold (t .goalConditions) (integerAt (x .values)))
 
-  goalR-out : (x : State) → LoweredGoal (length (t .modes)) (t .goalModes) (t .goalConditions) x → T (restrictedGoalHolds (lowerTask t) x)
-  goalR-out x h = and-intro (modesHold (lowerTask t .goalModes) (naturalAt (x .modes))) (conditionsHold (t .goalConditions) (integerAt (x .values))) (h .0) (h .1)
+  goalR-out : (x : State) → LoweredGoal (length (t .modes)) (t .goalModes) (t .goalConditions) x → T (restrictedGoalHolds R x)
+  goalR-out x (a, b) = and-intro (modesHold (R .goalModes) (naturalAt (x .modes))) (conditionsHold (t .goalConditions) (integerAt (x .values))) a b
 
-  module _ (file : List ℕ) (e : readSource file ≡ given t) where
-    R-reads : readRestricted (lowerFile t) ≡ given (lowerTask t)
-    R-reads = reads-back (lowerTask t) (lowered-task-ok t S)
+  -- a run of R from its start is one from T's start, helpers at rest
+  from-start : (q : List ℕ) → runPlan (stepRestricted R) q (helpersAtRest (sourceStart t)) ≡ runPlan (stepRestricted R) q (restrictedStart R)
+  from-start q = ap (runPlan (stepRestricted R) q) (rest-of-start t S)
 
-    -- what each call comes to, for plans p of T and q of R by their bytes
-    judge-is : (plan p : List ℕ) → readPlan plan ≡ given p → judgeSource file plan ≡ judgeSourceTask t p
-    judge-is plan p r = ap (λ (a : Answer SourceTask). then a (λ t. then (readPlan plan) (judgeSourceTask t))) e ∙ ap (λ (a : Answer (List ℕ)). then a (judgeSourceTask t)) r
+  forth : (plan : List ℕ) → Bytes plan → (n : ℕ) (s : State) → judgeSource file plan ≡ given (n, s)
+      → length (expandTask t (planNumbers plan)) ≤ 1_000_000 → (restricted : List ℕ) × Pair t R file (lowerFile t) plan restricted
+  forth plan b n s j short =
+      let v : ValidT plan s = valid-T plan n s j in
+      let p : List ℕ = planNumbers plan in
+      let q : List ℕ = expandTask t p in
+      let (run, end, kept, _) = pairing .forth p s (v .runs) (goal-in s (v .ends)) short in
+      let (same, w) = written-is-valid (length (R .actions)) (stepRestricted R) (restrictedGoalHolds R) (restrictedStart R) few-R counts-R q (helpersAtRest s)
+      short (sym (from-start q) ∙ run) (goalR-out (helpersAtRest s) end) in
+      (planBytes q, pair plan (planBytes q) b (plan-is-bytes q) s v w (sym same) (ap (projectTask t) same ∙ kept))
 
-    judgeR-is : (plan q : List ℕ) → readPlan plan ≡ given q → judgeRestricted (lowerFile t) plan ≡ judgeRestrictedTask (lowerTask t) q
-    judgeR-is plan q r = ap (λ (a : Answer RestrictedTask). then a (λ r. then (readPlan plan) (judgeRestrictedTask r))) R-reads ∙ ap (λ (a : Answer (List ℕ)). then a (judgeRestrictedTask (lowerTask t))) r
+  back : (restricted : List ℕ) → Bytes restricted → (n : ℕ) (x : State) → judgeRestricted (lowerFile t) restricted ≡ given (n, x)
+      → (plan : List ℕ) × Pair t R file (lowerFile t) plan restricted
+  back restricted c n x j =
+      let w : ValidR restricted x = valid-R restricted n x j in
+      let q : List ℕ = planNumbers restricted in
+      let p : List ℕ = projectTask t q in
+      let short : length q ≤ 1_000_000 = plan-read restricted q c (w .reads) .1 in
+      let (s, run, end, is, made, _) = pairing .back q x (from-start q ∙ w .runs) (goalR-in x (w .ends)) short in
+      let (same, v) = written-is-valid (length (t .actions)) (stepSource t) (sourceGoalHolds t) (sourceStart t) few-T counts-T p s
+      (omega (arith, short, keep-few (sourceNumberOf t) q)) run (goal-out s end) in
+      (planBytes p, pair (planBytes p) restricted (plan-is-bytes p) c s v (subst (ValidR restricted) is w) (ap (expandTask t) same ∙ made) (sym same))
 
-    price-is : (plan p : List ℕ) (v : ℕ × State) → readPlan plan ≡ given p → judgeSourceTask t p ≡ given v → pricePlan file plan ≡ priceTask t false p
-    price-is plan p v r j = ap (λ (a : Answer SourceTask). then a (λ t. then (readPlan plan) (λ p. then (judgeSourceTask t p) (λ v. priceTask t false p)))) e
-        ∙ ap (λ (a : Answer (List ℕ)). then a (λ p. then (judgeSourceTask t p) (λ v. priceTask t false p))) r
-        ∙ ap (λ (a : Answer (ℕ × State)). then a (λ v. priceTask t false p)) j
-
-    expand-is : (plan p : List ℕ) (v : ℕ × State) (c : ℕ) → readPlan plan ≡ given p → judgeSourceTask t p ≡ given v → priceTask t true p ≡ given c → expandBytes file plan ≡ given (planBytes (expandTask t p))
-    expand-is plan p v c r j w = ap (λ (a : Answer SourceTask). then a (λ t. then (readPlan plan) (λ p. then (judgeSourceTask t p) (λ v. then (priceTask t true p) (λ c. given (planBytes (expandTask t p))))))) e
-        ∙ ap (λ (a : Answer (List ℕ)). then a (λ p. then (judgeSourceTask t p) (λ v. then (priceTask t true p) (λ c. given (planBytes (expandTask t p)))))) r
-        ∙ ap (λ (a : Answer (ℕ × State)). then a (λ v. then (priceTask t true p) (λ c. given (planBytes (expandTask t p))))) j
-        ∙ ap (λ (a : Answer ℕ). then a (λ c. given (planBytes (expandTask t p)))) w
-
-    project-is : (plan q : List ℕ) (v : ℕ × State) → readPlan plan ≡ given q → judgeRestrictedTask (lowerTask t) q ≡ given v → projectBytes file plan ≡ given (planBytes (projectTask t q))
-    project-is plan q v r j = ap (λ (a : Answer SourceTask). then a (λ t. then (readRestricted (lowerFile t)) (λ r. then (readPlan plan) (λ q. then (judgeRestrictedTask r q) (λ v. given (planBytes (projectTask t q))))))) e
-        ∙ ap (λ (a : Answer RestrictedTask). then a (λ r. then (readPlan plan) (λ q. then (judgeRestrictedTask r q) (λ v. given (planBytes (projectTask t q)))))) R-reads
-        ∙ ap (λ (a : Answer (List ℕ)). then a (λ q. then (judgeRestrictedTask (lowerTask t) q) (λ v. given (planBytes (projectTask t q))))) r
-        ∙ ap (λ (a : Answer (ℕ × State)). then a (λ v. given (planBytes (projectTask t q)))) j
-
-    few-R : (q : List ℕ) (y : State) → runPlan stepR q (helpersAtRest (sourceStart t)) ≡ some y → All (λ (k : ℕ). k < length (lowerTask t .actions)) q
-    few-R q y r = run-count (length (lowerTask t .actions)) stepR (restrictedGoalHolds (lowerTask t)) (restricted-step-counts (soundRestricted (sizesOf (t .modes) ++ (z ∷ []))) (lowerTask t .actions)) q (helpersAtRest (sourceStart t)) y r
-
-    few-T : (p : List ℕ) (y : State) → runPlan (stepSource t) p (sourceStart t) ≡ some y → All (λ (k : ℕ). k < length (t .actions)) p
-    few-T p y r = run-count (length (t .actions)) (stepSource t) (sourceGoalHolds t) (source-step-counts (soundSource (lowerBounds t) (upperBounds t) (sizesOf (t .modes))) (lowerBounds t) (upperBounds t) (t .actions)) p (sourceStart t) y r
-
-    zero-plus : (n : ℕ) → 0 + n ≡ n
-    zero-plus n = omega arith
-
-    forth : (plan : List ℕ) → Bytes plan → (n : ℕ) (s : State) → judgeSource file plan ≡ given (n, s) → (c : ℕ) → pricePlan file plan ≡ given c → c ≤ 1_000_000
-        → (restricted : List ℕ) × (expandBytes file plan ≡ given restricted) × (judgeRestricted (lowerFile t) restricted ≡ given (c, helpersAtRest s)) × (projectBytes file restricted ≡ given plan) × RoundTrip (expandBytes file plan) (projectBytes file) plan
-    forth plan b n s j c w few =
-        let (p, r, j′) = then-gives (readPlan plan) (judgeSourceTask t) (n, s) (sym (ap (λ (a : Answer SourceTask). then a (λ t. then (readPlan plan) (judgeSourceTask t))) e) ∙ j) in
-        go p r j′ (judged (length (t .actions)) (stepSource t) (sourceGoalHolds t) p 0 (sourceStart t) n s j′)
-      where
-        go : (p : List ℕ) → readPlan plan ≡ given p → judgeSourceTask t p ≡ given (n, s)
-            → (runPlan (stepSource t) p (sourceStart t) ≡ some s) × T (sourceGoalHolds t s) × (n ≡ 0 + length p) × All (λ (k : ℕ). k < length (t .actions)) p
-            → (restricted : List ℕ) × (expandBytes file plan ≡ given restricted) × (judgeRestricted (lowerFile t) restricted ≡ given (c, helpersAtRest s)) × (projectBytes file restricted ≡ given plan) × RoundTrip (expandBytes file plan) (projectBytes file) plan
-        go p r j′ (run₁, g, len, nums) =
-            let cost : 0 + totalPrice (stepSource t) price p (sourceStart t) ≡ c = given-injective (sym (priced (stepSource t) price p 0 0 (sourceStart t) s run₁) ∙ sym (price-is plan p (n, s) r j′) ∙ w) in
-            let size : length (expandTask t p) ≡ c = pairing .lengths p s run₁ ∙ sym (zero-plus (totalPrice (stepSource t) price p (sourceStart t))) ∙ cost in
-            let (run₂, g₂, kept, _) = pairing .forth p s run₁ (goal-in s g) (omega (arith, size, few)) in
-            let nums₂ : All (λ (k : ℕ). k < length (lowerTask t .actions)) (expandTask t p) = few-R (expandTask t p) (helpersAtRest s) run₂ in
-            let r₂ : readPlan (planBytes (expandTask t p)) ≡ given (expandTask t p)
-            = plan-reads-back (expandTask t p) (few-all (length (lowerTask t .actions)) 65_536 (omega (arith, lowered-task-ok t S .actionsFew)) (expandTask t p) nums₂) (omega (arith, size, few)) in
-            let j₂ : judgeRestrictedTask (lowerTask t) (expandTask t p) ≡ given (0 + length (expandTask t p), helpersAtRest s)
-            = judge-R (expandTask t p) ∙ judges (length (lowerTask t .actions)) stepR (restrictedGoalHolds (lowerTask t)) (expandTask t p) 0 (helpersAtRest (sourceStart t)) (helpersAtRest s) run₂ (goalR-out (helpersAtRest s) g₂) nums₂ in
-            let x : expandBytes file plan ≡ given (planBytes (expandTask t p))
-            = expand-is plan p (n, s) (0 + totalPrice (stepSource t) price p (sourceStart t)) r j′ (capped (stepSource t) price p 0 0 (sourceStart t) s run₁ (omega (arith, cost, few))) in
-            let k : projectBytes file (planBytes (expandTask t p)) ≡ given plan
-            = project-is (planBytes (expandTask t p)) (expandTask t p) (0 + length (expandTask t p), helpersAtRest s) r₂ j₂ ∙ ap given (ap planBytes kept ∙ plan-read plan p b r .0) in (
-              planBytes (expandTask t p),
-              x,
-              judgeR-is (planBytes (expandTask t p)) (expandTask t p) r₂ ∙ j₂ ∙ ap (λ (k : ℕ). given (k, helpersAtRest s)) (zero-plus (length (expandTask t p)) ∙ size),
-              k,
-              round-trip (expandBytes file plan) (projectBytes file) plan (planBytes (expandTask t p)) x k,
-            )
-
-    back : (restricted : List ℕ) → Bytes restricted → (c : ℕ) (x : State) → judgeRestricted (lowerFile t) restricted ≡ given (c, x)
-        → (plan : List ℕ) × (n : ℕ) × (s : State) × (projectBytes file restricted ≡ given plan) × (judgeSource file plan ≡ given (n, s)) × (x ≡ helpersAtRest s) × (pricePlan file plan ≡ given c) × (c ≤ 1_000_000)
-        × (expandBytes file plan ≡ given restricted) × RoundTrip (projectBytes file restricted) (expandBytes file) restricted
-    back restricted b c x j =
-        let (q, r, j′) = then-gives (readPlan restricted) (judgeRestrictedTask (lowerTask t)) (c, x) (sym (ap (λ (a : Answer RestrictedTask). then a (λ r. then (readPlan restricted) (judgeRestrictedTask r))) R-reads) ∙ j) in
-        go q r j′ (judged (length (lowerTask t .actions)) stepR (restrictedGoalHolds (lowerTask t)) q 0 (helpersAtRest (sourceStart t)) c x (sym (judge-R q) ∙ j′))
-      where
-        go : (q : List ℕ) → readPlan restricted ≡ given q → judgeRestrictedTask (lowerTask t) q ≡ given (c, x)
-            → (runPlan stepR q (helpersAtRest (sourceStart t)) ≡ some x) × T (restrictedGoalHolds (lowerTask t) x) × (c ≡ 0 + length q) × All (λ (k : ℕ). k < length (lowerTask t .actions)) q
-            → (plan : List ℕ) × (n : ℕ) × (s : State) × (projectBytes file restricted ≡ given plan) × (judgeSource file plan ≡ given (n, s)) × (x ≡ helpersAtRest s) × (pricePlan file plan ≡ given c) × (c ≤ 1_000_000)
-            × (expandBytes file plan ≡ given restricted) × RoundTrip (projectBytes file restricted) (expandBytes file) restricted
-        go q r j′ (run₁, g, len, nums) =
-            let (same, short) = plan-read restricted q b r in
-            let (s, run₂, g₂, is, ex, _) = pairing .back q x run₁ (goalR-in x g) short in
-            let nums₂ : All (λ (k : ℕ). k < length (t .actions)) (projectTask t q) = few-T (projectTask t q) s run₂ in
-            let r₂ : readPlan (planBytes (projectTask t q)) ≡ given (projectTask t q)
-            = plan-reads-back (projectTask t q) (few-all (length (t .actions)) 65_536 (omega (arith, S .actionsFew)) (projectTask t q) nums₂) (omega (arith, short, keep-few (sourceNumber (lowerBounds t) (upperBounds t) (t .actions)) q)) in
-            let j₂ : judgeSourceTask t (projectTask t q) ≡ given (0 + length (projectTask t q), s)
-            = judges (length (t .actions)) (stepSource t) (sourceGoalHolds t) (projectTask t q) 0 (sourceStart t) s run₂ (goal-out s g₂) nums₂ in
-            let size : 0 + totalPrice (stepSource t) price (projectTask t q) (sourceStart t) ≡ c
-            = zero-plus (totalPrice (stepSource t) price (projectTask t q) (sourceStart t)) ∙ sym (pairing .lengths (projectTask t q) s run₂) ∙ ap length ex ∙ sym (zero-plus (length q)) ∙ sym len in
-            let k : projectBytes file restricted ≡ given (planBytes (projectTask t q)) = project-is restricted q (c, x) r j′ in
-            let y : expandBytes file (planBytes (projectTask t q)) ≡ given restricted
-            = expand-is (planBytes (projectTask t q)) (projectTask t q) (0 + length (projectTask t q), s) (0 + totalPrice (stepSource t) price (projectTask t q) (sourceStart t)) r₂ j₂
-            (capped (stepSource t) price (projectTask t q) 0 0 (sourceStart t) s run₂ (omega (arith, size, len, short))) ∙ ap given (ap planBytes ex ∙ same) in (
-              planBytes (projectTask t q),
-              0 + length (projectTask t q),
-              s,
-              k,
-              judge-is (planBytes (projectTask t q)) (projectTask t q) r₂ ∙ j₂,
-              is,
-              price-is (planBytes (projectTask t q)) (projectTask t q) (0 + length (projectTask t q), s) r₂ j₂ ∙ priced (stepSource t) price (projectTask t q) 0 0 (sourceStart t) s run₂ ∙ ap given size,
-              omega (arith, len, short),
-              y,
-              round-trip (projectBytes file restricted) (expandBytes file) restricted (planBytes (projectTask t q)) k y,
-            )
+  claim : PlansPair file (lowerFile t)
+  claim = record {
+    task = t;
+    reads = e;
+    lowering = R;
+    readsLowered = R-reads;
+    variables = length-append (sourceStart t .values) (pos 0 ∷ pos 0 ∷ []) ∙ ap (λ (n : ℕ). n + 2) (accepted t S .valuesLength);
+    modes = length-append (t .modes) ((suc (stageCount (lowerBounds t) (upperBounds t) (t .actions)), 0) ∷ []);
+    oneApplies = λ x busy. at-most-one-action-applies t x (λ z. subst T (sym (eq-eqb (naturalAt (x .modes) (length (t .modes))) 0 z) ∙ busy) tt);
+    priced = λ plan n s j. price-is plan s (valid-T plan n s j);
+    forth = forth;
+    back = back;
+  }
 
 pub plans-pair : (file lowered : List ℕ) → lowerBytes file ≡ given lowered → PlansPair file lowered
 plans-pair file lowered l =
     let (t, e, w) = then-gives (readSource file) (λ t. given (lowerFile t)) lowered l in
-    go t e (accepted-source-ok file t e) (given-injective w)
-  where
-    go : (t : SourceTask) → readSource file ≡ given t → SourceTaskOk t → lowerFile t ≡ lowered → PlansPair file lowered
-    go t e S w = subst (PlansPair file) w (record { reads = (lowerTask t, reads-back (lowerTask t) (lowered-task-ok t S)); forth = forth t S file e; back = back t S file e })
+    subst (PlansPair file) (given-injective w) (claim t (accepted-source-ok file t e) file e)

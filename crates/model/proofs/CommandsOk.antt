@@ -5,7 +5,7 @@ use mathlib.Core.Path.{_≡_, refl, sym, ap, _∙_}
 use Prim.Native.Nat.{ℕ, suc, _+_, _≤_, _<_}
 use native.Mathlib.Omega.{arith}
 use mathlib.Core.Bool.{Bool, true, false, cond}
-use mathlib.Core.List.{List, []}
+use mathlib.Core.List.{List, [], _∷_}
 use lib.ListN.{length, length-set, getD, set}
 use lib.Dec.{eqb, leb}
 use lib.IntN.{ℤ, natAbs}
@@ -17,19 +17,19 @@ use Rattle.model.specs.Steps.{naturalAt}
 use Rattle.model.specs.Limits.{Limits}
 use Rattle.model.specs.ReadingState.{ReadingState, opened, withNumericEffect}
 use Rattle.model.specs.Rules.{testsOf, nextOf, constant, outside, noVariable, noMode, notBelowSize}
-use Rattle.model.specs.Decoding.{Part, emptyPart, inFront}
+use Rattle.model.specs.Decoding.{conditionsOf, modeConditionsOf, modeEffectsOf, additionsOf, termsOf, effectOf}
 use Rattle.model.specs.TaskOk.{Distinct, keys, ValuesIn, InRange, Factor, AmountOk, ConditionOk, ConditionsOk, TermsOk, EffectOk}
 use Rattle.model.proofs.ReadingLaws.{clash, over, up-to, not-zero, Off, Core, Free, unset}
 
--- an action of a draft, in a task with n variables and modes of the sizes: the effect is read of it in a source file, the additions in a restricted one
-pub record PartOk (l : Limits) (n : ℕ) (sizes : List ℕ) (a : Part) : Type 0 where
-  pub conditionsOk : ConditionsOk l n sizes (a .modeConditions) (a .conditions)
-  pub modeEffectsIn : ValuesIn sizes (a .modeEffects)
-  pub modeEffectsOnce : Distinct (keys (a .modeEffects))
-  pub effectOk : EffectOk l n (a .effect)
-  pub additionsIn : All (AmountOk l n) (a .additions)
-  pub additionsFew : l .restricted ≡ true → length (a .additions) ≤ l .additions
-  pub additionsOnce : l .restricted ≡ true → Distinct (keys (a .additions))
+-- the commands of an action, in a task with n variables and modes of the sizes: the effect is read of it in a source file, the additions in a restricted one
+pub record PartOk (l : Limits) (n : ℕ) (sizes : List ℕ) (a : List Command) : Type 0 where
+  pub conditionsOk : ConditionsOk l n sizes (modeConditionsOf a) (conditionsOf a)
+  pub modeEffectsIn : ValuesIn sizes (modeEffectsOf a)
+  pub modeEffectsOnce : Distinct (keys (modeEffectsOf a))
+  pub effectOk : EffectOk l n (effectOf a)
+  pub additionsIn : All (AmountOk l n) (additionsOf a)
+  pub additionsFew : l .restricted ≡ true → length (additionsOf a) ≤ l .additions
+  pub additionsOnce : l .restricted ≡ true → Distinct (keys (additionsOf a))
 
 -- a test that is made in restricted files only
 where-restricted : (r x y : Bool) → cond r x y ≡ false → r ≡ true → x ≡ false
@@ -62,9 +62,9 @@ module _ (l : Limits) (n : ℕ) (sizes : List ℕ) where
     pub additionsOnce : l .restricted ≡ true → Distinct (keys adds)
     pub additionsFree : l .restricted ≡ true → Free seen (keys adds)
 
-  abbrev pub PartFrom : ReadingState → Part → Type 0
-  PartFrom p a = ModeConditionsFrom (p .modeConditions) (a .modeConditions) × ConditionsFrom (p .conditions) (a .conditions) × ModeEffectsFrom (p .modesSet) (a .modeEffects)
-      × NumericFrom (p .numericEffects) (p .terms) (p .variablesSeen) (a .effect) (a .terms) (a .additions)
+  abbrev pub PartFrom : ReadingState → List Command → Type 0
+  PartFrom p a = ModeConditionsFrom (p .counts .modeConditions) (modeConditionsOf a) × ConditionsFrom (p .counts .conditions) (conditionsOf a) × ModeEffectsFrom (p .marks .modesSet) (modeEffectsOf a)
+      × NumericFrom (p .counts .numericEffects) (p .terms) (p .marks .variablesSeen) (effectOf a) (termsOf a) (additionsOf a)
 
   -- ---- what holds of every state from the first A or G on
   pub record NumericCounted (effects terms : ℕ) : Type 0 where
@@ -75,11 +75,11 @@ module _ (l : Limits) (n : ℕ) (sizes : List ℕ) where
   pub record Counted (p : ReadingState) : Type 0 where
     pub core : Core n sizes p
     pub actions : p .actions ≤ l .actions
-    pub modeConditions : p .modeConditions ≤ l .modeConditions
-    pub conditions : p .conditions ≤ l .conditions
-    pub numeric : NumericCounted (p .numericEffects) (p .terms)
-    pub modeMarks : length (p .modesSet) ≡ 8
-    pub variableMarks : length (p .variablesSeen) ≡ 64
+    pub modeConditions : p .counts .modeConditions ≤ l .modeConditions
+    pub conditions : p .counts .conditions ≤ l .conditions
+    pub numeric : NumericCounted (p .counts .numericEffects) (p .terms)
+    pub modeMarks : length (p .marks .modesSet) ≡ 8
+    pub variableMarks : length (p .marks .variablesSeen) ≡ 64
 
   pub opened-counted : (p : ReadingState) (s a : ℕ) → Core n sizes p → a ≤ l .actions → Counted (opened p s a)
   opened-counted p s a c h = record {
@@ -92,7 +92,7 @@ module _ (l : Limits) (n : ℕ) (sizes : List ℕ) where
     variableMarks = refl;
   }
 
-  pub nothing-follows : (p : ReadingState) → Counted p → PartFrom p emptyPart
+  pub nothing-follows : (p : ReadingState) → Counted p → PartFrom p []
   nothing-follows p i = (
     (omega (arith, i .modeConditions), tt),
     (omega (arith, i .conditions), tt),
@@ -110,10 +110,10 @@ module _ (l : Limits) (n : ℕ) (sizes : List ℕ) where
     },
   )
 
-  pub conditions-whole : (p : ReadingState) (s k : ℕ) (a : Part) → PartFrom (opened p s k) a → ConditionsOk l n sizes (a .modeConditions) (a .conditions)
+  pub conditions-whole : (p : ReadingState) (s k : ℕ) (a : List Command) → PartFrom (opened p s k) a → ConditionsOk l n sizes (modeConditionsOf a) (conditionsOf a)
   conditions-whole p s k a (ps, cs, es, nu) = record { modeConditionsFew = omega (arith, ps .0); modeConditionsIn = ps .1; conditionsFew = omega (arith, cs .0); conditionsIn = cs .1 }
 
-  pub part-whole : (p : ReadingState) (s k : ℕ) (a : Part) → PartFrom (opened p s k) a → PartOk l n sizes a
+  pub part-whole : (p : ReadingState) (s k : ℕ) (a : List Command) → PartFrom (opened p s k) a → PartOk l n sizes a
   part-whole p s k a f = let (ps, cs, es, nu) = f in record {
     conditionsOk = conditions-whole p s k a f;
     modeEffectsIn = es .0;
@@ -126,10 +126,10 @@ module _ (l : Limits) (n : ℕ) (sizes : List ℕ) where
 
   -- ---- references and constants that pass their tests
   variable-there : (p : ReadingState) (v : ℕ) → Counted p → noVariable p v ≡ false → v < n
-  variable-there p v i e = omega (arith, over (p .variables) v e, i .core .variables)
+  variable-there p v i e = omega (arith, over (p .declared .variables) v e, i .core .variables)
 
   value-there : (p : ReadingState) (m x : ℕ) → Counted p → noMode p m ≡ false → notBelowSize p m x ≡ false → (m < length sizes) × (x < naturalAt sizes m)
-  value-there p m x i e f = (omega (arith, over (p .modes) m e, i .core .mods), omega (arith, over (naturalAt (p .sizes) m) x f, i .core .sized m))
+  value-there p m x i e f = (omega (arith, over (p .declared .modes) m e, i .core .mods), omega (arith, over (naturalAt (p .declared .sizes) m) x f, i .core .sized m))
 
   constant-in : (k : ℕ) → outside l (constant k) ≡ false → InRange l (constant k)
   constant-in k e = up-to (l .constant) (natAbs (constant k)) e
@@ -156,7 +156,7 @@ module _ (l : Limits) (n : ℕ) (sizes : List ℕ) where
 
   -- ---- one command of an action or the goal: the state after it, and what stands from it on. There are marks for 8 modes and 64 variables
   abbrev pub Carries : ReadingState → Command → Type 0
-  Carries p c = Counted (nextOf p c) × ((a : Part) → PartFrom (nextOf p c) a → PartFrom p (inFront c a))
+  Carries p c = Counted (nextOf p c) × ((a : List Command) → PartFrom (nextOf p c) a → PartFrom p (c ∷ a))
 
   pub condition-carries : (p : ReadingState) (v r k : ℕ) → Counted p → Off (testsOf l p (Condition v r k)) → Carries p (Condition v r k)
   unfolding testsOf nextOf
@@ -165,7 +165,7 @@ module _ (l : Limits) (n : ℕ) (sizes : List ℕ) where
       core = i .core;
       actions = i .actions;
       modeConditions = i .modeConditions;
-      conditions = omega (arith, over (l .conditions) (p .conditions) a);
+      conditions = omega (arith, over (l .conditions) (p .counts .conditions) a);
       numeric = counted-shut (i .numeric);
       modeMarks = i .modeMarks;
       variableMarks = i .variableMarks;
@@ -179,7 +179,7 @@ module _ (l : Limits) (n : ℕ) (sizes : List ℕ) where
     record {
       core = i .core;
       actions = i .actions;
-      modeConditions = omega (arith, over (l .modeConditions) (p .modeConditions) a);
+      modeConditions = omega (arith, over (l .modeConditions) (p .counts .modeConditions) a);
       conditions = i .conditions;
       numeric = counted-shut (i .numeric);
       modeMarks = i .modeMarks;
@@ -197,13 +197,13 @@ module _ (l : Limits) (n : ℕ) (sizes : List ℕ) where
       modeConditions = i .modeConditions;
       conditions = i .conditions;
       numeric = counted-shut (i .numeric);
-      modeMarks = length-set (p .modesSet) m 1 ∙ i .modeMarks;
+      modeMarks = length-set (p .marks .modesSet) m 1 ∙ i .modeMarks;
       variableMarks = i .variableMarks;
     },
     λ y R. let (ps, cs, es, nu) = R in
         let v : (m < length sizes) × (x < naturalAt sizes m) = value-there p m x i b c in
-        let u : Free (p .modesSet) (keys (y .modeEffects)) × All (λ (j : ℕ). eqb j m ≡ false) (keys (y .modeEffects)) = unset (p .modesSet) m (omega (arith, v .0, m-few, i .modeMarks)) (keys (y .modeEffects)) (es .2) in
-        (ps, cs, ((v, es .0), (u .1, es .1), (unmarked (getD (p .modesSet) m 0) a, u .0)), shut (i .numeric) nu),
+        let u : Free (p .marks .modesSet) (keys (modeEffectsOf y)) × All (λ (j : ℕ). eqb j m ≡ false) (keys (modeEffectsOf y)) = unset (p .marks .modesSet) m (omega (arith, v .0, m-few, i .modeMarks)) (keys (modeEffectsOf y)) (es .2) in
+        (ps, cs, ((v, es .0), (u .1, es .1), (unmarked (getD (p .marks .modesSet) m 0) a, u .0)), shut (i .numeric) nu),
   )
 
   pub add-carries : n ≤ 64 → (p : ReadingState) (v k : ℕ) → Counted p → Off (testsOf l p (Add v k)) → Carries p (Add v k)
@@ -216,30 +216,30 @@ module _ (l : Limits) (n : ℕ) (sizes : List ℕ) where
       conditions = i .conditions;
       numeric = record { termsFew = omega arith; termsAfter = λ h. absurd (omega (arith, h)); additionsFew = λ r. omega (arith, room r) };
       modeMarks = i .modeMarks;
-      variableMarks = length-set (p .variablesSeen) v 1 ∙ i .variableMarks;
+      variableMarks = length-set (p .marks .variablesSeen) v 1 ∙ i .variableMarks;
     },
     λ y R. let (ps, cs, es, nu) = R in
         let there : v < n = variable-there p v i b in
-        let free : (ks : List ℕ) → Free (set (p .variablesSeen) v 1) ks → Free (p .variablesSeen) ks × All (λ (j : ℕ). eqb j v ≡ false) ks = unset (p .variablesSeen) v (omega (arith, there, n-few, i .variableMarks)) in (
+        let free : (ks : List ℕ) → Free (set (p .marks .variablesSeen) v 1) ks → Free (p .marks .variablesSeen) ks × All (λ (j : ℕ). eqb j v ≡ false) ks = unset (p .marks .variablesSeen) v (omega (arith, there, n-few, i .variableMarks)) in (
           ps,
           cs,
           es,
           record {
             effectOk = (there, factor k z e);
             termsOk = nu .termsOk;
-            termsFree = free (keys (y .terms)) (nu .termsFree) .0;
+            termsFree = free (keys (termsOf y)) (nu .termsFree) .0;
             termsShut = λ h q. nu .termsShut (omega arith) refl;
             termsFew = λ h. omega (arith, i .numeric .termsFew, ap length (nu .termsShut (omega arith) refl));
             additionsIn = ((there, factor k z e), nu .additionsIn);
             additionsFew = λ r. omega (arith, nu .additionsFew r);
-            additionsOnce = λ r. (free (keys (y .additions)) (nu .additionsFree r) .1, nu .additionsOnce r);
-            additionsFree = λ r. (unmarked (getD (p .variablesSeen) v 0) (where-restricted (l .restricted) (leb 1 (getD (p .variablesSeen) v 0)) (leb 1 (p .numericEffects)) a r), free (keys (y .additions)) (nu .additionsFree r) .0);
+            additionsOnce = λ r. (free (keys (additionsOf y)) (nu .additionsFree r) .1, nu .additionsOnce r);
+            additionsFree = λ r. (unmarked (getD (p .marks .variablesSeen) v 0) (where-restricted (l .restricted) (leb 1 (getD (p .marks .variablesSeen) v 0)) (leb 1 (p .counts .numericEffects)) a r), free (keys (additionsOf y)) (nu .additionsFree r) .0);
           },
         ),
   )
     where
-      room : l .restricted ≡ true → p .numericEffects < l .additions
-      room r = over (l .additions) (p .numericEffects) (where-restricted (l .restricted) (leb (l .additions) (p .numericEffects)) false f r)
+      room : l .restricted ≡ true → p .counts .numericEffects < l .additions
+      room r = over (l .additions) (p .counts .numericEffects) (where-restricted (l .restricted) (leb (l .additions) (p .counts .numericEffects)) false f r)
 
   pub term-carries : n ≤ 64 → (p : ReadingState) (v k : ℕ) → Counted p → 1 ≤ p .terms → Off (testsOf l p (Term v k)) → Carries p (Term v k)
   unfolding testsOf nextOf
@@ -251,24 +251,24 @@ module _ (l : Limits) (n : ℕ) (sizes : List ℕ) where
       conditions = i .conditions;
       numeric = record { termsFew = omega (arith, up-to (l .terms) (p .terms) f); termsAfter = λ h. i .numeric .termsAfter o; additionsFew = i .numeric .additionsFew };
       modeMarks = i .modeMarks;
-      variableMarks = length-set (p .variablesSeen) v 1 ∙ i .variableMarks;
+      variableMarks = length-set (p .marks .variablesSeen) v 1 ∙ i .variableMarks;
     },
     λ y R. let (ps, cs, es, nu) = R in
         let there : v < n = variable-there p v i b in
-        let free : (ks : List ℕ) → Free (set (p .variablesSeen) v 1) ks → Free (p .variablesSeen) ks × All (λ (j : ℕ). eqb j v ≡ false) ks = unset (p .variablesSeen) v (omega (arith, there, n-few, i .variableMarks)) in (
+        let free : (ks : List ℕ) → Free (set (p .marks .variablesSeen) v 1) ks → Free (p .marks .variablesSeen) ks × All (λ (j : ℕ). eqb j v ≡ false) ks = unset (p .marks .variablesSeen) v (omega (arith, there, n-few, i .variableMarks)) in (
           ps,
           cs,
           es,
           record {
             effectOk = nu .effectOk;
-            termsOk = (((there, factor k z e), nu .termsOk .0), (free (keys (y .terms)) (nu .termsFree) .1, nu .termsOk .1));
-            termsFree = (unmarked (getD (p .variablesSeen) v 0) a, free (keys (y .terms)) (nu .termsFree) .0);
+            termsOk = (((there, factor k z e), nu .termsOk .0), (free (keys (termsOf y)) (nu .termsFree) .1, nu .termsOk .1));
+            termsFree = (unmarked (getD (p .marks .variablesSeen) v 0) a, free (keys (termsOf y)) (nu .termsFree) .0);
             termsShut = λ h q. absurd (omega (arith, o, q));
             termsFew = λ h. omega (arith, nu .termsFew (omega arith));
             additionsIn = nu .additionsIn;
             additionsFew = nu .additionsFew;
             additionsOnce = nu .additionsOnce;
-            additionsFree = λ r. free (keys (y .additions)) (nu .additionsFree r) .0;
+            additionsFree = λ r. free (keys (additionsOf y)) (nu .additionsFree r) .0;
           },
         ),
   )
@@ -285,14 +285,14 @@ module _ (l : Limits) (n : ℕ) (sizes : List ℕ) where
     variableMarks = i .variableMarks;
   }
 
-  numeric-from : (p : ReadingState) (terms : ℕ) {e f : Effect} {ts adds : List (ℕ × ℤ)} → Counted p → leb 1 (p .numericEffects) ≡ false → EffectOk l n f
-      → NumericFrom (p .numericEffects + 1) terms (p .variablesSeen) e ts adds → NumericFrom (p .numericEffects) (p .terms) (p .variablesSeen) f ts adds
+  numeric-from : (p : ReadingState) (terms : ℕ) {e f : Effect} {ts adds : List (ℕ × ℤ)} → Counted p → leb 1 (p .counts .numericEffects) ≡ false → EffectOk l n f
+      → NumericFrom (p .counts .numericEffects + 1) terms (p .marks .variablesSeen) e ts adds → NumericFrom (p .counts .numericEffects) (p .terms) (p .marks .variablesSeen) f ts adds
   numeric-from p terms i a ok nu = record {
     effectOk = ok;
     termsOk = nu .termsOk;
     termsFree = nu .termsFree;
-    termsShut = λ h q. absurd (omega (arith, h, over 1 (p .numericEffects) a));
-    termsFew = λ h. absurd (omega (arith, i .numeric .termsAfter h, over 1 (p .numericEffects) a));
+    termsShut = λ h q. absurd (omega (arith, h, over 1 (p .counts .numericEffects) a));
+    termsFew = λ h. absurd (omega (arith, i .numeric .termsAfter h, over 1 (p .counts .numericEffects) a));
     additionsIn = nu .additionsIn;
     additionsFew = λ r. omega (arith, nu .additionsFew r);
     additionsOnce = nu .additionsOnce;

@@ -1,179 +1,136 @@
 -- In the file of a well-formed restricted task the bytes of action k are those of its encoding.
 -- Assumes nothing.
-use mathlib.Core.Path.{_≡_, refl, ap, _∙_}
+use mathlib.Core.Path.{_≡_, refl, ap, _∙_, subst}
+use mathlib.Core.Bool.{Bool, false}
 use Prim.Native.Nat.{ℕ, zero, suc, _+_}
 use native.Mathlib.Omega.{arith}
 use mathlib.Core.Option.{some, Option·none-ne-some}
-use lib.IntN.{ℤ}
-use mathlib.Core.List.{List, [], _∷_, _++_}
+use mathlib.Core.List.{List, [], _∷_, _++_, map}
 use lib.ListN.{length, getElem?}
 use Rattle.integers.specs.All.{All}
-use Rattle.integers.specs.Numbers.{bitsOf}
 use Rattle.commands.specs.declared.Command.{Command}
-use Rattle.commands.specs.declared.Command.the-variants.{Start, Mode, Action, Condition, ModeCondition, ModeEffect, Add, Goal, End}
+use Rattle.commands.specs.declared.Command.the-variants.{Action, Goal, End}
 use Rattle.commands.specs.Encoding.{Fits, encode, encodeAll}
-use Rattle.integers.specs.Relation.{relationNumber}
-use Rattle.model.specs.Tasks.{NumericCondition, RestrictedAction, RestrictedTask}
+use Rattle.model.specs.Tasks.{RestrictedAction, RestrictedTask}
 use Rattle.model.specs.Limits.{restrictedLimits}
 use Rattle.model.specs.ReadingState.{begin}
-use Rattle.model.specs.Decoding.{blank, before, beforeAll}
-use Rattle.model.specs.Lowering.{startCommands, modeCommands, modeConditionCommands, conditionCommands, modeEffectCommands, additionCommands, actionCommands, actionsCommands, fileCommands, encodeFile, variableOf}
+use Rattle.model.specs.Decoding.{isEdge, actionsOf}
+use Rattle.model.specs.Lowering.{startCommand, modeCommand, modeConditionCommand, conditionCommand, modeEffectCommand, additionCommand}
+use Rattle.model.specs.Lowering.{modeCommands, modeConditionCommands, conditionCommands, modeEffectCommands, additionCommands, actionCommands}
+use Rattle.model.specs.Lowering.{actionsCommands, fileCommands, encodeFile}
 use Rattle.model.specs.TaskOk.{RestrictedTaskOk}
 use Rattle.model.specs.ActionBytes.{actionPart}
 use Rattle.model.proofs.Pairing.{some-injective}
+use Rattle.model.proofs.CommandFacts.{no-edge-byte}
 use Rattle.model.proofs.TrailOfTask.{trail}
-use Rattle.model.proofs.ReadsBack.{file-ok}
-use Rattle.model.proofs.ActionsAndGoal.{GoalIn, goal-in}
-use Rattle.model.proofs.ActionBytes.{edgesC, upTo, At, other, find, first-body, part-of}
+use Rattle.model.proofs.ReadsBack.{file-ok, bodyOf, body-ends, acts-end}
+use Rattle.model.proofs.ActionsAndGoal.{ifT, NoEdge, GoalIn, goal-in}
+use Rattle.model.proofs.ActionBytes.{edgesC, At, other, behind, find, first-body, part-of}
 
 abbrev Has : ℕ → ℕ → ℕ → List Command → List Command → Type 0
 Has k at d cs b = (A : At k at d cs) × (A .body ≡ b)
 
-skip : (c : Command) (cs : List Command) (k at d : ℕ) (b : List Command) → edgesC at (c ∷ cs) ≡ edgesC (at + length (encode c)) cs → before c (beforeAll cs blank) .actions ≡ beforeAll cs blank .actions
+skip : (c : Command) (cs : List Command) (k at d : ℕ) (b : List Command) → edgesC at (c ∷ cs) ≡ edgesC (at + length (encode c)) cs
+    → actionsOf (c ∷ cs) ≡ actionsOf cs
     → Has k (at + length (encode c)) d cs b → Has k at d (c ∷ cs) b
 unfolding other
 skip c cs k at d b e f (A, q) = (other c cs k at d e f A, q)
 
-module _ (k d : ℕ) (b : List Command) (more : List Command) (ready : (at : ℕ) → Has k at d more b) where
-  skip-starts : (zs : List ℤ) (at : ℕ) → Has k at d (startCommands zs more) b
-  skip-starts [] at = ready at
-  skip-starts (z ∷ zs) at = skip (Start (bitsOf 4 z)) (startCommands zs more) k at d b refl refl (skip-starts zs (at + 5))
+-- ---- past a run of commands that are no A and no G
+module _ {A : Type 0} (f : A → Command) (plain : (x : A) → isEdge (f x) ≡ false) where
+  skip-run : (k d : ℕ) (b more : List Command) → ((at : ℕ) → Has k at d more b) → (xs : List A) (at : ℕ) → Has k at d (map f xs ++ more) b
+  skip-run k d b more ready [] at = ready at
+  skip-run k d b more ready (x ∷ xs) at =
+      let (g, a) = no-edge-byte (f x) (plain x) in
+      skip (f x) (map f xs ++ more) k at d b (rw (g, a) refl) (rw a refl) (skip-run k d b more ready xs (at + length (encode (f x))))
 
-  skip-modes : (ms : List (ℕ × ℕ)) (at : ℕ) → Has k at d (modeCommands ms more) b
-  skip-modes [] at = ready at
-  skip-modes (m ∷ ms) at = skip (Mode (m .0) (m .1)) (modeCommands ms more) k at d b refl refl (skip-modes ms (at + 5))
+  goal-past : (xs : List A) (more : List Command) → GoalIn (map f xs ++ more) → GoalIn more
+  goal-past [] more g = g
+  goal-past (x ∷ xs) more g =
+      goal-past xs more (subst (λ (b : Bool). ifT b (NoEdge (map f xs ++ more)) (GoalIn (map f xs ++ more))) (no-edge-byte (f x) (plain x) .0) g)
 
-  skip-places : (ps : List (ℕ × ℕ)) (at : ℕ) → Has k at d (modeConditionCommands ps more) b
-  skip-places [] at = ready at
-  skip-places (m ∷ ps) at = skip (ModeCondition (m .0) (m .1)) (modeConditionCommands ps more) k at d b refl refl (skip-places ps (at + 4))
+  fits-past : (xs : List A) (more : List Command) → All Fits (map f xs ++ more) → All Fits more
+  fits-past [] more o = o
+  fits-past (x ∷ xs) more (o, os) = fits-past xs more os
 
-  skip-effects : (ps : List (ℕ × ℕ)) (at : ℕ) → Has k at d (modeEffectCommands ps more) b
-  skip-effects [] at = ready at
-  skip-effects (m ∷ ps) at = skip (ModeEffect (m .0) (m .1)) (modeEffectCommands ps more) k at d b refl refl (skip-effects ps (at + 4))
+-- ---- past the commands behind an A
+module _ (x : RestrictedAction) (more : List Command) where
+  abbrev adds : List Command
+  adds = additionCommands (x .additions) more
 
-  skip-compares : (cs : List (NumericCondition ℕ)) (at : ℕ) → Has k at d (conditionCommands cs more) b
-  skip-compares [] at = ready at
-  skip-compares (c ∷ cs) at = skip (Condition (variableOf (c .measured)) (relationNumber (c .relation)) (bitsOf 4 (c .constant))) (conditionCommands cs more) k at d b refl refl (skip-compares cs (at + 7))
+  abbrev effects : List Command
+  effects = modeEffectCommands (x .modeEffects) adds
 
-  skip-adds : (es : List (ℕ × ℤ)) (at : ℕ) → Has k at d (additionCommands es more) b
-  skip-adds [] at = ready at
-  skip-adds (e ∷ es) at = skip (Add (e .0) (bitsOf 4 (e .1))) (additionCommands es more) k at d b refl refl (skip-adds es (at + 6))
+  abbrev conditions : List Command
+  conditions = conditionCommands (x .conditions) effects
+
+  skip-body : (k d : ℕ) (b : List Command) → ((at : ℕ) → Has k at d more b) → (at : ℕ) → Has k at d (bodyOf x more) b
+  skip-body k d b ready =
+      skip-run modeConditionCommand (λ e. refl) k d b conditions
+      (skip-run conditionCommand (λ e. refl) k d b effects
+      (skip-run modeEffectCommand (λ e. refl) k d b adds
+      (skip-run additionCommand (λ e. refl) k d b more ready (x .additions)) (x .modeEffects)) (x .conditions)) (x .modeConditions)
+
+  goal-past-body : GoalIn (bodyOf x more) → GoalIn more
+  goal-past-body g =
+      goal-past additionCommand (λ e. refl) (x .additions) more
+      (goal-past modeEffectCommand (λ e. refl) (x .modeEffects) adds
+      (goal-past conditionCommand (λ e. refl) (x .conditions) effects
+      (goal-past modeConditionCommand (λ e. refl) (x .modeConditions) conditions g)))
+
+  fits-past-body : All Fits (bodyOf x more) → All Fits more
+  fits-past-body o =
+      fits-past additionCommand (λ e. refl) (x .additions) more
+      (fits-past modeEffectCommand (λ e. refl) (x .modeEffects) adds
+      (fits-past conditionCommand (λ e. refl) (x .conditions) effects
+      (fits-past modeConditionCommand (λ e. refl) (x .modeConditions) conditions o)))
 
 -- one action further on
 later : (k at d : ℕ) (cs b : List Command) → Has k (at + 1) d cs b → Has (suc k) at d (Action ∷ cs) b
-later k at d cs b (A, q) = (
-  record {
-    pre = Action ∷ A .pre;
-    body = A .body;
-    post = A .post;
-    is = ap (λ (z : List ℕ). 65 ∷ z) (A .is);
-    lo = A .lo ∙ tidy at (length (encodeAll (A .pre)));
-    hi = A .hi ∙ ap (λ (z : ℕ). z + length (encodeAll (Action ∷ A .body))) (tidy at (length (encodeAll (A .pre))));
-    part = A .part;
-    oks = A .oks;
-  },
-  q,
-)
-  where
-    tidy : (a b : ℕ) → (a + 1) + b ≡ a + suc b
-    tidy a b = omega arith
+unfolding behind
+later k at d cs b (A, q) = (behind Action cs k at d refl A, q)
 
-upTo-places : (ps : List (ℕ × ℕ)) (more : List Command) → upTo (modeConditionCommands ps more) ≡ modeConditionCommands ps (upTo more)
-upTo-places [] more = refl
-upTo-places (p ∷ ps) more = ap (λ (z : List Command). ModeCondition (p .0) (p .1) ∷ z) (upTo-places ps more)
-
-upTo-compares : (cs : List (NumericCondition ℕ)) (more : List Command) → upTo (conditionCommands cs more) ≡ conditionCommands cs (upTo more)
-upTo-compares [] more = refl
-upTo-compares (c ∷ cs) more = ap (λ (z : List Command). Condition (variableOf (c .measured)) (relationNumber (c .relation)) (bitsOf 4 (c .constant)) ∷ z) (upTo-compares cs more)
-
-upTo-effects : (ps : List (ℕ × ℕ)) (more : List Command) → upTo (modeEffectCommands ps more) ≡ modeEffectCommands ps (upTo more)
-upTo-effects [] more = refl
-upTo-effects (p ∷ ps) more = ap (λ (z : List Command). ModeEffect (p .0) (p .1) ∷ z) (upTo-effects ps more)
-
-upTo-adds : (es : List (ℕ × ℤ)) (more : List Command) → upTo (additionCommands es more) ≡ additionCommands es (upTo more)
-upTo-adds [] more = refl
-upTo-adds (e ∷ es) more = ap (λ (z : List Command). Add (e .0) (bitsOf 4 (e .1)) ∷ z) (upTo-adds es more)
-
-upTo-acts : (acts : List RestrictedAction) (gs : List Command) → upTo (actionsCommands acts (Goal ∷ gs)) ≡ []
-upTo-acts [] gs = refl
-upTo-acts (a ∷ acts) gs = refl
-
--- the commands of an action behind its A
-abbrev pub bodyOf : RestrictedAction → List Command → List Command
-bodyOf a more = modeConditionCommands (a .modeConditions) (conditionCommands (a .conditions) (modeEffectCommands (a .modeEffects) (additionCommands (a .additions) more)))
-
-upTo-body : (a : RestrictedAction) (acts : List RestrictedAction) (gs : List Command) → upTo (bodyOf a (actionsCommands acts (Goal ∷ gs))) ≡ bodyOf a []
-upTo-body a acts gs = upTo-places (a .modeConditions) _ ∙ ap (modeConditionCommands (a .modeConditions)) (upTo-compares (a .conditions) _ ∙ ap (conditionCommands (a .conditions)) (upTo-effects (a .modeEffects) _ ∙ ap (modeEffectCommands (a .modeEffects)) (upTo-adds (a .additions) _ ∙ ap (additionCommands (a .additions)) (upTo-acts acts gs))))
-
-has-act : (acts : List RestrictedAction) (gs : List Command) (k at d : ℕ) (a : RestrictedAction) → getElem? acts k ≡ some a → GoalIn (actionsCommands acts (Goal ∷ gs)) → All Fits (actionsCommands acts (Goal ∷ gs)) → Has k at d (actionsCommands acts (Goal ∷ gs)) (bodyOf a [])
+-- where action k of an encoded task stands: behind k actions
+has-act : (acts : List RestrictedAction) (gs : List Command) (k at d : ℕ) (a : RestrictedAction) → getElem? acts k ≡ some a
+    → GoalIn (actionsCommands acts (Goal ∷ gs)) → All Fits (actionsCommands acts (Goal ∷ gs)) → Has k at d (actionsCommands acts (Goal ∷ gs)) (bodyOf a [])
 has-act [] gs k at d a e g o = absurd (Option·none-ne-some a e)
-has-act (x ∷ acts) gs zero at d a e g o =
-    (find (actionCommands x (actionsCommands acts (Goal ∷ gs))) zero at d g o (omega arith), first-body (bodyOf x (actionsCommands acts (Goal ∷ gs))) at d g o (omega arith) ∙ upTo-body x acts gs ∙ ap (λ (y : RestrictedAction). bodyOf y []) (some-injective e))
+has-act (x ∷ acts) gs zero at d a e g o = (
+  find (actionCommands x (actionsCommands acts (Goal ∷ gs))) zero at d g o (omega arith),
+  first-body (bodyOf x (actionsCommands acts (Goal ∷ gs))) at d g o (omega arith)
+      ∙ body-ends x _ (acts-end gs acts)
+      ∙ ap (λ (y : RestrictedAction). bodyOf y []) (some-injective e),
+)
 has-act (x ∷ acts) gs (suc k) at d a e g (o, os) =
-    later k at d (bodyOf x (actionsCommands acts (Goal ∷ gs))) (bodyOf a [])
-    (skip-places k d (bodyOf a []) _ (λ at. skip-compares k d (bodyOf a []) _ (λ at. skip-effects k d (bodyOf a []) _ (λ at. skip-adds k d (bodyOf a []) _
-    (λ at. has-act acts gs k at d a e (goal-past x (actionsCommands acts (Goal ∷ gs)) g) (ok-past x (actionsCommands acts (Goal ∷ gs)) os)) (x .additions) at) (x .modeEffects) at) (x .conditions) at) (x .modeConditions) (at + 1))
-  where
-    goal-past : (x : RestrictedAction) (more : List Command) → GoalIn (bodyOf x more) → GoalIn more
-    goal-past x more g = over-adds (x .additions) more (over-effects (x .modeEffects) (additionCommands (x .additions) more) (over-compares (x .conditions) (modeEffectCommands (x .modeEffects) (additionCommands (x .additions) more)) (over-places (x .modeConditions) (conditionCommands (x .conditions) (modeEffectCommands (x .modeEffects) (additionCommands (x .additions) more))) g)))
-      where
-        over-places : (ps : List (ℕ × ℕ)) (m : List Command) → GoalIn (modeConditionCommands ps m) → GoalIn m
-        over-places [] m g = g
-        over-places (p ∷ ps) m g = over-places ps m g
+    let more : List Command = actionsCommands acts (Goal ∷ gs) in
+    later k at d (bodyOf x more) (bodyOf a [])
+    (skip-body x more k d (bodyOf a []) (λ at. has-act acts gs k at d a e (goal-past-body x more g) (fits-past-body x more os)) (at + 1))
 
-        over-compares : (cs : List (NumericCondition ℕ)) (m : List Command) → GoalIn (conditionCommands cs m) → GoalIn m
-        over-compares [] m g = g
-        over-compares (p ∷ ps) m g = over-compares ps m g
-
-        over-effects : (ps : List (ℕ × ℕ)) (m : List Command) → GoalIn (modeEffectCommands ps m) → GoalIn m
-        over-effects [] m g = g
-        over-effects (p ∷ ps) m g = over-effects ps m g
-
-        over-adds : (ps : List (ℕ × ℤ)) (m : List Command) → GoalIn (additionCommands ps m) → GoalIn m
-        over-adds [] m g = g
-        over-adds (p ∷ ps) m g = over-adds ps m g
-
-    ok-past : (x : RestrictedAction) (more : List Command) → All Fits (bodyOf x more) → All Fits more
-    ok-past x more g = over-adds (x .additions) more (over-effects (x .modeEffects) (additionCommands (x .additions) more) (over-compares (x .conditions) (modeEffectCommands (x .modeEffects) (additionCommands (x .additions) more)) (over-places (x .modeConditions) (conditionCommands (x .conditions) (modeEffectCommands (x .modeEffects) (additionCommands (x .additions) more))) g)))
-      where
-        over-places : (ps : List (ℕ × ℕ)) (m : List Command) → All Fits (modeConditionCommands ps m) → All Fits m
-        over-places [] m g = g
-        over-places (p ∷ ps) m (o, g) = over-places ps m g
-
-        over-compares : (cs : List (NumericCondition ℕ)) (m : List Command) → All Fits (conditionCommands cs m) → All Fits m
-        over-compares [] m g = g
-        over-compares (p ∷ ps) m (o, g) = over-compares ps m g
-
-        over-effects : (ps : List (ℕ × ℕ)) (m : List Command) → All Fits (modeEffectCommands ps m) → All Fits m
-        over-effects [] m g = g
-        over-effects (p ∷ ps) m (o, g) = over-effects ps m g
-
-        over-adds : (ps : List (ℕ × ℤ)) (m : List Command) → All Fits (additionCommands ps m) → All Fits m
-        over-adds [] m g = g
-        over-adds (p ∷ ps) m (o, g) = over-adds ps m g
-
-pub encoded-part : (r : RestrictedTask) → RestrictedTaskOk r → (k : ℕ) (a : RestrictedAction) → getElem? (r .actions) k ≡ some a → actionPart (encodeFile r) k ≡ encodeAll (actionCommands a [])
+pub encoded-part : (r : RestrictedTask) → RestrictedTaskOk r → (k : ℕ) (a : RestrictedAction) → getElem? (r .actions) k ≡ some a
+    → actionPart (encodeFile r) k ≡ encodeAll (actionCommands a [])
 unfolding encodeFile
 encoded-part r F k a e =
-    let H : Has k 0 (length (encodeAll (fileCommands r) ++ encode End)) (fileCommands r) (bodyOf a [])
-    = skip-starts k (length (encodeAll (fileCommands r) ++ encode End)) (bodyOf a []) _ (λ at. skip-modes k (length (encodeAll (fileCommands r) ++ encode End)) (bodyOf a []) _
-    (λ at. has-act (r .actions) (modeConditionCommands (r .goalModes) (conditionCommands (r .goalConditions) [])) k at (length (encodeAll (fileCommands r) ++ encode End)) a e
-    (modes-goal (r .modes) (actionsCommands (r .actions) (Goal ∷ modeConditionCommands (r .goalModes) (conditionCommands (r .goalConditions) []))) (starts-goal (r .starts) (modeCommands (r .modes) (actionsCommands (r .actions) (Goal ∷ modeConditionCommands (r .goalModes) (conditionCommands (r .goalConditions) [])))) (goal-in restrictedLimits (fileCommands r) begin (omega arith) (trail r F))))
-    (modes-ok (r .modes) (actionsCommands (r .actions) (Goal ∷ modeConditionCommands (r .goalModes) (conditionCommands (r .goalConditions) []))) (starts-ok (r .starts) (modeCommands (r .modes) (actionsCommands (r .actions) (Goal ∷ modeConditionCommands (r .goalModes) (conditionCommands (r .goalConditions) [])))) (file-ok r F)))) (r .modes) at) (r .starts) 0 in
-    part-of (encodeAll (fileCommands r) ++ encode End) (fileCommands r) k refl (file-ok r F) (H .0) ∙ ap (λ (c : List Command). encodeAll (Action ∷ c)) (H .1)
+    part-of (encodeAll (fileCommands r) ++ encode End) (fileCommands r) k refl (file-ok r F) (there .0)
+    ∙ ap (λ (c : List Command). encodeAll (Action ∷ c)) (there .1)
   where
-    starts-goal : (zs : List ℤ) (m : List Command) → GoalIn (startCommands zs m) → GoalIn m
-    starts-goal [] m g = g
-    starts-goal (p ∷ ps) m g = starts-goal ps m g
+    goal : List Command
+    goal = modeConditionCommands (r .goalModes) (conditionCommands (r .goalConditions) [])
 
-    modes-goal : (zs : List (ℕ × ℕ)) (m : List Command) → GoalIn (modeCommands zs m) → GoalIn m
-    modes-goal [] m g = g
-    modes-goal (p ∷ ps) m g = modes-goal ps m g
+    acts : List Command
+    acts = actionsCommands (r .actions) (Goal ∷ goal)
 
-    starts-ok : (zs : List ℤ) (m : List Command) → All Fits (startCommands zs m) → All Fits m
-    starts-ok [] m g = g
-    starts-ok (p ∷ ps) m (o, g) = starts-ok ps m g
+    modes : List Command
+    modes = modeCommands (r .modes) acts
 
-    modes-ok : (zs : List (ℕ × ℕ)) (m : List Command) → All Fits (modeCommands zs m) → All Fits m
-    modes-ok [] m g = g
-    modes-ok (p ∷ ps) m (o, g) = modes-ok ps m g
+    -- what the actions and the goal say of themselves
+    goal-there : GoalIn acts
+    goal-there = goal-past modeCommand (λ m. refl) (r .modes) acts
+        (goal-past startCommand (λ z. refl) (r .starts) modes (goal-in restrictedLimits (fileCommands r) begin (omega arith) (trail r F)))
+
+    fit : All Fits acts
+    fit = fits-past modeCommand (λ m. refl) (r .modes) acts (fits-past startCommand (λ z. refl) (r .starts) modes (file-ok r F))
+
+    there : Has k 0 (length (encodeAll (fileCommands r) ++ encode End)) (fileCommands r) (bodyOf a [])
+    there =
+        let size : ℕ = length (encodeAll (fileCommands r) ++ encode End) in
+        skip-run startCommand (λ z. refl) k size (bodyOf a []) modes
+        (skip-run modeCommand (λ m. refl) k size (bodyOf a []) acts (λ at. has-act (r .actions) goal k at size a e goal-there fit) (r .modes)) (r .starts) 0

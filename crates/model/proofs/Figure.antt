@@ -7,7 +7,7 @@ use native.Mathlib.Omega.{arith}
 use mathlib.Core.Bool.{Bool, false, cond}
 use mathlib.Core.Option.{none, some}
 use mathlib.Core.List.{List, [], _∷_}
-use lib.ListN.{length}
+use lib.ListN.{length, length-map}
 use lib.Dec.{eqb}
 use lib.IntN.{ℤ, natAbs}
 use Rattle.integers.specs.All.{All}
@@ -17,14 +17,14 @@ use Rattle.model.specs.Steps.{integerAt, sourceStep, restrictedStep, sou
 use Rattle.model.specs.Tasks.{State, RestrictedAction, SourceTask, RestrictedTask}
 use Rattle.model.specs.Limits.{restrictedLimits}
 use Rattle.model.specs.Decoding.{readSource, readRestricted}
-use Rattle.model.specs.TaskOk.{Distinct, keys, ValuesIn, InRange, AmountOk, RestrictedActionOk, RestrictedTaskOk}
+use Rattle.model.specs.TaskOk.{Distinct, keys, ValuesIn, InRange, AmountOk, RestrictedActionOk, SourceTaskOk, RestrictedTaskOk}
 use Rattle.model.proofs.StageWalk.{all-map}
 use Rattle.model.proofs.Follow.{guard-run, run-keeps}
 use Rattle.model.proofs.Guards.{guard-any}
 use Rattle.model.proofs.StepBounds.{additionAt, AdditionsOnce, AddsIn, WithinAfter, within-is-sound, step-within}
 use Rattle.model.proofs.GuardedPairing.{WithinBounds, within-bounds-is-sound, step-within-bounds}
 use Rattle.model.proofs.AcceptedPairing.{Accepted}
-use Rattle.model.proofs.ReadingLaws.{length-each, length-keys}
+use Rattle.model.proofs.ReadingLaws.{length-keys}
 use Rattle.model.proofs.AcceptedSource.{accepted, modes-below}
 use Rattle.model.proofs.AcceptedOk.{accepted-source-ok, accepted-restricted-ok}
 
@@ -33,9 +33,9 @@ not-among : (k : ℕ) (es : List (ℕ × ℤ)) → All (λ (j : ℕ). eqb j k �
 not-among k [] h = refl
 not-among k (e ∷ es) (h, hs) = ap (λ (b : Bool). cond b (some (e .1)) (additionAt es k)) h ∙ not-among k es hs
 
-each-once : (es : List (ℕ × ℤ)) → Distinct (keys es) → AdditionsOnce es
-each-once [] h = tt
-each-once (e ∷ es) (h, hs) = (not-among (e .0) es h, each-once es hs)
+distinct-once : (es : List (ℕ × ℤ)) → Distinct (keys es) → AdditionsOnce es
+distinct-once [] h = tt
+distinct-once (e ∷ es) (h, hs) = (not-among (e .0) es h, distinct-once es hs)
 
 values-in : (zs : List ℤ) → All (InRange restrictedLimits) zs → (j : ℕ) → natAbs (integerAt zs j) ≤ 1_000_000_000 + 1_000_000_000 * 0
 values-in [] h j = omega arith
@@ -51,7 +51,7 @@ module _ (r : RestrictedTask) (F : RestrictedTaskOk r) where
   Within = WithinAfter (length (r .starts)) (sizesOf (r .modes))
 
   pub start-within : Within 0 (restrictedStart r)
-  start-within = (refl, length-each (λ (m : ℕ × ℕ). m .1) (r .modes) ∙ sym (length-keys (r .modes)), values-in (r .starts) (F .startsIn), modes-below restrictedLimits (r .modes) (F .modesIn))
+  start-within = (refl, length-map (r .modes) (λ (m : ℕ × ℕ). m .1) ∙ sym (length-keys (r .modes)), values-in (r .starts) (F .startsIn), modes-below restrictedLimits (r .modes) (F .modesIn))
 
   pub steps-within : (i : ℕ) (x y : State) (k : ℕ) → Within i x → restrictedStep (r .actions) x k ≡ some y → Within (suc i) y
   steps-within = step-within (length (r .starts)) (sizesOf (r .modes)) (r .actions)
@@ -61,7 +61,7 @@ module _ (r : RestrictedTask) (F : RestrictedTaskOk r) where
       adds : (a : RestrictedAction) → RestrictedActionOk restrictedLimits (length (r .starts)) (sizesOf (r .modes)) a → AddsIn (length (r .starts)) 1_000_000_000 a
       adds a h = record {
         inside = all-map (AmountOk restrictedLimits (length (r .starts))) (λ (e : ℕ × ℤ). e .0 < length (r .starts)) (λ e q. q .0) (a .additions) (h .additionsIn);
-        once = each-once (a .additions) (h .additionsOnce);
+        once = distinct-once (a .additions) (h .additionsOnce);
         upTo = all-map (AmountOk restrictedLimits (length (r .starts))) (λ (e : ℕ × ℤ). natAbs (e .1) ≤ 1_000_000_000) (λ e q. q .1 .1) (a .additions) (h .additionsIn);
       }
 
@@ -78,19 +78,34 @@ values-stay-within-the-figure file r e q h x w = let F : RestrictedTaskOk r = ac
     let (_, _, v, _) = run-keeps (restrictedStep (r .actions)) (Within r F) (steps-within r F) q 0 (restrictedStart r) x (start-within r F) w in
     all-values 2_000_000_000_000_000 (x .values) (λ j. omega (arith, h, v j))
 
--- the steps of any plan from the start of an accepted source task go as they would with no test but that of the effect's result: all values stay within their bounds, all modes below their sizes
+-- the steps of any plan from the start of an accepted source task go as they would with no test but that of the effect's result: all values
+-- stay within their bounds, all modes below their sizes
+module _ (t : SourceTask) (S : SourceTaskOk t) where
+  abbrev InBounds : State → Type 0
+  InBounds = WithinBounds (length (t .variables)) (length (t .modes)) (lowerBounds t) (upperBounds t) (sizesOf (t .modes))
+
+  A : Accepted (length (t .variables)) (length (t .modes)) (lowerBounds t) (upperBounds t) (t .actions) (sizesOf (t .modes)) (t .goalModes) (t .goalConditions) (sourceStart t)
+  A = accepted t S
+
+  start-in-bounds : InBounds (sourceStart t)
+  start-in-bounds = (A .valuesLength, A .modesLength, A .good, A .below)
+
+  step-in-bounds : (x y : State) (k : ℕ) → InBounds x → sourceStep (lowerBounds t) (upperBounds t) (t .actions) x k ≡ some y → InBounds y
+  step-in-bounds = step-within-bounds (length (t .variables)) (length (t .modes)) (lowerBounds t) (upperBounds t) (t .actions) (A .actionsIn)
+      (sizesOf (t .modes)) (A .sizesLength) (A .sets)
+
+  source-run-untested : (p : List ℕ)
+      → runPlan (stepSource t) p (sourceStart t) ≡ runPlan (sourceStep (lowerBounds t) (upperBounds t) (t .actions)) p (sourceStart t)
+  source-run-untested p =
+      guard-any (soundSource (lowerBounds t) (upperBounds t) (sizesOf (t .modes))) (sourceStep (lowerBounds t) (upperBounds t) (t .actions)) InBounds
+      step-in-bounds (within-bounds-is-sound (length (t .variables)) (length (t .modes)) (lowerBounds t) (upperBounds t) (sizesOf (t .modes)))
+      p (sourceStart t) start-in-bounds
+
+  pub source-run-in-bounds : (p : List ℕ) (s : State) → runPlan (stepSource t) p (sourceStart t) ≡ some s → InBounds s
+  source-run-in-bounds p s r =
+      run-keeps (sourceStep (lowerBounds t) (upperBounds t) (t .actions)) (λ i. InBounds) (λ i. step-in-bounds) p 0 (sourceStart t) s
+      start-in-bounds (sym (source-run-untested p) ∙ r)
+
 pub no-source-plan-leaves-its-bounds : (file : List ℕ) (t : SourceTask) → readSource file ≡ given t → (p : List ℕ)
     → runPlan (stepSource t) p (sourceStart t) ≡ runPlan (sourceStep (lowerBounds t) (upperBounds t) (t .actions)) p (sourceStart t)
-no-source-plan-leaves-its-bounds file t e p =
-    guard-any (soundSource (lowerBounds t) (upperBounds t) (sizesOf (t .modes))) (sourceStep (lowerBounds t) (upperBounds t) (t .actions)) (WithinBounds n m (lowerBounds t) (upperBounds t) (sizesOf (t .modes)))
-    (step-within-bounds n m (lowerBounds t) (upperBounds t) (t .actions) (A .actionsIn) (sizesOf (t .modes)) (A .sizesLength) (A .sets)) (within-bounds-is-sound n m (lowerBounds t) (upperBounds t) (sizesOf (t .modes)))
-    p (sourceStart t) (A .valuesLength, A .modesLength, A .good, A .below)
-  where
-    n : ℕ
-    n = length (t .variables)
-
-    m : ℕ
-    m = length (t .modes)
-
-    A : Accepted (length (t .variables)) (length (t .modes)) (lowerBounds t) (upperBounds t) (t .actions) (sizesOf (t .modes)) (t .goalModes) (t .goalConditions) (sourceStart t)
-    A = accepted t (accepted-source-ok file t e)
+no-source-plan-leaves-its-bounds file t e = source-run-untested t (accepted-source-ok file t e)

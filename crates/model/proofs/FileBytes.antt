@@ -18,8 +18,10 @@ use Rattle.commands.proofs.Encoding.{byte-read, bytes-drop, encode-read, read-f
 use Rattle.model.specs.Limits.{Limits}
 use Rattle.model.specs.ReadingState.{ReadingState, Taken, Progress, Going, Ended, Stopped, begin}
 use Rattle.model.specs.Rules.{takeOf}
-use Rattle.model.specs.Reading.{Accepted, Rejected, afterCommand, verdictFrom, verdictOf, gather, commandsFrom, commandsOf}
-use Rattle.model.proofs.AcceptedTrail.{Alive, take-inv, end-only, Is, not-refused}
+use Rattle.model.specs.Reading.{acceptedWith, Rejected, afterCommand, verdictFrom, verdictOf, gather, commandsFrom, commandsOf, commandsAlong}
+use Rattle.model.specs.Reading.{verdictAlong, remainders}
+use Rattle.model.proofs.CommandFacts.{Alive, end-only}
+use Rattle.model.proofs.AcceptedTrail.{take-inv, Is, not-refused}
 
 one-byte : (s : List ℕ) → eqb (length s) 1 ≡ true → s ≡ getD s 0 0 ∷ []
 one-byte s e = go s (eqb→eq (length s) 1 (subst T (sym e) tt))
@@ -34,10 +36,11 @@ Whole s cs = (s ≡ encodeAll cs ++ encode End) × All Fits cs
 
 module _ (l : Limits) where
   bytes-inv : (k len : ℕ) (p : ReadingState) (at : ℕ) (s : List ℕ) → Bytes s → Is (verdictFrom l len k p at s) → Whole s (commandsFrom l k p s)
-  unfolding verdictFrom commandsFrom
+  unfolding remainders verdictAlong commandsAlong
   bytes-inv zero len p at s b h = absurd (not-refused 2 at len h)
   bytes-inv (suc k) len p at s b h =
-      step (takeOf l p s .state) (takeOf l p s .progress) refl h (λ q g. bytes-inv k len q (at + sizeOfByte (getD s 0 0)) (drop (sizeOfByte (getD s 0 0)) s) (bytes-drop (sizeOfByte (getD s 0 0)) s b) g)
+      step (takeOf l p s .state) (takeOf l p s .progress) refl h
+      (λ q g. bytes-inv k len q (at + sizeOfByte (getD s 0 0)) (drop (sizeOfByte (getD s 0 0)) s) (bytes-drop (sizeOfByte (getD s 0 0)) s b) g)
     where
       step : (q : ReadingState) (o : Progress) → takeOf l p s .progress ≡ o
           → Is (afterCommand (λ q. verdictFrom l len k q (at + sizeOfByte (getD s 0 0)) (drop (sizeOfByte (getD s 0 0)) s)) at (length s) len q o)
@@ -47,14 +50,17 @@ module _ (l : Limits) where
       step q Going f h rec =
           let (_, _, kn) = take-inv l p s (subst Alive (sym f) tt) in
           let e : s ≡ encode (commandAt s) ++ drop (sizeOfByte (getD s 0 0)) s = encode-read s b kn in
-          let (w, os) = rec q h in
-          (e ∙ ap (λ (z : List ℕ). encode (commandAt s) ++ z) w ∙ sym (append-assoc (encode (commandAt s)) (encodeAll (commandsFrom l k q (drop (sizeOfByte (getD s 0 0)) s))) (encode End)), (read-fits s b kn, os))
+          let (w, os) = rec q h in (
+            e ∙ ap (λ (z : List ℕ). encode (commandAt s) ++ z) w
+                ∙ sym (append-assoc (encode (commandAt s)) (encodeAll (commandsFrom l k q (drop (sizeOfByte (getD s 0 0)) s))) (encode End)),
+            (read-fits s b kn, os),
+          )
       step q Ended f h rec =
           let (_, b′, kn) = take-inv l p s (subst Alive (sym f) tt) in
           let z : commandAt s ≡ End = end-only l p (commandAt s) (sym (ap (λ (t : Taken). t .progress) b′) ∙ f) in
           (over-z (eqb (length s) 1) refl h (sym (byte-read s kn) ∙ ap byteOf z), tt)
         where
-          over-z : (b : Bool) → eqb (length s) 1 ≡ b → Is (cond b (Accepted (q .variables) (q .modes) (q .actions)) (Rejected 3 (at + 1))) → getD s 0 0 ≡ 90 → s ≡ 90 ∷ []
+          over-z : (b : Bool) → eqb (length s) 1 ≡ b → Is (cond b (acceptedWith q) (Rejected 3 (at + 1))) → getD s 0 0 ≡ 90 → s ≡ 90 ∷ []
           over-z true e h w = one-byte s e ∙ ap (λ (x : ℕ). x ∷ []) w
           over-z false e h w = absurd h
       step q (Stopped n) f h rec = absurd (not-refused n at len h)

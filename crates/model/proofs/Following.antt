@@ -6,7 +6,7 @@ use Prim.Native.Nat.{ℕ, suc, _%_, _≤_}
 use native.Mathlib.Omega.{arith}
 use mathlib.Core.Bool.{_&&_, Bool, true, false, not, cond}
 use mathlib.Core.Option.{Option, none, some}
-use mathlib.Core.List.{List, [], _∷_}
+use mathlib.Core.List.{List, [], _∷_, map-append}
 use lib.ListN.{length}
 use lib.Dec.{T, eqb, ltb, nltb→le}
 use lib.IntN.{ℤ}
@@ -22,7 +22,7 @@ use Rattle.model.specs.Decoding.{readSource, readRestricted}
 use Rattle.model.specs.Plans.{planBytes, planNumbers, readPlan}
 use Rattle.model.specs.Judging.{judge, judgeRestrictedTask, projectBytes}
 use Rattle.model.specs.TaskOk.{SourceTaskOk}
-use Rattle.model.specs.Following.{projectOver, macroNumbers, opens, projectFrom}
+use Rattle.model.specs.Following.{projectOver, macroNumbers, deadEndNumbers, opens, projectFrom}
 use Rattle.model.proofs.Answers.{Gives, given-injective}
 use Rattle.model.proofs.StageWalk.{Rest}
 use Rattle.model.proofs.Arrays.{modes-laid-hold}
@@ -35,7 +35,6 @@ use Rattle.model.proofs.AcceptedPairing.{Accepted}
 use Rattle.model.proofs.AcceptedSource.{accepted}
 use Rattle.model.proofs.LoweredOk.{lowered-task-ok, write-length}
 use Rattle.model.proofs.Figure.{Within, start-within, steps-within}
-use Rattle.model.proofs.Claim.{each-app}
 use Rattle.model.proofs.ReadsBack.{reads-back}
 use Rattle.model.proofs.AcceptedOk.{accepted-source-ok}
 use Rattle.model.proofs.FollowingWalks.{then-made, judgedAs}
@@ -89,11 +88,16 @@ module _ (t : SourceTask) (S : SourceTaskOk t) where
   abbrev numbersOf : NamedSource → ℕ → List ℕ
   numbersOf s a = opening lo hi (t .actions) a ∷ stageSteps lo hi (t .actions) s a
 
-  source-side : (count most i : ℕ) (q : List ℕ) → projectOver count (stepSource t) (sourceGoalHolds t) own (macroNumbers t) (opens t) most i q (sourceStart t)
-      ≡ projectOver count (stepNamedSource lo hi (t .actions)) (goalNamed lo hi (t .actions) (t .goalModes) (t .goalConditions)) own numbersOf (opensNamed lo hi (t .actions)) most i q (byName (sourceStart t))
+  abbrev deadEndOf : NamedSource → ℕ → List ℕ
+  deadEndOf s a = opening lo hi (t .actions) a ∷ deadEndSteps lo hi (t .actions) s a
+
+  source-side : (count most i : ℕ) (q : List ℕ) → projectOver count (stepSource t) (sourceGoalHolds t) own (macroNumbers t) (deadEndNumbers t) (opens t) most i q (sourceStart t)
+      ≡ projectOver count (stepNamedSource lo hi (t .actions)) (goalNamed lo hi (t .actions) (t .goalModes) (t .goalConditions)) own numbersOf deadEndOf (opensNamed lo hi (t .actions)) most i q (byName (sourceStart t))
   source-side count most i q = projections-agree Same (stepSource t) (stepNamedSource lo hi (t .actions)) steps-same
       (sourceGoalHolds t) (goalNamed lo hi (t .actions) (t .goalModes) (t .goalConditions)) (λ x s h. ap (goalNamed lo hi (t .actions) (t .goalModes) (t .goalConditions)) (sym (h .1))) count own
-      (macroNumbers t) numbersOf (λ x s a h. ap (λ (u : NamedSource). numbersOf u a) (sym (h .1))) (opens t) (opensNamed lo hi (t .actions)) (λ x s a h. ap (λ (u : NamedSource). opensNamed lo hi (t .actions) u a) (sym (h .1)))
+      (macroNumbers t) numbersOf (λ x s a h. ap (λ (u : NamedSource). numbersOf u a) (sym (h .1)))
+      (opens t) (opensNamed lo hi (t .actions)) (λ x s a h. ap (λ (u : NamedSource). opensNamed lo hi (t .actions) u a) (sym (h .1)))
+      (deadEndNumbers t) deadEndOf (λ x s a h e f. ap (λ (u : NamedSource). deadEndOf u a) (sym (h .1)))
       most i q (sourceStart t) (byName (sourceStart t)) ((A .valuesLength, A .modesLength, A .good, A .below), refl)
 
   -- ---- R: no plan within the limit passes the figure, and numbered states go with the named ones
@@ -112,7 +116,7 @@ module _ (t : SourceTask) (S : SourceTaskOk t) where
       ap (λ (a : Answer (ℕ × State)). then a (λ v. given c)) (
       guarded-judge count (restrictedStep (lowerTask t .actions)) goalR (soundRestricted (sizesOf (lowerTask t .modes))) (Within (lowerTask t) (lowered-task-ok t S)) 1_000_000
       (steps-within (lowerTask t) (lowered-task-ok t S)) (within-is-sound (length (lowerTask t .starts)) (sizesOf (lowerTask t .modes))) q 0 (restrictedStart (lowerTask t)) (omega arith) (start-within (lowerTask t) (lowered-task-ok t S))
-      ∙ ap (λ (l : List ℕ). judge count (restrictedStep (lowerTask t .actions)) goalR 0 q (record { values = lowerTask t .starts; modes = l })) (each-app (λ (p : ℕ × ℕ). p .1) (t .modes) ((suc (stageCount lo hi (t .actions)), 0) ∷ [])))
+      ∙ ap (λ (l : List ℕ). judge count (restrictedStep (lowerTask t .actions)) goalR 0 q (record { values = lowerTask t .starts; modes = l })) (map-append (λ (p : ℕ × ℕ). p .1) (t .modes) ((suc (stageCount lo hi (t .actions)), 0) ∷ [])))
       ∙ judges-agree (RestrictedAgrees n m) (restrictedStep (lowerTask t .actions)) (stepNamed R) (restricted-steps-agree n m R (lower-in n m lo hi (t .actions) 1 (A .actionsIn)))
       goalR (goalLowered lo hi (t .actions) (t .goalModes) (t .goalConditions)) goals-same count c q 0 (helpersAtRest (sourceStart t)) (atRest (byName (sourceStart t))) (rest-agrees n m lo hi (sourceStart t) (A .valuesLength) (A .modesLength))
 
@@ -122,7 +126,7 @@ module _ (t : SourceTask) (S : SourceTaskOk t) where
     where
       Statement : ℕ → Type 0
       Statement k = judgedAs k (stepNamed R) (goalLowered lo hi (t .actions) (t .goalModes) (t .goalConditions)) (projectTask t q) 0 q (atRest (byName (sourceStart t)))
-          ≡ projectOver k (stepNamedSource lo hi (t .actions)) (goalNamed lo hi (t .actions) (t .goalModes) (t .goalConditions)) own numbersOf (opensNamed lo hi (t .actions)) (length q) 0 q (byName (sourceStart t))
+          ≡ projectOver k (stepNamedSource lo hi (t .actions)) (goalNamed lo hi (t .actions) (t .goalModes) (t .goalConditions)) own numbersOf deadEndOf (opensNamed lo hi (t .actions)) (length q) 0 q (byName (sourceStart t))
 
       named : Statement (length R)
       named = judging-is-following (stepNamedSource lo hi (t .actions)) (stepNamed R) Rest atRest (Good lo hi) (opening lo hi (t .actions)) own (stageSteps lo hi (t .actions)) (priceAt (t .actions)) (deadEndSteps lo hi (t .actions))

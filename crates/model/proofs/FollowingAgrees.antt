@@ -36,37 +36,56 @@ module _ {X Y : Type 0} (Sim : X → Y → Type 0) (stepX : X → ℕ → Option
       go true (some x) (some y) a ih = ih x y a
 
   -- what projecting by source steps answers
-  pub projections-agree : (count : ℕ) (sourceNumber : ℕ → Option ℕ) (numbersX : X → ℕ → List ℕ) (numbersY : Y → ℕ → List ℕ) → ((x : X) (y : Y) (a : ℕ) → Sim x y → numbersX x a ≡ numbersY y a)
+  pub projections-agree : (count : ℕ) (sourceNumber : ℕ → Option ℕ)
+      (numbersX : X → ℕ → List ℕ) (numbersY : Y → ℕ → List ℕ) → ((x : X) (y : Y) (a : ℕ) → Sim x y → numbersX x a ≡ numbersY y a)
       → (opensX : X → ℕ → Bool) (opensY : Y → ℕ → Bool) → ((x : X) (y : Y) (a : ℕ) → Sim x y → opensX x a ≡ opensY y a)
-      → (most i : ℕ) (q : List ℕ) (x : X) (y : Y) → Sim x y → projectOver count stepX goalX sourceNumber numbersX opensX most i q x ≡ projectOver count stepY goalY sourceNumber numbersY opensY most i q y
+      → (deadEndX : X → ℕ → List ℕ) (deadEndY : Y → ℕ → List ℕ)
+      → ((x : X) (y : Y) (a : ℕ) → Sim x y → stepY y a ≡ none → opensY y a ≡ true → deadEndX x a ≡ deadEndY y a)
+      → (most i : ℕ) (q : List ℕ) (x : X) (y : Y) → Sim x y
+      → projectOver count stepX goalX sourceNumber numbersX deadEndX opensX most i q x ≡ projectOver count stepY goalY sourceNumber numbersY deadEndY opensY most i q y
   unfolding projectOver
-  projections-agree count sourceNumber numbersX numbersY n opensX opensY o zero i [] x y s = ap (λ (b : Bool). cond b (given []) (refused 13 i)) (goals x y s)
-  projections-agree count sourceNumber numbersX numbersY n opensX opensY o zero i (k ∷ q) x y s = refl
-  projections-agree count sourceNumber numbersX numbersY n opensX opensY o (suc most) i [] x y s = ap (λ (b : Bool). cond b (given []) (refused 13 i)) (goals x y s)
-  projections-agree count sourceNumber numbersX numbersY n opensX opensY o (suc most) i (k ∷ q) x y s = at (sourceNumber k) (λ j rest. projections-agree count sourceNumber numbersX numbersY n opensX opensY o most j rest)
+  projections-agree count sourceNumber numbersX numbersY n opensX opensY o deadEndX deadEndY d zero i [] x y s = ap (λ (b : Bool). cond b (given []) (refused 13 i)) (goals x y s)
+  projections-agree count sourceNumber numbersX numbersY n opensX opensY o deadEndX deadEndY d zero i (k ∷ q) x y s = refl
+  projections-agree count sourceNumber numbersX numbersY n opensX opensY o deadEndX deadEndY d (suc most) i [] x y s = ap (λ (b : Bool). cond b (given []) (refused 13 i)) (goals x y s)
+  projections-agree count sourceNumber numbersX numbersY n opensX opensY o deadEndX deadEndY d (suc most) i (k ∷ q) x y s = at (sourceNumber k) (λ j rest. projections-agree count sourceNumber numbersX numbersY n opensX opensY o deadEndX deadEndY d most j rest)
     where
       projectX : ℕ → List ℕ → X → Answer (List ℕ)
-      projectX = projectOver count stepX goalX sourceNumber numbersX opensX most
+      projectX = projectOver count stepX goalX sourceNumber numbersX deadEndX opensX most
 
       projectY : ℕ → List ℕ → Y → Answer (List ℕ)
-      projectY = projectOver count stepY goalY sourceNumber numbersY opensY most
+      projectY = projectOver count stepY goalY sourceNumber numbersY deadEndY opensY most
 
-      afterX : ℕ → Option X → List ℕ → Bool → Answer (List ℕ)
-      afterX a o ns b = ifAny o (λ z. pastMacro count ns i (k ∷ q) (λ j rest. then (projectX j rest z) (λ p. given (a ∷ p)))) (cond b (intoMacro count ns i (k ∷ q)) (refused 12 i))
+      afterX : ℕ → Option X → List ℕ → Answer (List ℕ) → Answer (List ℕ)
+      afterX a o ns = ifAny o (λ z. pastMacro count ns i (k ∷ q) (λ j rest. then (projectX j rest z) (λ p. given (a ∷ p))))
 
-      afterY : ℕ → Option Y → List ℕ → Bool → Answer (List ℕ)
-      afterY a o ns b = ifAny o (λ z. pastMacro count ns i (k ∷ q) (λ j rest. then (projectY j rest z) (λ p. given (a ∷ p)))) (cond b (intoMacro count ns i (k ∷ q)) (refused 12 i))
+      afterY : ℕ → Option Y → List ℕ → Answer (List ℕ) → Answer (List ℕ)
+      afterY a o ns = ifAny o (λ z. pastMacro count ns i (k ∷ q) (λ j rest. then (projectY j rest z) (λ p. given (a ∷ p))))
 
-      on : (a : ℕ) (ns : List ℕ) (b : Bool) (o : Option X) (o′ : Option Y) → Agree Sim o o′ → ((j : ℕ) (rest : List ℕ) (x : X) (y : Y) → Sim x y → projectX j rest x ≡ projectY j rest y) → afterX a o ns b ≡ afterY a o′ ns b
-      on a ns b none none h ih = refl
-      on a ns b none (some y) h ih = absurd h
-      on a ns b (some x) none h ih = absurd h
-      on a ns b (some x) (some y) h ih = ap (λ (f : ℕ → List ℕ → Answer (List ℕ)). pastMacro count ns i (k ∷ q) (λ j rest. then (f j rest) (λ p. given (a ∷ p)))) (fun-ext (λ j. fun-ext (λ rest. ih j rest x y h)))
+      -- where action a doesn't apply
+      shut : List ℕ → Bool → Answer (List ℕ)
+      shut ds b = cond b (intoMacro count ds i (k ∷ q)) (refused 12 i)
+
+      both-shut : (a : ℕ) → stepY y a ≡ none → shut (deadEndX x a) (opensX x a) ≡ shut (deadEndY y a) (opensY y a)
+      both-shut a e = ap (shut (deadEndX x a)) (o x y a s) ∙ go (opensY y a) refl
+        where
+          go : (b : Bool) → opensY y a ≡ b → shut (deadEndX x a) b ≡ shut (deadEndY y a) b
+          go true f = ap (λ (ds : List ℕ). shut ds true) (d x y a s e f)
+          go false f = refl
+
+      on : (a : ℕ) (ns : List ℕ) (u : Option X) (v : Option Y) → stepY y a ≡ v → Agree Sim u v
+          → ((j : ℕ) (rest : List ℕ) (x : X) (y : Y) → Sim x y → projectX j rest x ≡ projectY j rest y)
+          → afterX a u ns (shut (deadEndX x a) (opensX x a)) ≡ afterY a v ns (shut (deadEndY y a) (opensY y a))
+      on a ns none none e h ih = both-shut a e
+      on a ns none (some y) e h ih = absurd h
+      on a ns (some x) none e h ih = absurd h
+      on a ns (some x) (some y) e h ih =
+          ap (λ (f : ℕ → List ℕ → Answer (List ℕ)). pastMacro count ns i (k ∷ q) (λ j rest. then (f j rest) (λ p. given (a ∷ p)))) (fun-ext (λ j. fun-ext (λ rest. ih j rest x y h)))
 
       at : (number-of-k : Option ℕ) → ((j : ℕ) (rest : List ℕ) (x : X) (y : Y) → Sim x y → projectX j rest x ≡ projectY j rest y)
-          → ifAny number-of-k (λ a. afterX a (stepX x a) (numbersX x a) (opensX x a)) (strayed count i (k ∷ q)) ≡ ifAny number-of-k (λ a. afterY a (stepY y a) (numbersY y a) (opensY y a)) (strayed count i (k ∷ q))
+          → ifAny number-of-k (λ a. afterX a (stepX x a) (numbersX x a) (shut (deadEndX x a) (opensX x a))) (strayed count i (k ∷ q))
+          ≡ ifAny number-of-k (λ a. afterY a (stepY y a) (numbersY y a) (shut (deadEndY y a) (opensY y a))) (strayed count i (k ∷ q))
       at none ih = refl
-      at (some a) ih = ap₂ (afterX a (stepX x a)) (n x y a s) (o x y a s) ∙ on a (numbersY y a) (opensY y a) (stepX x a) (stepY y a) (steps x y a s) ih
+      at (some a) ih = ap (λ (ns : List ℕ). afterX a (stepX x a) ns (shut (deadEndX x a) (opensX x a))) (n x y a s) ∙ on a (numbersY y a) (stepX x a) (stepY y a) refl (steps x y a s) ih
 
 -- a test that no state fails within the limit changes no verdict
 module _ {X : Type 0} (count : ℕ) (step : X → ℕ → Option X) (goal : X → Bool) (ok : X → Bool) (Inv : ℕ → X → Type 0) (limit : ℕ)

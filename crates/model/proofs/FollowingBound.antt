@@ -13,12 +13,12 @@ use Rattle.model.specs.Tasks.{SourceTask, State}
 use Rattle.model.specs.Steps.{lowerBounds, upperBounds, stepSource, sourceGoalHolds}
 use Rattle.model.specs.Stages.{sourceNumber}
 use Rattle.model.specs.Lowering.{lowerTask}
-use Rattle.model.specs.Following.{agreeing, ifAny, strayed, strayedAfter, intoMacro, projectOver, macroNumbers, opens, projectFrom}
+use Rattle.model.specs.Following.{agreeing, ifAny, strayed, strayedAfter, intoMacro, projectOver, macroNumbers, deadEndNumbers, opens, projectFrom}
 
-module _ {S : Type 0} (count : ℕ) (step : S → ℕ → Option S) (goal : S → Bool) (sourceNumber : ℕ → Option ℕ) (numbers : S → ℕ → List ℕ) (opensAt : S → ℕ → Bool)
+module _ {S : Type 0} (count : ℕ) (step : S → ℕ → Option S) (goal : S → Bool) (sourceNumber : ℕ → Option ℕ) (numbers deadEnd : S → ℕ → List ℕ) (opensAt : S → ℕ → Bool)
     (some-number : (s : S) (a : ℕ) → 1 ≤ length (numbers s a)) where
   abbrev project : ℕ → ℕ → List ℕ → S → Answer (List ℕ)
-  project = projectOver count step goal sourceNumber numbers opensAt
+  project = projectOver count step goal sourceNumber numbers deadEnd opensAt
 
   at-the-end : (most i : ℕ) (s : S) → project most i [] s ≡ cond (goal s) (given []) (refused 13 i)
   unfolding projectOver
@@ -37,7 +37,7 @@ module _ {S : Type 0} (count : ℕ) (step : S → ℕ → Option S) (goal : S �
       after bound a o = ifAny o (λ y. cond (eqb (agreeing (numbers s a) (k ∷ q)) (length (numbers s a)))
           (then (project bound (i + agreeing (numbers s a) (k ∷ q)) (drop (agreeing (numbers s a) (k ∷ q)) (k ∷ q)) y) (λ p. given (a ∷ p)))
           (strayedAfter count i (k ∷ q) (agreeing (numbers s a) (k ∷ q))))
-          (cond (opensAt s a) (intoMacro count (numbers s a) i (k ∷ q)) (refused 12 i))
+          (cond (opensAt s a) (intoMacro count (deadEnd s a) i (k ∷ q)) (refused 12 i))
 
       past : (a : ℕ) (y : S) (d : ℕ) (b : Bool) → eqb d (length (numbers s a)) ≡ b → ((j : ℕ) (rest : List ℕ) (s : S) → length rest ≤ most → length rest ≤ more → project most j rest s ≡ project more j rest s)
           → cond b (then (project most (i + d) (drop d (k ∷ q)) y) (λ p. given (a ∷ p))) (strayedAfter count i (k ∷ q) d) ≡ cond b (then (project more (i + d) (drop d (k ∷ q)) y) (λ p. given (a ∷ p))) (strayedAfter count i (k ∷ q) d)
@@ -56,5 +56,7 @@ module _ {S : Type 0} (count : ℕ) (step : S → ℕ → Option S) (goal : S �
 
 -- of a task
 pub any-bound-will-do : (t : SourceTask) (most i : ℕ) (q : List ℕ) (x : State) → length q ≤ most → projectFrom t most i q x ≡ projectFrom t (length q) i q x
-any-bound-will-do t most i q x l = bounds-agree (length (lowerTask t .actions)) (stepSource t) (sourceGoalHolds t) (sourceNumber (lowerBounds t) (upperBounds t) (t .actions)) (macroNumbers t) (opens t)
+any-bound-will-do t most i q x l =
+    bounds-agree (length (lowerTask t .actions)) (stepSource t) (sourceGoalHolds t) (sourceNumber (lowerBounds t) (upperBounds t) (t .actions))
+    (macroNumbers t) (deadEndNumbers t) (opens t)
     (λ s a. omega arith) most (length q) i q x l (omega arith)

@@ -1,77 +1,29 @@
--- The lowering over named variables meets the terms of following: which openings apply though the source action doesn't, and that the walk behind
--- such a one is the whole walk but its last step, Move's turn.
+-- The lowering over named variables meets the terms of following: which openings apply though the source action doesn't.
 -- Assumes nothing.
 use mathlib.Core.Path.{_≡_, refl, sym, ap, ap₂, _∙_, subst}
-use mathlib.Core.Logic.{_⊎_, inl, inr}
+use mathlib.Core.Logic.{inl, inr}
 use Prim.Native.Nat.{ℕ, zero, suc, _+_, _-_, _≤_, _<_}
 use native.Mathlib.Omega.{arith}
 use mathlib.Core.Bool.{_&&_, Bool, true, false, not, cond}
 use mathlib.Core.Option.{Option, none, some, Option·none-ne-some}
-use mathlib.Core.List.{List, [], _∷_, _++_, append-assoc, append-nil}
+use mathlib.Core.List.{List, [], _∷_, _++_}
 use lib.ListN.{length, length-append, getElem?}
 use lib.Dec.{T, eqb, eqb→eq, ltb, nltb→le}
 use lib.IntN.{ℤ, pos}
-use Rattle.model.specs.Systems.{bind, orEmpty}
+use Rattle.model.specs.Systems.{bind}
 use Rattle.model.specs.Tasks.{NumericCondition, Effect, noEffect, addEffect, linearEffect, quotientEffect, residueEffect, SourceAction}
 use Rattle.model.specs.Steps.{conditionsHold, modesHold, result, withinBounds}
-use Rattle.model.specs.Stages.{Name, NamedAction, Stage, turnPlace, drainTerms, stagesOf, addedBound, onSourceVariables, macro, lowerActions, macroSize, opening, sourceNumber, later, clear, move, helperA}
-use Rattle.model.specs.Expansion.{strokes, unitsIn, afterStrokes, afterStage, stageWalk, namedValues}
-use Rattle.model.specs.NamedSystems.{NamedState, NamedSource, applies, apply, tryNamed, stepNamed, conditionsMet, tryNamedSource, stepNamedSource, afterAction, atRest, passes, walkToDeadEnd, entered, stageSteps, deadEndSteps, priceAt}
+use Rattle.model.specs.Stages.{Name, NamedAction, stagesOf, addedBound, onSourceVariables, macro, lowerActions, macroSize, opening, sourceNumber, later}
+use Rattle.model.specs.Expansion.{namedValues}
+use Rattle.model.specs.NamedSystems.{NamedState, NamedSource, applies, apply, tryNamed, stepNamed, conditionsMet, tryNamedSource, stepNamedSource, afterAction, atRest, stageSteps, deadEndSteps, priceAt}
 use Rattle.model.specs.Following.{ifAny, makesMacro}
 use Rattle.model.proofs.Pairing.{bind-gives, none-not-some, some-injective}
 use Rattle.model.proofs.StageWalk.{Rest, and-intro, and-parts, provided-gives, provided-holds, applies-out, found-below-length}
-use Rattle.model.proofs.StageValues.{effect, moveTest, tests-agree, and-true}
+use Rattle.model.proofs.StageValues.{moveTest, tests-agree, and-true}
 use Rattle.model.proofs.StepBounds.{true-of}
 use Rattle.model.proofs.MacroPlace.{OpensOrOfAStage, opens-or-of-a-stage, macro-length, locate, no-opening-past-the-last}
 use Rattle.model.proofs.Outcomes.{Good, lowers, dst-step, source-conditions-lift}
 use Rattle.model.proofs.FollowingPlans.{Projects}
-
--- ---- only the last stage's turn has further conditions
-abbrev LastTested : List Stage → Type 0
-LastTested [] = Unit {0}
-LastTested (d ∷ ds) = ((d .turnConditions ≡ []) ⊎ (ds ≡ [])) × LastTested ds
-
-terms-tested : (ts : List (ℕ × ℤ)) (ds : List Stage) → LastTested ds → LastTested (drainTerms ts ds)
-terms-tested [] ds h = h
-terms-tested (t ∷ ts) ds h = (inl refl, (inl refl, terms-tested ts ds h))
-
-last-tested : (lo hi : ℕ → ℤ) (e : Effect) → LastTested (stagesOf lo hi e)
-last-tested lo hi noEffect = tt
-last-tested lo hi (addEffect t c) = tt
-last-tested lo hi (linearEffect t w ts) = terms-tested ts (clear t ∷ move t helperA (lo t) (hi t) ∷ []) (inl refl, (inr refl, tt))
-last-tested lo hi (quotientEffect t y c) = (inl refl, (inl refl, (inl refl, (inl refl, (inl refl, (inr refl, tt))))))
-last-tested lo hi (residueEffect t y c) = (inl refl, (inl refl, (inl refl, (inl refl, (inl refl, (inr refl, tt))))))
-
--- so the walk that hangs is the whole walk but the last turn
-all-but-the-last-turn : (b : ℕ) (ds : List Stage) (v : Name → ℤ) → LastTested ds → passes ds v ≡ false → (last : ℕ) × (stageWalk b ds v ≡ walkToDeadEnd b ds v ++ (last ∷ []))
-all-but-the-last-turn b [] v h n = absurd (subst T n tt)
-all-but-the-last-turn b (d ∷ ds) v (inl e, hs) n =
-    let (last, w) = all-but-the-last-turn (suc (b + turnPlace (d .kind))) ds (afterStage d v) hs (sym (ap (λ (c : Bool). c && passes ds (afterStage d v)) holds) ∙ n) in
-    (last, on last w)
-  where
-    holds : conditionsHold (d .turnConditions) (afterStrokes d v) ≡ true
-    holds = ap (λ (cs : List (NumericCondition Name)). conditionsHold cs (afterStrokes d v)) e
-
-    ks : List ℕ
-    ks = strokes b (unitsIn (d .kind) (v (d .counter)))
-
-    dead : List ℕ
-    dead = walkToDeadEnd (suc (b + turnPlace (d .kind))) ds (afterStage d v)
-
-    on : (last : ℕ) → stageWalk (suc (b + turnPlace (d .kind))) ds (afterStage d v) ≡ dead ++ (last ∷ [])
-        → stageWalk b (d ∷ ds) v ≡ walkToDeadEnd b (d ∷ ds) v ++ (last ∷ [])
-    on last w = ap (λ (l : List ℕ). ks ++ ((b + turnPlace (d .kind)) ∷ l)) w ∙ sym (append-assoc ks ((b + turnPlace (d .kind)) ∷ dead) (last ∷ []))
-        ∙ ap (λ (c : Bool). (ks ++ cond c ((b + turnPlace (d .kind)) ∷ dead) []) ++ (last ∷ [])) (sym holds)
-all-but-the-last-turn b (d ∷ ds) v (inr e, hs) n = (b + turnPlace (d .kind), go (conditionsHold (d .turnConditions) (afterStrokes d v)) (sym (ap (λ (l : List Stage). conditionsHold (d .turnConditions) (afterStrokes d v) && passes l (afterStage d v)) e) ∙ n))
-  where
-    ks : List ℕ
-    ks = strokes b (unitsIn (d .kind) (v (d .counter)))
-
-    go : (c : Bool) → (c && true) ≡ false
-        → ks ++ ((b + turnPlace (d .kind)) ∷ stageWalk (suc (b + turnPlace (d .kind))) ds (afterStage d v))
-        ≡ (ks ++ cond c ((b + turnPlace (d .kind)) ∷ walkToDeadEnd (suc (b + turnPlace (d .kind))) ds (afterStage d v)) []) ++ ((b + turnPlace (d .kind)) ∷ [])
-    go true q = absurd (subst T q tt)
-    go false q = ap (λ (l : List Stage). ks ++ ((b + turnPlace (d .kind)) ∷ stageWalk (suc (b + turnPlace (d .kind))) l (afterStage d v))) e ∙ ap (λ (l : List ℕ). l ++ ((b + turnPlace (d .kind)) ∷ [])) (sym (append-nil ks))
 
 module _ (lo hi : ℕ → ℤ) where
   -- a source number is that of an action's opening in R
@@ -118,9 +70,6 @@ module _ (lo hi : ℕ → ℤ) where
     abbrev pub opensNamed : NamedSource → ℕ → Bool
     opensNamed s k = ifAny (getElem? acts k) (λ a. makesMacro (a .effect) && conditionsMet a s) false
 
-    abbrev Hangs : NamedSource → ℕ → Type 0
-    Hangs s k = (opensNamed s k ≡ true) × (last : ℕ) × (stageSteps lo hi acts s k ≡ deadEndSteps lo hi acts s k ++ (last ∷ []))
-
     module _ (s : NamedSource) (g : Good lo hi s) (k : ℕ) where
       abbrev bound : SourceAction → Bool
       bound a = conditionsHold (addedBound lo hi (a .effect)) (namedValues (s .value) (pos 0) (pos 0))
@@ -137,20 +86,16 @@ module _ (lo hi : ℕ → ℤ) where
               (subst T (tests-agree lo hi (a .effect) (s .value) g) (and-intro (bound a) (moveTest lo hi (a .effect) (s .value)) b (subst T (sym q) tt))))))
           go false q = refl
 
-      opening-hangs : (y : NamedState) → stepNamedSource lo hi acts s k ≡ none → stepNamed R (atRest s) (opening lo hi acts k) ≡ some y → Hangs s k
+      opening-hangs : (y : NamedState) → stepNamedSource lo hi acts s k ≡ none → stepNamed R (atRest s) (opening lo hi acts k) ≡ some y → opensNamed s k ≡ true
       opening-hangs y n o = go (getElem? acts k) refl
         where
-          go : (r : Option SourceAction) → getElem? acts k ≡ r → Hangs s k
+          go : (r : Option SourceAction) → getElem? acts k ≡ r → opensNamed s k ≡ true
           go none e = absurd (none-not-some (ap (λ (o : Option NamedAction). bind o (tryNamed (atRest s))) (no-opening-past-the-last lo hi acts 1 k e)) o)
           go (some a) e =
               let (m, b) = and-parts (conditionsMet a s) (bound a) (provided-gives (conditionsMet a s && bound a) _ y (sym (dst-step lo hi acts s g k a e (locate lo hi acts 1 k a (omega arith) e)) ∙ o) .0) in
               let back : moveTest lo hi (a .effect) (s .value) ≡ false = turned-back a e m b n in
-              let (last, w) = all-but-the-last-turn (suc (opening lo hi acts k)) (stagesOf lo hi (a .effect)) (entered a s) (last-tested lo hi (a .effect)) (effect lo hi (a .effect) (s .value) .runs .passing ∙ back) in (
-                ap (λ (o : Option SourceAction). ifAny o (λ a. makesMacro (a .effect) && conditionsMet a s) false) e ∙ ap₂ _&&_ (turned-back-in-a-macro (a .effect) (s .value) back) (true-of (conditionsMet a s) m),
-                last,
-                ap (λ (o : Option SourceAction). orEmpty o (λ a. stageWalk (suc (opening lo hi acts k)) (stagesOf lo hi (a .effect)) (entered a s))) e ∙ w
-                    ∙ ap (λ (o : Option SourceAction). orEmpty o (λ a. walkToDeadEnd (suc (opening lo hi acts k)) (stagesOf lo hi (a .effect)) (entered a s)) ++ (last ∷ [])) (sym e),
-              )
+              ap (λ (o : Option SourceAction). ifAny o (λ a. makesMacro (a .effect) && conditionsMet a s) false) e
+              ∙ ap₂ _&&_ (turned-back-in-a-macro (a .effect) (s .value) back) (true-of (conditionsMet a s) m)
 
       opening-shut : ((y : NamedState) → ¬ (stepNamed R (atRest s) (opening lo hi acts k) ≡ some y)) → opensNamed s k ≡ false
       opening-shut off = go (getElem? acts k) refl

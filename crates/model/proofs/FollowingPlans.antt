@@ -1,5 +1,5 @@
--- Wherever each source step becomes one forced walk from rest, or hangs before that walk's last step: judging a restricted plan and keeping its
--- source numbers is comparing the plan, source step by source step, with the walks.
+-- Wherever each source step becomes one forced walk from rest, to rest or to a dead end: judging a restricted plan and keeping its source numbers
+-- is comparing the plan, source step by source step, with the walks.
 -- Assumes nothing.
 use mathlib.Core.Path.{_≡_, refl, sym, ap, ap₂, _∙_, subst}
 use mathlib.Core.Logic.{inl, inr}
@@ -18,7 +18,7 @@ use Rattle.model.specs.Walks.{Forced, Stuck, Outcome, notOpened, hangs, 
 use Rattle.model.specs.Judging.{judge}
 use Rattle.model.specs.Following.{agreeing, ifAny, strayed, strayedAfter, pastMacro, intoMacro, projectOver}
 use Rattle.model.proofs.Pairing.{none-not-some, keep-quiet}
-use Rattle.model.proofs.FollowingWalks.{agreeing-whole, agreeing-few, agreeing-first, agreeing-but-last, next-place, then-made, judgedAs, strays, judge-step, judge-along, judge-leaves}
+use Rattle.model.proofs.FollowingWalks.{agreeing-whole, agreeing-few, agreeing-first, next-place, then-made, judgedAs, strays, judge-step, judge-along, judge-leaves}
 
 module _ {S X : Type 0} (sourceStep : S → ℕ → Option S) (step : X → ℕ → Option X) (Rest : X → Type 0) (atRest : S → X) (Good : S → Type 0)
     (opening : ℕ → ℕ) (sourceNumber : ℕ → Option ℕ) (stageSteps : S → ℕ → List ℕ) (price : S → ℕ → ℕ) (deadEnd : S → ℕ → List ℕ)
@@ -32,16 +32,19 @@ module _ {S X : Type 0} (sourceStep : S → ℕ → Option S) (step : X → ℕ 
     -- what applies at rest has a source number, and is that action's opening
     pub fromRest : (s : S) (k : ℕ) (y : X) → step (atRest s) k ≡ some y → (a : ℕ) × (sourceNumber k ≡ some a)
     pub numbers : (k a : ℕ) → sourceNumber k ≡ some a → (opening a ≡ k) × (k < count)
-    -- `opens` says, of an action that doesn't apply, whether its opening does; the walk behind it then lacks its last step
-    pub hanging : (s : S) → Good s → (a : ℕ) (y : X) → sourceStep s a ≡ none → step (atRest s) (opening a) ≡ some y → (opens s a ≡ true) × (last : ℕ) × (stageSteps s a ≡ deadEnd s a ++ (last ∷ []))
+    -- `opens` says, of an action that doesn't apply, whether its opening does
+    pub hanging : (s : S) → Good s → (a : ℕ) (y : X) → sourceStep s a ≡ none → step (atRest s) (opening a) ≡ some y → opens s a ≡ true
     pub unopened : (s : S) → Good s → (a : ℕ) → ((y : X) → ¬ (step (atRest s) (opening a) ≡ some y)) → opens s a ≡ false
 
   module _ (P : Projects) where
     abbrev numbersOf : S → ℕ → List ℕ
     numbersOf s a = opening a ∷ stageSteps s a
 
+    abbrev deadEndOf : S → ℕ → List ℕ
+    deadEndOf s a = opening a ∷ deadEnd s a
+
     abbrev projected : ℕ → ℕ → List ℕ → S → Answer (List ℕ)
-    projected = projectOver count sourceStep sourceGoal sourceNumber numbersOf opens
+    projected = projectOver count sourceStep sourceGoal sourceNumber numbersOf deadEndOf opens
 
     abbrev kept : List ℕ → ℕ → List ℕ → X → Answer (List ℕ)
     kept = judgedAs count step goal
@@ -51,7 +54,8 @@ module _ {S X : Type 0} (sourceStep : S → ℕ → Option S) (step : X → ℕ 
     onward most a y j rest = then (projected most j rest y) (λ p. given (a ∷ p))
 
     abbrev answer : S → ℕ → ℕ → ℕ → List ℕ → ℕ → Option S → Answer (List ℕ)
-    answer s most i k q a o = ifAny o (λ y. pastMacro count (numbersOf s a) i (k ∷ q) (onward most a y)) (cond (opens s a) (intoMacro count (numbersOf s a) i (k ∷ q)) (refused 12 i))
+    answer s most i k q a o =
+        ifAny o (λ y. pastMacro count (numbersOf s a) i (k ∷ q) (onward most a y)) (cond (opens s a) (intoMacro count (deadEndOf s a) i (k ∷ q)) (refused 12 i))
 
     module _ (s : S) (g : Good s) (most i k : ℕ) (q : List ℕ) (a : ℕ) (number-of-k : sourceNumber k ≡ some a) where
       opened : (c : List ℕ) (y : X) → step (atRest s) (opening a) ≡ some y → kept c i (k ∷ q) (atRest s) ≡ kept c (suc i) q y
@@ -62,13 +66,11 @@ module _ {S X : Type 0} (sourceStep : S → ℕ → Option S) (step : X → ℕ 
           ∙ rw (lt-ltb k count (P .numbers k a number-of-k .1), n, P .unopened s g a off) refl
 
       hung : (c : List ℕ) (y z : X) → sourceStep s a ≡ none → step (atRest s) (opening a) ≡ some y → Forced step Rest y (deadEnd s a) z → Stuck step Rest z → kept c i (k ∷ q) (atRest s) ≡ answer s most i k q a (sourceStep s a)
-      hung c y z n e f st = let (o, last, w) = P .hanging s g a y n e in go o last w
-        where
-          go : opens s a ≡ true → (last : ℕ) → stageSteps s a ≡ deadEnd s a ++ (last ∷ []) → kept c i (k ∷ q) (atRest s) ≡ answer s most i k q a (sourceStep s a)
-          go o last w = opened c y e ∙ judge-leaves count step goal Rest (P .counted) (P .goalRests) c (deadEnd s a) q (suc i) y z f (inr st)
-              ∙ ap (λ (j : ℕ). strayed count j (drop (agreeing (deadEnd s a) q) q)) (next-place i (agreeing (deadEnd s a) q))
-              ∙ sym (ap (answer s most i k q a) n ∙ ap (λ (b : Bool). cond b (intoMacro count (numbersOf s a) i (k ∷ q)) (refused 12 i)) o ∙ ap (λ (ks : List ℕ). intoMacro count (opening a ∷ ks) i (k ∷ q)) w
-              ∙ ap (strayedAfter count i (k ∷ q)) (agreeing-but-last (opening a) k (deadEnd s a) q last (P .numbers k a number-of-k .0)))
+      hung c y z n e f st = opened c y e ∙ judge-leaves count step goal Rest (P .counted) (P .goalRests) c (deadEnd s a) q (suc i) y z f (inr st)
+          ∙ ap (λ (j : ℕ). strayed count j (drop (agreeing (deadEnd s a) q) q)) (next-place i (agreeing (deadEnd s a) q))
+          ∙ sym (ap (answer s most i k q a) n
+          ∙ ap (λ (b : Bool). cond b (intoMacro count (deadEndOf s a) i (k ∷ q)) (refused 12 i)) (P .hanging s g a y n e)
+          ∙ ap (strayedAfter count i (k ∷ q)) (agreeing-first (opening a) k (deadEnd s a) q (P .numbers k a number-of-k .0)))
 
       completed : (s′ : S) (y : X) → sourceStep s a ≡ some s′ → Good s′ → step (atRest s) (opening a) ≡ some y → Forced step Rest y (stageSteps s a) (atRest s′) → All (λ (n : ℕ). sourceNumber n ≡ none) (stageSteps s a) → length q ≤ most
           → ((j : ℕ) (rest : List ℕ) → length rest ≤ most → kept (keep sourceNumber rest) j rest (atRest s′) ≡ projected most j rest s′) → kept (keep sourceNumber (k ∷ q)) i (k ∷ q) (atRest s) ≡ answer s most i k q a (sourceStep s a)

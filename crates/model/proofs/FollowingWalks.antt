@@ -8,7 +8,7 @@ use native.Mathlib.Omega.{arith}
 use mathlib.Core.Bool.{Bool, true, false, cond}
 use mathlib.Core.Option.{Option, none, some}
 use mathlib.Core.List.{List, [], _∷_, _++_}
-use lib.ListN.{length, length-append, drop}
+use lib.ListN.{length, drop}
 use lib.Dec.{T, eqb, eqb→eq, eqb-refl, ltb}
 use borrow.Author.Tests.{lt-ltb, eq-eqb}
 use Rattle.lists.specs.Answer.{Answer, given, refused, then}
@@ -70,11 +70,6 @@ agreeing-short ks ls q l = omega (arith, agreeing-front ks ls q)
 -- a first number that is the plan's
 pub agreeing-first : (n k : ℕ) (ks q : List ℕ) → n ≡ k → agreeing (n ∷ ks) (k ∷ q) ≡ suc (agreeing ks q)
 agreeing-first n k ks q e = ap (λ (b : Bool). cond b (suc (agreeing ks q)) zero) (eq-eqb n k e)
-
--- all but the last
-pub agreeing-but-last : (n k : ℕ) (ks q : List ℕ) (last : ℕ) → n ≡ k → min (agreeing (n ∷ (ks ++ (last ∷ []))) (k ∷ q)) (suc (length (ks ++ (last ∷ []))) - 1) ≡ suc (agreeing ks q)
-agreeing-but-last n k ks q last e = ap (λ (d : ℕ). min d (suc (length (ks ++ (last ∷ []))) - 1)) (agreeing-first n k (ks ++ (last ∷ [])) q e)
-    ∙ omega (arith, length-append ks (last ∷ []), agreeing-front ks (last ∷ []) q)
 
 -- the place after d steps more
 pub next-place : (i d : ℕ) → suc i + d ≡ i + suc d

@@ -15,20 +15,13 @@ use lib.IntN.{ℤ, pos, negsuc}
 use lib.Signed.{leZ}
 use Rattle.integers.specs.All.{All}
 use Rattle.integers.proofs.Parts.{ints}
-use Rattle.lists.specs.Answer.{Answer, given, then}
-use Rattle.model.specs.Tasks.{SourceAction, RestrictedAction, SourceTask, RestrictedTask, State}
+use Rattle.model.specs.Tasks.{SourceAction, RestrictedAction, SourceTask, State}
 use Rattle.model.specs.Steps.{integerAt, naturalAt, modesHold, conditionsHold, appliesRestricted, applyRestricted, tryRestricted, restrictedStep, soundRestricted, sizesOf, lowerBounds, upperBounds, stepRestricted}
 use Rattle.model.specs.Stages.{NamedAction, Stage, leftOver, falling, rising, turn, stageActions, firstStage, stagesActions, stagesOf, openingAction, lowerActions}
-use Rattle.model.specs.Lowering.{numberOfName, numberedConditions, numbered, numberedAll, lowerTask, lowerFile}
-use Rattle.model.specs.Decoding.{readSource, readRestricted}
-use Rattle.model.specs.Judging.{lowerBytes}
+use Rattle.model.specs.Lowering.{numberOfName, numberedConditions, numbered, numberedAll, lowerTask}
 use Rattle.model.proofs.Pairing.{bind-gives, some-injective}
 use Rattle.model.proofs.StageWalk.{and-parts, provided-gives, all-app, all-map, all-get, stages-from, stages-under}
 use Rattle.model.proofs.MacroPlace.{lower-past}
-use Rattle.model.proofs.Answers.{given-injective}
-use Rattle.model.proofs.ReadsBack.{reads-back}
-use Rattle.model.proofs.LoweredOk.{lowered-task-ok}
-use Rattle.model.proofs.AcceptedOk.{accepted-source-ok}
 
 -- ---- at most one element of a list has P
 abbrev AtMostOne : {A : Type 0} → (A → Type 0) → List A → Type 0
@@ -156,13 +149,3 @@ module _ (t : SourceTask) where
 
       m : ℕ
       m = length (t .modes)
-
--- the same of the task that the restricted reader finds in the file that the lowering writes
-pub at-most-one-action-of-the-lowered-file-applies : (file lowered : List ℕ) (t : SourceTask) (r : RestrictedTask) → readSource file ≡ given t → lowerBytes file ≡ given lowered → readRestricted lowered ≡ given r
-    → (x : State) → ¬ (naturalAt (x .modes) (length (t .modes)) ≡ 0) → (j k : ℕ) (y z : State) → stepRestricted r x j ≡ some y → stepRestricted r x k ≡ some z → j ≡ k
-at-most-one-action-of-the-lowered-file-applies file lowered t r e l h = subst
-    (λ (u : RestrictedTask). (x : State) → ¬ (naturalAt (x .modes) (length (t .modes)) ≡ 0) → (j k : ℕ) (y z : State) → stepRestricted u x j ≡ some y → stepRestricted u x k ≡ some z → j ≡ k)
-    (given-injective (sym (reads-back (lowerTask t) (lowered-task-ok t (accepted-source-ok file t e))) ∙ ap readRestricted written ∙ h)) (at-most-one-action-applies t)
-  where
-    written : lowerFile t ≡ lowered
-    written = given-injective (sym (ap (λ (a : Answer SourceTask). then a (λ t. given (lowerFile t))) e) ∙ l)

@@ -1,4 +1,4 @@
--- Demand 3 over lists and numbers, with the tests on states that the judges make.
+-- A source run keeps within its bounds, its modes below their sizes: the tests on states that the judges make hold of it.
 -- Assumes nothing.
 use mathlib.Core.Path.{_≡_, refl, sym, ap₂, _∙_, subst}
 use Prim.Native.Nat.{ℕ, _+_, _<_}
@@ -8,22 +8,18 @@ use mathlib.Core.List.{List}
 use lib.ListN.{length, getElem?}
 use lib.IntN.{ℤ}
 use Rattle.integers.specs.All.{All}
-use Rattle.model.specs.Systems.{guarded}
-use Rattle.model.specs.Walks.{Pairing, Outcome, notOpened, hangs, completes}
-use Rattle.model.specs.Tasks.{NumericCondition, SourceAction, State, RestrictedAction}
+use Rattle.model.specs.Walks.{Outcome, notOpened, hangs, completes}
+use Rattle.model.specs.Tasks.{SourceAction, State}
 use Rattle.model.specs.NamedSystems.{conditionsMet, NamedSource, stepNamedSource, stepNamed, atRest, stageSteps, priceAt, byName, deadEndSteps}
-use Rattle.model.specs.Steps.{result, withinBounds, integerAt, naturalAt, setAll, restrictedStep, putResult, trySource, sourceStep, soundSource, soundRestricted}
+use Rattle.model.specs.Steps.{result, withinBounds, integerAt, naturalAt, setAll, putResult, trySource, sourceStep, soundSource}
 use Rattle.model.specs.Stages.{lowerActions, opening, sourceNumber}
-use Rattle.model.specs.Lowering.{helpersAtRest, loweredActions}
-use Rattle.model.specs.InTask.{ActionIn, SourceGoal, LoweredGoal}
-use Rattle.model.specs.Expansion.{stageStepsFrom, priceFrom}
-use Rattle.model.specs.TaskOk.{ValuesIn, ConditionIn}
+use Rattle.model.specs.InTask.{ActionIn}
+use Rattle.model.specs.TaskOk.{ValuesIn}
 use Rattle.model.proofs.Pairing.{bind-gives, none-not-some, some-unique}
 use Rattle.model.proofs.StageWalk.{provided-gives, all-get, Rest}
 use Rattle.model.proofs.Outcomes.{Good, lowers}
-use Rattle.model.proofs.NumberedPairing.{agree-left, SourceAgrees, source-steps-agree, numbered-plans-pair-off}
-use Rattle.model.proofs.StepBounds.{AddsIn, Below, modes-in, set-below, values-in-bounds, WithinAfter, within-is-sound, step-within}
-use Rattle.model.proofs.Guards.{pairing-guarded}
+use Rattle.model.proofs.NumberedPairing.{agree-left, SourceAgrees, source-steps-agree}
+use Rattle.model.proofs.StepBounds.{Below, modes-in, set-below, values-in-bounds}
 
 -- ---- a source run, of a task with n variables and m modes of the sizes
 abbrev pub WithinBounds : ℕ → ℕ → (ℕ → ℤ) → (ℕ → ℤ) → List ℕ → State → Type 0
@@ -51,14 +47,3 @@ module _ (n m : ℕ) (lo hi : ℕ → ℤ) (acts : List SourceAction) (acts-in :
           go act s q = subst (λ (z : State). Below sizes (z .modes))
               (provided-gives (((conditionsMet act (byName x)) && (withinBounds lo hi (result (act .effect) (integerAt (x .values)))))) (record { values = putResult (result (act .effect) (integerAt (x .values))) (x .values); modes = setAll (act .modeEffects) (x .modes) }) y q .1)
               (set-below (act .modeEffects) sizes (x .modes) (subst (λ (c : ℕ). All (λ (e : ℕ × ℕ). (e .0 < c) × (e .1 < naturalAt sizes (e .0))) (act .modeEffects)) (sizes-m ∙ sym b) s) h)
-
-  -- DEMAND 3
-  pub guarded-plans-pair-off : (lowered-sizes : List ℕ) → All (AddsIn (n + 2) 1_000_000_000) (loweredActions n m lo hi acts) → All (λ (a : RestrictedAction). ValuesIn lowered-sizes (a .modeEffects)) (loweredActions n m lo hi acts)
-      → (gp : List (ℕ × ℕ)) (gc : List (NumericCondition ℕ)) → All (λ (p : ℕ × ℕ). p .0 < m) gp → All (ConditionIn n) gc
-      → (X₀ : State) → WithinBounds n m lo hi sizes X₀ → WithinAfter (n + 2) lowered-sizes 0 (helpersAtRest X₀)
-      → Pairing (guarded (soundSource lo hi sizes) (sourceStep lo hi acts)) (guarded (soundRestricted lowered-sizes) (restrictedStep (loweredActions n m lo hi acts))) helpersAtRest (opening lo hi acts) (sourceNumber lo hi acts)
-      (stageStepsFrom lo hi acts) (priceFrom acts) X₀ (SourceGoal gp gc) (LoweredGoal m gp gc) 1_000_000
-  guarded-plans-pair-off lowered-sizes addsR setsR gp gc gpIn gcIn X₀ iT iR = pairing-guarded (sourceStep lo hi acts) (restrictedStep (loweredActions n m lo hi acts)) helpersAtRest (opening lo hi acts) (sourceNumber lo hi acts) (stageStepsFrom lo hi acts) (priceFrom acts)
-      X₀ (SourceGoal gp gc) (LoweredGoal m gp gc) 1_000_000 (soundSource lo hi sizes) (WithinBounds n m lo hi sizes) step-within-bounds (within-bounds-is-sound n m lo hi sizes) iT
-      (soundRestricted lowered-sizes) (WithinAfter (n + 2) lowered-sizes) (step-within (n + 2) lowered-sizes (loweredActions n m lo hi acts) addsR setsR) (within-is-sound (n + 2) lowered-sizes) iR
-      (numbered-plans-pair-off n m lo hi acts acts-in gp gc gpIn gcIn X₀ (iT .0) (iT .1) (iT .2))

@@ -12,7 +12,8 @@ use lib.Dec.{T, eqb, ltb, ltb→lt, nltb→le}
 use lib.IntN.{ℤ}
 use borrow.Author.Tests.{lt-ltb, le-ltb, eq-eqb, ne-eqb}
 use Rattle.integers.specs.All.{All}
-use Rattle.integers.specs.Numbers.{Bytes}
+use Rattle.integers.specs.Numbers.{Bytes, bytesOf}
+use Rattle.integers.proofs.Numbers.{bytes-small}
 use Rattle.lists.specs.Answer.{Answer, given, refused}
 use Rattle.lists.proofs.Numbers.{length-numbers, halves-numbers, numbers-halves}
 use Rattle.model.specs.Tasks.{SourceAction, RestrictedAction, State}
@@ -21,7 +22,7 @@ use Rattle.model.specs.Steps.{trySource, tryRestricted, sourceStep, rest
 use Rattle.model.specs.Plans.{planBytes, planNumbers, readPlan}
 use Rattle.model.specs.Judging.{ifApplies, judge, ifGoesOn, pricesFrom}
 use Rattle.model.proofs.Pairing.{bind-gives, some-injective}
-use Rattle.model.proofs.StageWalk.{found-below-length}
+use Rattle.model.proofs.StageWalk.{all-app, found-below-length}
 use Rattle.model.proofs.Answers.{Gives, given-injective}
 
 -- ---- judging is running, with numbers of actions, and a goal at the end
@@ -113,6 +114,20 @@ plan-reads-back p h f =
   where
     even : length (planBytes p) % 2 ≡ 1 → ⊥
     even e = omega (arith, e, length-numbers 2 p)
+
+pub plan-is-bytes : (p : List ℕ) → Bytes (planBytes p)
+plan-is-bytes [] = tt
+plan-is-bytes (k ∷ p) = all-app (λ (b : ℕ). b < 256) (bytesOf 2 k) (planBytes p) (bytes-small 2 k) (plan-is-bytes p)
+
+-- what is read are the bytes' numbers
+pub read-numbers : (s p : List ℕ) → readPlan s ≡ given p → p ≡ planNumbers s
+unfolding readPlan
+read-numbers s p e = go (eqb (length s % 2) 1) (ltb 2_000_000 (length s)) e
+  where
+    go : (a b : Bool) → cond a (refused 10 (length s)) (cond b (refused 10 (length s)) (given (planNumbers s))) ≡ given p → p ≡ planNumbers s
+    go true b e = absurd (subst Gives (sym e) tt)
+    go false true e = absurd (subst Gives (sym e) tt)
+    go false false e = sym (given-injective e)
 
 -- a plan's bytes that are read: the bytes again, and the length
 pub plan-read : (s : List ℕ) (p : List ℕ) → Bytes s → readPlan s ≡ given p → (planBytes p ≡ s) × (length p ≤ 1_000_000)

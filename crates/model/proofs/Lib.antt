@@ -7,7 +7,9 @@ pub mod ActionsAndGoal
 pub mod Answers
 pub mod Arrays
 pub mod Claim
+pub mod CommandFacts
 pub mod CommandsOk
+pub mod DeadEnd
 pub mod EncodedActions
 pub mod Figure
 pub mod FileBytes
@@ -24,6 +26,7 @@ pub mod GuardedPairing
 pub mod Guards
 pub mod JudgedPlans
 pub mod LoweredOk
+pub mod LoweredPairing
 pub mod MacroPlace
 pub mod NamedPairing
 pub mod NumberedPairing
@@ -31,6 +34,7 @@ pub mod Outcomes
 pub mod Pairing
 pub mod ReadingLaws
 pub mod ReadsBack
+pub mod Runs
 pub mod StageValues
 pub mod StageWalk
 pub mod StagesOk

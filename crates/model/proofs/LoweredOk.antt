@@ -5,8 +5,8 @@ use Prim.Native.Nat.{ℕ, suc, _+_, _≤_, _<_}
 use native.Mathlib.Omega.{arith}
 use mathlib.Core.Bool.{Bool, true, false, cond}
 use mathlib.Core.Option.{none, some, Option·none-ne-some}
-use mathlib.Core.List.{List, [], _∷_, _++_}
-use lib.ListN.{length, length-append}
+use mathlib.Core.List.{List, [], _∷_, _++_, map}
+use lib.ListN.{length, length-append, length-map}
 use lib.Dec.{eqb}
 use lib.IntN.{ℤ, pos}
 use borrow.Author.Tests.{ne-eqb}
@@ -17,13 +17,12 @@ use Rattle.model.specs.Steps.{naturalAt, sizesOf, lowerBounds, upperBoun
 use Rattle.model.specs.Lowering.{numberedConditions, numberedAdditions, numbered, numberedAll, lowerTask, numberedMeasure}
 use Rattle.model.specs.InTask.{NameIn, MeasureIn}
 use Rattle.model.specs.Limits.{sourceLimits, restrictedLimits}
-use Rattle.model.specs.Decoding.{each}
 use Rattle.model.specs.TaskOk.{Distinct, keys, ValuesIn, InRange, Factor, AmountOk, ModeOk, ConditionIn, ConditionOk, ConditionsOk, SourceVariableOk, SourceTaskOk, RestrictedActionOk, RestrictedTaskOk}
 use Rattle.model.proofs.StageWalk.{all-app, all-map}
 use Rattle.model.proofs.NumberedPairing.{NamedActionIn, lower-in}
 use Rattle.model.proofs.StepBounds.{additionAt, AdditionsOnce}
 use Rattle.model.proofs.AcceptedPairing.{sets-more, at-end, num-room, num-once}
-use Rattle.model.proofs.ReadingLaws.{length-each, length-keys}
+use Rattle.model.proofs.ReadingLaws.{length-keys}
 use Rattle.model.proofs.AcceptedSource.{accepted, lower-up, upper-up, start-in}
 use Rattle.model.proofs.StagesOk.{RowOk, lower-ok, stages-count, lower-length}
 
@@ -128,7 +127,7 @@ keys-app : (xs ys : List (ℕ × ℕ)) → keys (xs ++ ys) ≡ keys xs ++ keys y
 keys-app [] ys = refl
 keys-app (x ∷ xs) ys = ap (λ (z : List ℕ). x .0 ∷ z) (keys-app xs ys)
 
-starts-in : (vs : List SourceVariable) → All (SourceVariableOk sourceLimits) vs → All (InRange restrictedLimits) (each (λ (b : SourceVariable). b .start) vs ++ (pos 0 ∷ pos 0 ∷ []))
+starts-in : (vs : List SourceVariable) → All (SourceVariableOk sourceLimits) vs → All (InRange restrictedLimits) (map (λ (b : SourceVariable). b .start) vs ++ (pos 0 ∷ pos 0 ∷ []))
 starts-in [] h = (omega arith, (omega arith, tt))
 starts-in (b ∷ vs) (h, hs) = (start-in b h, starts-in vs hs)
 
@@ -138,7 +137,7 @@ module _ (t : SourceTask) (S : SourceTaskOk t) where
   stage-few = omega (arith, stages-count (lowerBounds t) (upperBounds t) (lower-up (t .variables) (S .variablesIn)) (upper-up (t .variables) (S .variablesIn)) (length (t .variables)) (sizesOf (t .modes)) (t .actions) (S .actionsOk), S .actionsFew)
 
   nStarts : length (lowerTask t .starts) ≡ length (t .variables) + 2
-  nStarts = length-append (sourceStart t .values) (pos 0 ∷ pos 0 ∷ []) ∙ ap (λ (k : ℕ). k + 2) (length-each (λ (b : SourceVariable). b .start) (t .variables))
+  nStarts = length-append (sourceStart t .values) (pos 0 ∷ pos 0 ∷ []) ∙ ap (λ (k : ℕ). k + 2) (length-map (t .variables) (λ (b : SourceVariable). b .start))
 
   pub lowered-sizes : sizesOf (lowerTask t .modes) ≡ sizesOf (t .modes) ++ (suc (stageCount (lowerBounds t) (upperBounds t) (t .actions)) ∷ [])
   lowered-sizes = keys-app (t .modes) ((suc (stageCount (lowerBounds t) (upperBounds t) (t .actions)), 0) ∷ [])

@@ -15,8 +15,8 @@ use Rattle.integers.specs.All.{All}
 use Rattle.model.specs.Steps.{conditionsHold}
 use Rattle.model.specs.Stages.{Name, NamedAction, Stage, firstStage, stageActions, turnPlace, stagesActions, countActions, stagesOf, macro, lowerActions, macroSize, opening, sourceNumber, later}
 use Rattle.model.specs.Tasks.{SourceAction}
-use Rattle.model.specs.Expansion.{strokes, unitsIn, afterStrokes, afterStage, stageWalk}
-use Rattle.model.specs.NamedSystems.{walkToDeadEnd, stagesPrice, priceToDeadEnd}
+use Rattle.model.specs.Expansion.{strokes, unitsIn, afterStrokes, afterStage, stageWalk, walkToDeadEnd}
+use Rattle.model.specs.NamedSystems.{stagesPrice, priceToDeadEnd}
 use Rattle.model.proofs.Pairing.{some-injective}
 use Rattle.model.proofs.StageWalk.{body-length, stage-length, Under, Past, stages-from, stages-past, stages-under, under-mono, past-mono, all-app, all-map, all-get, get-split, get-past, found-below-length}
 

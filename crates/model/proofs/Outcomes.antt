@@ -18,9 +18,9 @@ use Rattle.model.specs.Walks.{Forced, Stuck, Outcome, notOpened, hangs, 
 use Rattle.model.specs.Tasks.{Measured, variable, weightedSum, NumericCondition, SourceAction}
 use Rattle.model.specs.Steps.{weigh, measure, conditionsHold, modesHold, result, withinBounds}
 use Rattle.integers.specs.Relation.{related}
-use Rattle.model.specs.NamedSystems.{setModes, NamedState, applies, apply, tryNamed, stepNamed, NamedSource, store, conditionsMet, tryNamedSource, stepNamedSource, walkToDeadEnd, atRest, priceToDeadEnd, entered, stageSteps, priceAt, deadEndSteps, deadEndPrice, afterAction}
+use Rattle.model.specs.NamedSystems.{setModes, NamedState, applies, apply, tryNamed, stepNamed, NamedSource, store, conditionsMet, tryNamedSource, stepNamedSource, atRest, priceToDeadEnd, entered, stageSteps, priceAt, deadEndSteps, deadEndPrice, afterAction}
 use Rattle.model.specs.Stages.{Name, NamedAction, Stage, stagesActions, firstStage, stagesOf, addedBound, onSourceTerms, onSource, onSourceVariables, openingAction, macro, lowerActions, opening, sourceNumber, countActions}
-use Rattle.model.specs.Expansion.{stageWalk, namedValues, priceOfEffect}
+use Rattle.model.specs.Expansion.{stageWalk, walkToDeadEnd, namedValues, priceOfEffect}
 use Rattle.model.proofs.Pairing.{bind-gives, none-not-some, some-unique}
 use Rattle.model.proofs.StageWalk.{and-intro, and-parts, provided-gives, provided-holds, applies-out, Rest, at, Under, all-app, all-map, get-past, stages-walked, stages-hang}
 use Rattle.model.proofs.StageValues.{EffectWalk, effect, tests-agree, moveTest, all-fine}

@@ -6,13 +6,12 @@ use Prim.Native.Nat.{ℕ, zero, suc, _+_, _≤_, _<_}
 use native.Mathlib.Omega.{arith}
 use mathlib.Core.Bool.{Bool, true, false, cond, not}
 use mathlib.Core.List.{List, [], _∷_, _++_}
-use lib.ListN.{length, length-append, length-set, getD, set, replicate}
+use lib.ListN.{length, length-append, length-set, getD, set, replicate, length-map}
 use lib.Dec.{T, eqb, leb, ltb, nleb→lt, nltb→le, eqb·zero-suc, eqb·suc-zero, eqb·suc-suc}
 use borrow.Author.Tests.{eq-eqb, ne-eqb}
 use Rattle.integers.specs.All.{All}
 use Rattle.model.specs.Steps.{naturalAt}
 use Rattle.model.specs.ReadingState.{ReadingState, Taken, Progress, Going, Ended, Stopped, rule, stop, withMode}
-use Rattle.model.specs.Decoding.{each}
 use Rattle.model.specs.TaskOk.{keys}
 use Rattle.model.proofs.Arrays.{get-set}
 
@@ -66,7 +65,7 @@ pub record Declared (n : ℕ) (sizes : List ℕ) (count modes : ℕ) (known : Li
   pub sized : (j : ℕ) → naturalAt known j ≡ naturalAt sizes j
 
 abbrev pub Core : ℕ → List ℕ → ReadingState → Type 0
-Core n sizes p = Declared n sizes (p .variables) (p .modes) (p .sizes)
+Core n sizes p = Declared n sizes (p .declared .variables) (p .declared .modes) (p .declared .sizes)
 
 get-snoc : (known : List ℕ) (z j : ℕ) → naturalAt (known ++ (z ∷ [])) j ≡ cond (eqb (length known) j) z (naturalAt known j)
 get-snoc [] z zero = refl
@@ -78,8 +77,8 @@ pub core-mode : (n : ℕ) (sizes : List ℕ) (p : ReadingState) (z : ℕ) → le
 core-mode n sizes p z h c = record {
   variables = c .variables;
   mods = ap (λ (k : ℕ). k + 1) (c .mods) ∙ sym (length-append sizes (z ∷ []));
-  lengths = length-set (p .sizes) (p .modes) z ∙ c .lengths;
-  sized = λ j. get-set (p .sizes) (p .modes) j z 0 (omega (arith, h, c .mods, c .lengths)) ∙ ap₂ (λ (m x : ℕ). cond (eqb m j) z x) (c .mods) (c .sized j) ∙ sym (get-snoc sizes z j);
+  lengths = length-set (p .declared .sizes) (p .declared .modes) z ∙ c .lengths;
+  sized = λ j. get-set (p .declared .sizes) (p .declared .modes) j z 0 (omega (arith, h, c .mods, c .lengths)) ∙ ap₂ (λ (m x : ℕ). cond (eqb m j) z x) (c .mods) (c .sized j) ∙ sym (get-snoc sizes z j);
 }
 
 -- ---- marks: what a mark changes, of the numbers that are not marked
@@ -111,9 +110,5 @@ unset marks k h (j ∷ ks) (f, fs) = let (a, b) = unset marks k h ks fs in let (
     one false s e = (e, flip j k s)
 
 -- ---- lengths
-pub length-each : {A B : Type 0} (f : A → B) (xs : List A) → length (each f xs) ≡ length xs
-length-each f [] = refl
-length-each f (x ∷ xs) = ap suc (length-each f xs)
-
 pub length-keys : {A : Type 0} (es : List (ℕ × A)) → length (keys es) ≡ length es
-length-keys es = length-each (λ e. e .0) es
+length-keys es = length-map es (λ e. e .0)

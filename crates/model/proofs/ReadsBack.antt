@@ -3,28 +3,32 @@
 use mathlib.Core.Path.{_≡_, refl, ap, ap₂, _∙_}
 use Prim.Native.Nat.{ℕ, zero, suc, _^_, _≤_, _<_}
 use native.Mathlib.Omega.{arith}
-use mathlib.Core.List.{List, [], _∷_, _++_, append-nil}
-use lib.ListN.{length}
+use mathlib.Core.List.{List, [], _∷_, _++_, map}
+use mathlib.Core.Bool.{false}
+use lib.Dec.{eqb}
+use lib.ListN.{length, getD}
 use lib.IntN.{ℤ}
 use Rattle.integers.specs.All.{All}
 use Rattle.integers.specs.Relation.{Relation, below, atMost, atLeast, above, relationOf, relationNumber}
 use Rattle.integers.specs.Numbers.{bitsOf}
 use Rattle.commands.specs.declared.Command.{Command}
-use Rattle.commands.specs.declared.Command.the-variants.{Action, Condition, Add, Goal, End}
+use Rattle.commands.specs.declared.Command.the-variants.{Goal, End}
 use Rattle.lists.specs.Answer.{given}
+use Rattle.commands.specs.Table.{letterU, letterM, letterA, letterC, letterP, letterE, plusSign, letterG}
 use Rattle.commands.specs.Encoding.{InWidths, encode, encodeAll, Fits}
 use Rattle.integers.proofs.Numbers.{bits-fit}
-use Rattle.model.specs.Tasks.{NumericCondition, Effect, noEffect, addEffect, RestrictedAction, RestrictedTask, Measured, variable, weightedSum}
+use Rattle.model.specs.Tasks.{NumericCondition, RestrictedAction, RestrictedTask, Measured, variable, weightedSum}
 use Rattle.model.specs.Steps.{naturalAt, sizesOf}
 use Rattle.model.specs.Limits.{restrictedLimits}
 use Rattle.model.specs.Rules.{constant}
 use Rattle.model.specs.Reading.{Verdict, commandsOf}
-use Rattle.model.specs.Decoding.{Part, emptyPart, Draft, blank, withCurrent, before, beforeAll, draftOf, restrictedActionOf, each, restrictedTaskOf, onVerdict, readRestricted}
-use Rattle.model.specs.Lowering.{startCommands, modeCommands, modeConditionCommands, conditionCommands, modeEffectCommands, additionCommands, actionCommands, actionsCommands, fileCommands, encodeFile, variableOf}
+use Rattle.model.specs.Decoding.{those, upTo, partsAt, actionsOf, goalOf, startOf, pairOf, conditionOf, amountOf, startsOf, modesOf, conditionsOf, modeConditionsOf, modeEffectsOf, additionsOf, restrictedActionOf, restrictedTaskOf, onVerdict, readRestricted}
+use Rattle.model.specs.Lowering.{startCommand, modeCommand, modeConditionCommand, conditionCommand, modeEffectCommand, additionCommand, startCommands, modeCommands, modeConditionCommands, conditionCommands, modeEffectCommands, additionCommands, actionsCommands, fileCommands, encodeFile, variableOf}
 use Rattle.model.specs.TaskOk.{ValuesIn, InRange, AmountOk, ModeOk, ConditionOk, ConditionsOk, RestrictedActionOk, RestrictedTaskOk}
 use Rattle.model.specs.InTask.{MeasureIn}
 use Rattle.model.proofs.Walk.{trail-accepted, trail-commands}
 use Rattle.model.proofs.StageWalk.{all-map}
+use Rattle.model.proofs.Runs.{own, skipped, no-part, no-edge, read-back}
 use Rattle.model.proofs.ReadingLaws.{length-keys}
 use Rattle.model.proofs.TrailOfTask.{const-back, trail, var-in}
 
@@ -94,48 +98,7 @@ file-ok r F =
     few : length (sizesOf (r .modes)) ≤ 8
     few = omega (arith, F .modesFew, length-keys (r .modes))
 
--- ---- the draft of the commands: each run of one kind goes in front of its list
-abbrev putStarts : List ℤ → Draft → Draft
-putStarts zs d = record { variables = d .variables; starts = zs ++ d .starts; modes = d .modes; actions = d .actions; goal = d .goal; current = d .current }
-
-abbrev putModes : List (ℕ × ℕ) → Draft → Draft
-putModes ms d = record { variables = d .variables; starts = d .starts; modes = ms ++ d .modes; actions = d .actions; goal = d .goal; current = d .current }
-
-abbrev putPs : List (ℕ × ℕ) → Part → Part
-putPs ps a = record { modeConditions = ps ++ a .modeConditions; conditions = a .conditions; modeEffects = a .modeEffects; additions = a .additions; effect = a .effect; terms = a .terms }
-
-abbrev putCs : List (NumericCondition ℕ) → Part → Part
-putCs cs a = record { modeConditions = a .modeConditions; conditions = cs ++ a .conditions; modeEffects = a .modeEffects; additions = a .additions; effect = a .effect; terms = a .terms }
-
-abbrev putEs : List (ℕ × ℕ) → Part → Part
-putEs es a = record { modeConditions = a .modeConditions; conditions = a .conditions; modeEffects = es ++ a .modeEffects; additions = a .additions; effect = a .effect; terms = a .terms }
-
-abbrev headEff : List (ℕ × ℤ) → Effect → Effect
-headEff [] e = e
-headEff (x ∷ xs) e = addEffect (x .0) (x .1)
-
-abbrev putAdds : List (ℕ × ℤ) → Part → Part
-putAdds es a = record { modeConditions = a .modeConditions; conditions = a .conditions; modeEffects = a .modeEffects; additions = es ++ a .additions; effect = headEff es (a .effect); terms = a .terms }
-
-starts-back : (zs : List ℤ) (more : List Command) (s : Draft) → All Small zs → beforeAll (startCommands zs more) s ≡ putStarts zs (beforeAll more s)
-starts-back [] more s h = refl
-starts-back (z ∷ zs) more s (h, hs) = ap₂ (λ (x : ℤ) (d : Draft). putStarts (x ∷ []) d) (const-back z h) (starts-back zs more s hs)
-
-modes-back : (ms : List (ℕ × ℕ)) (more : List Command) (s : Draft) → beforeAll (modeCommands ms more) s ≡ putModes ms (beforeAll more s)
-modes-back [] more s = refl
-modes-back (m ∷ ms) more s = ap (putModes (m ∷ [])) (modes-back ms more s)
-
-abbrev inside : (Part → Part) → Draft → Draft
-inside f d = withCurrent d (f (d .current))
-
-places-back : (ps : List (ℕ × ℕ)) (more : List Command) (s : Draft) → beforeAll (modeConditionCommands ps more) s ≡ inside (putPs ps) (beforeAll more s)
-places-back [] more s = refl
-places-back (p ∷ ps) more s = ap (inside (putPs (p ∷ []))) (places-back ps more s)
-
-effects-back : (es : List (ℕ × ℕ)) (more : List Command) (s : Draft) → beforeAll (modeEffectCommands es more) s ≡ inside (putEs es) (beforeAll more s)
-effects-back [] more s = refl
-effects-back (e ∷ es) more s = ap (inside (putEs (e ∷ []))) (effects-back es more s)
-
+-- ---- each run of commands is read back by its byte, and by no other
 rel-back : (r : Relation) → relationOf (relationNumber r) ≡ r
 rel-back below = refl
 rel-back atMost = refl
@@ -146,53 +109,107 @@ var-back : (n : ℕ) (l : Measured ℕ) → MeasureIn (λ (i : ℕ). i < n) l �
 var-back n (variable i) h = refl
 var-back n (weightedSum ts) h = absurd h
 
-compares-back : (n : ℕ) (cs : List (NumericCondition ℕ)) (more : List Command) (s : Draft) → All (λ (c : NumericCondition ℕ). MeasureIn (λ (i : ℕ). i < n) (c .measured) × Small (c .constant)) cs
-    → beforeAll (conditionCommands cs more) s ≡ inside (putCs cs) (beforeAll more s)
-compares-back n [] more s h = refl
-compares-back n (c ∷ cs) more s ((l, h), hs) =
-    ap (before (Condition (variableOf (c .measured)) (relationNumber (c .relation)) (bitsOf 4 (c .constant)))) (compares-back n cs more s hs)
-    ∙ λ i. inside (putCs (record { measured = var-back n (c .measured) l i; relation = rel-back (c .relation) i; constant = const-back (c .constant) h i } ∷ cs)) (beforeAll more s)
+abbrev SmallCondition : ℕ → NumericCondition ℕ → Type 0
+SmallCondition n c = MeasureIn (λ (i : ℕ). i < n) (c .measured) × Small (c .constant)
 
-adds-back : (es : List (ℕ × ℤ)) (more : List Command) (s : Draft) → All (λ (e : ℕ × ℤ). Small (e .1)) es → beforeAll (additionCommands es more) s ≡ inside (putAdds es) (beforeAll more s)
-adds-back [] more s h = refl
-adds-back (e ∷ es) more s (h, hs) =
-    ap (before (Add (e .0) (bitsOf 4 (e .1)))) (adds-back es more s hs)
-    ∙ λ i. inside (putAdds ((e .0, const-back (e .1) h i) ∷ es)) (beforeAll more s)
+conditions-back : (n : ℕ) (cs : List (NumericCondition ℕ)) → All (SmallCondition n) cs → map conditionOf (conditionCommands cs []) ≡ cs
+conditions-back n = read-back conditionCommand conditionOf (SmallCondition n) (λ c h i. record { measured = var-back n (c .measured) (h .0) i; relation = rel-back (c .relation) i; constant = const-back (c .constant) (h .1) i })
 
--- ---- actions
-abbrev pub partOf : RestrictedAction → Part
-partOf a = record { modeConditions = a .modeConditions; conditions = a .conditions; modeEffects = a .modeEffects; additions = a .additions; effect = headEff (a .additions) noEffect; terms = [] }
+pairs-back : (f : ℕ × ℕ → Command) → ((p : ℕ × ℕ) → pairOf (f p) ≡ p) → (ps : List (ℕ × ℕ)) → map pairOf (map f ps ++ []) ≡ ps
+pairs-back f h [] = refl
+pairs-back f h (p ∷ ps) = ap₂ _∷_ (h p) (pairs-back f h ps)
 
-abbrev putActs : List Part → Draft → Draft
-putActs xs d = record { variables = d .variables; starts = d .starts; modes = d .modes; actions = xs ++ d .actions; goal = d .goal; current = emptyPart }
+module _ (d : ℕ) where
+  past-P : eqb letterP d ≡ false → (ps : List (ℕ × ℕ)) (more : List Command) → those d (modeConditionCommands ps more) ≡ those d more
+  past-P = skipped letterP modeConditionCommand (λ x. refl) d
+
+  past-C : eqb letterC d ≡ false → (cs : List (NumericCondition ℕ)) (more : List Command) → those d (conditionCommands cs more) ≡ those d more
+  past-C = skipped letterC conditionCommand (λ x. refl) d
+
+  past-E : eqb letterE d ≡ false → (es : List (ℕ × ℕ)) (more : List Command) → those d (modeEffectCommands es more) ≡ those d more
+  past-E = skipped letterE modeEffectCommand (λ x. refl) d
+
+  past-plus : eqb plusSign d ≡ false → (es : List (ℕ × ℤ)) (more : List Command) → those d (additionCommands es more) ≡ those d more
+  past-plus = skipped plusSign additionCommand (λ x. refl) d
+
+-- the commands of a goal
+goal-modes-back : (ps : List (ℕ × ℕ)) (cs : List (NumericCondition ℕ)) → modeConditionsOf (modeConditionCommands ps (conditionCommands cs [])) ≡ ps
+goal-modes-back ps cs = ap (map pairOf) (own letterP modeConditionCommand (λ x. refl) ps _ ∙ ap (modeConditionCommands ps) (past-C letterP refl cs [])) ∙ pairs-back modeConditionCommand (λ p. refl) ps
+
+goal-conditions-back : (n : ℕ) (ps : List (ℕ × ℕ)) (cs : List (NumericCondition ℕ)) → All (SmallCondition n) cs → conditionsOf (modeConditionCommands ps (conditionCommands cs [])) ≡ cs
+goal-conditions-back n ps cs h = ap (map conditionOf) (past-P letterC refl ps _ ∙ own letterC conditionCommand (λ x. refl) cs []) ∙ conditions-back n cs h
+
+-- ---- actions: the commands behind an A
+abbrev pub bodyOf : RestrictedAction → List Command → List Command
+bodyOf a more = modeConditionCommands (a .modeConditions) (conditionCommands (a .conditions) (modeEffectCommands (a .modeEffects) (additionCommands (a .additions) more)))
 
 abbrev Smalls : ℕ → RestrictedAction → Type 0
-Smalls n a = All (λ (c : NumericCondition ℕ). MeasureIn (λ (i : ℕ). i < n) (c .measured) × Small (c .constant)) (a .conditions) × All (λ (e : ℕ × ℤ). Small (e .1)) (a .additions)
+Smalls n a = All (SmallCondition n) (a .conditions) × All (λ (e : ℕ × ℤ). Small (e .1)) (a .additions)
 
-act-back : (n : ℕ) (a : RestrictedAction) (more : List Command) (s d : Draft) → Smalls n a → beforeAll more s ≡ d → d .current ≡ emptyPart → beforeAll (actionCommands a more) s ≡ putActs (partOf a ∷ []) d
-act-back n a more s d (h, g) e q =
-    ap (before Action) (
-    places-back (a .modeConditions) _ s ∙ ap (inside (putPs (a .modeConditions))) (compares-back n (a .conditions) _ s h ∙ ap (inside (putCs (a .conditions))) (effects-back (a .modeEffects) _ s ∙ ap (inside (putEs (a .modeEffects))) (adds-back (a .additions) more s g ∙ ap (inside (putAdds (a .additions))) e)))
-    ∙ (λ i. withCurrent d (putPs (a .modeConditions) (putCs (a .conditions) (putEs (a .modeEffects) (putAdds (a .additions) (q i))))))
-    ∙ (λ i. withCurrent d (record { modeConditions = append-nil (a .modeConditions) i; conditions = append-nil (a .conditions) i; modeEffects = append-nil (a .modeEffects) i; additions = append-nil (a .additions) i; effect = headEff (a .additions) noEffect; terms = [] }))
-    )
+module _ (n : ℕ) (a : RestrictedAction) (small : Smalls n a) where
+  body-P : modeConditionsOf (bodyOf a []) ≡ a .modeConditions
+  body-P = ap (map pairOf) (own letterP modeConditionCommand (λ x. refl) (a .modeConditions) _
+      ∙ ap (modeConditionCommands (a .modeConditions)) (past-C letterP refl (a .conditions) _ ∙ past-E letterP refl (a .modeEffects) _ ∙ past-plus letterP refl (a .additions) []))
+      ∙ pairs-back modeConditionCommand (λ p. refl) (a .modeConditions)
 
-acts-back : (n : ℕ) (acts : List RestrictedAction) (more : List Command) (s d : Draft) → All (Smalls n) acts → beforeAll more s ≡ d → d .current ≡ emptyPart → beforeAll (actionsCommands acts more) s ≡ putActs (each partOf acts) d
-acts-back n [] more s d h e q = e ∙ λ i. withCurrent d (q i)
-acts-back n (a ∷ acts) more s d (h, hs) e q = act-back n a (actionsCommands acts more) s (putActs (each partOf acts) d) h (acts-back n acts more s d hs e q) refl
+  body-C : conditionsOf (bodyOf a []) ≡ a .conditions
+  body-C = ap (map conditionOf) (past-P letterC refl (a .modeConditions) _ ∙ own letterC conditionCommand (λ x. refl) (a .conditions) _
+      ∙ ap (conditionCommands (a .conditions)) (past-E letterC refl (a .modeEffects) _ ∙ past-plus letterC refl (a .additions) []))
+      ∙ conditions-back n (a .conditions) (small .0)
 
-abbrev goalDraft : List (ℕ × ℕ) → List (NumericCondition ℕ) → Draft
-goalDraft gp gc = record { variables = []; starts = []; modes = []; actions = []; goal = record { modeConditions = gp; conditions = gc; modeEffects = []; additions = []; effect = noEffect; terms = [] }; current = emptyPart }
+  body-E : modeEffectsOf (bodyOf a []) ≡ a .modeEffects
+  body-E = ap (map pairOf) (past-P letterE refl (a .modeConditions) _ ∙ past-C letterE refl (a .conditions) _ ∙ own letterE modeEffectCommand (λ x. refl) (a .modeEffects) _
+      ∙ ap (modeEffectCommands (a .modeEffects)) (past-plus letterE refl (a .additions) []))
+      ∙ pairs-back modeEffectCommand (λ p. refl) (a .modeEffects)
 
-goal-back : (n : ℕ) (gp : List (ℕ × ℕ)) (gc : List (NumericCondition ℕ)) → All (λ (c : NumericCondition ℕ). MeasureIn (λ (i : ℕ). i < n) (c .measured) × Small (c .constant)) gc → beforeAll (Goal ∷ modeConditionCommands gp (conditionCommands gc [])) blank ≡ goalDraft gp gc
-goal-back n gp gc h =
-    ap (before Goal) (places-back gp _ blank ∙ ap (inside (putPs gp)) (compares-back n gc [] blank h))
-    ∙ λ i. goalDraft (append-nil gp i) (append-nil gc i)
+  body-plus : additionsOf (bodyOf a []) ≡ a .additions
+  body-plus = ap (map amountOf) (past-P plusSign refl (a .modeConditions) _ ∙ past-C plusSign refl (a .conditions) _ ∙ past-E plusSign refl (a .modeEffects) _ ∙ own plusSign additionCommand (λ x. refl) (a .additions) [])
+      ∙ read-back additionCommand amountOf (λ (e : ℕ × ℤ). Small (e .1)) (λ e k j. (e .0, const-back (e .1) k j)) (a .additions) (small .1)
 
-again : (acts : List RestrictedAction) → each restrictedActionOf (each partOf acts ++ []) ≡ acts
-again [] = refl
-again (a ∷ acts) = ap (λ (z : List RestrictedAction). a ∷ z) (again acts)
+  action-back : restrictedActionOf (bodyOf a []) ≡ a
+  action-back = λ i. record { modeConditions = body-P i; conditions = body-C i; modeEffects = body-E i; additions = body-plus i }
 
+-- they end where what follows begins with an A or G
+pub body-ends : (a : RestrictedAction) (more : List Command) → upTo more ≡ [] → upTo (bodyOf a more) ≡ bodyOf a []
+body-ends a more e =
+    no-edge letterP modeConditionCommand (λ x. refl) refl refl (a .modeConditions) _ ∙ ap (modeConditionCommands (a .modeConditions))
+    (no-edge letterC conditionCommand (λ x. refl) refl refl (a .conditions) _ ∙ ap (conditionCommands (a .conditions))
+    (no-edge letterE modeEffectCommand (λ x. refl) refl refl (a .modeEffects) _ ∙ ap (modeEffectCommands (a .modeEffects))
+    (no-edge plusSign additionCommand (λ x. refl) refl refl (a .additions) more ∙ ap (additionCommands (a .additions)) e)))
+
+-- a U or M, an A or G behind them
+body-past : (d : ℕ) → eqb letterP d ≡ false → eqb letterC d ≡ false → eqb letterE d ≡ false → eqb plusSign d ≡ false → (a : RestrictedAction) (more : List Command) → those d (bodyOf a more) ≡ those d more
+body-past d p c e s a more = past-P d p (a .modeConditions) _ ∙ past-C d c (a .conditions) _ ∙ past-E d e (a .modeEffects) _ ∙ past-plus d s (a .additions) more
+
+body-parts : (d : ℕ) → eqb letterP d ≡ false → eqb letterC d ≡ false → eqb letterE d ≡ false → eqb plusSign d ≡ false → (a : RestrictedAction) (more : List Command) → partsAt d (bodyOf a more) ≡ partsAt d more
+body-parts d p c e s a more =
+    no-part letterP modeConditionCommand (λ x. refl) d p (a .modeConditions) _ ∙ no-part letterC conditionCommand (λ x. refl) d c (a .conditions) _
+    ∙ no-part letterE modeEffectCommand (λ x. refl) d e (a .modeEffects) _ ∙ no-part plusSign additionCommand (λ x. refl) d s (a .additions) more
+
+module _ (goal : List Command) where
+  pub acts-end : (acts : List RestrictedAction) → upTo (actionsCommands acts (Goal ∷ goal)) ≡ []
+  acts-end [] = refl
+  acts-end (a ∷ acts) = refl
+
+  acts-back : (n : ℕ) → partsAt letterA goal ≡ [] → (acts : List RestrictedAction) → All (Smalls n) acts → map restrictedActionOf (actionsOf (actionsCommands acts (Goal ∷ goal))) ≡ acts
+  acts-back n e [] h = ap (map restrictedActionOf) e
+  acts-back n e (a ∷ acts) (h, hs) = ap₂ _∷_
+      (ap restrictedActionOf (body-ends a _ (acts-end acts)) ∙ action-back n a h)
+      (ap (map restrictedActionOf) (body-parts letterA refl refl refl refl a _) ∙ acts-back n e acts hs)
+
+  acts-goal : (acts : List RestrictedAction) → partsAt letterG (actionsCommands acts (Goal ∷ goal)) ≡ upTo goal ∷ partsAt letterG goal
+  acts-goal [] = refl
+  acts-goal (a ∷ acts) = body-parts letterG refl refl refl refl a _ ∙ acts-goal acts
+
+  acts-starts : (acts : List RestrictedAction) → those letterU (actionsCommands acts (Goal ∷ goal)) ≡ those letterU goal
+  acts-starts [] = refl
+  acts-starts (a ∷ acts) = body-past letterU refl refl refl refl a _ ∙ acts-starts acts
+
+  acts-modes : (acts : List RestrictedAction) → those letterM (actionsCommands acts (Goal ∷ goal)) ≡ those letterM goal
+  acts-modes [] = refl
+  acts-modes (a ∷ acts) = body-past letterM refl refl refl refl a _ ∙ acts-modes acts
+
+-- ---- the file
 module _ (r : RestrictedTask) (F : RestrictedTaskOk r) where
   smalls : All (Smalls (length (r .starts))) (r .actions)
   smalls = all-map (RestrictedActionOk restrictedLimits (length (r .starts)) (sizesOf (r .modes))) (Smalls (length (r .starts))) (λ a h. (
@@ -200,20 +217,46 @@ module _ (r : RestrictedTask) (F : RestrictedTaskOk r) where
     all-map (AmountOk restrictedLimits (length (r .starts))) (λ (e : ℕ × ℤ). Small (e .1)) (λ c q. q .1 .1) (a .additions) (h .additionsIn),
   )) (r .actions) (F .actionsOk)
 
-  pub draft-back : draftOf (fileCommands r) ≡ putStarts (r .starts) (putModes (r .modes) (putActs (each partOf (r .actions)) (goalDraft (r .goalModes) (r .goalConditions))))
-  draft-back =
-      starts-back (r .starts) _ blank (F .startsIn)
-      ∙ ap (putStarts (r .starts)) (modes-back (r .modes) _ blank
-      ∙ ap (putModes (r .modes)) (acts-back (length (r .starts)) (r .actions) _ blank (goalDraft (r .goalModes) (r .goalConditions)) smalls
-      (goal-back (length (r .starts)) (r .goalModes) (r .goalConditions) (F .goal .conditionsIn)) refl))
+  abbrev goal : List Command
+  goal = modeConditionCommands (r .goalModes) (conditionCommands (r .goalConditions) [])
 
-  task-back : restrictedTaskOf (draftOf (fileCommands r)) ≡ r
-  task-back = ap restrictedTaskOf draft-back ∙ λ i. record { starts = append-nil (r .starts) i; modes = append-nil (r .modes) i; actions = again (r .actions) i; goalModes = r .goalModes; goalConditions = r .goalConditions }
+  no-parts : (d : ℕ) → eqb letterP d ≡ false → eqb letterC d ≡ false → partsAt d goal ≡ []
+  no-parts d p c = no-part letterP modeConditionCommand (λ x. refl) d p (r .goalModes) _ ∙ no-part letterC conditionCommand (λ x. refl) d c (r .goalConditions) []
+
+  -- behind the declarations
+  parts : (d : ℕ) → eqb letterU d ≡ false → eqb letterM d ≡ false → partsAt d (fileCommands r) ≡ partsAt d (actionsCommands (r .actions) (Goal ∷ goal))
+  parts d u m = no-part letterU startCommand (λ x. refl) d u (r .starts) _ ∙ no-part letterM modeCommand (λ x. refl) d m (r .modes) _
+
+  goal-back : goalOf (fileCommands r) ≡ goal
+  goal-back = ap (λ (z : List (List Command)). getD z 0 []) (parts letterG refl refl ∙ acts-goal goal (r .actions))
+      ∙ no-edge letterP modeConditionCommand (λ x. refl) refl refl (r .goalModes) _ ∙ ap (modeConditionCommands (r .goalModes)) (no-edge letterC conditionCommand (λ x. refl) refl refl (r .goalConditions) [])
+
+  starts-back : startsOf (fileCommands r) ≡ r .starts
+  starts-back = ap (map startOf) (own letterU startCommand (λ x. refl) (r .starts) _ ∙ ap (startCommands (r .starts))
+      (skipped letterM modeCommand (λ x. refl) letterU refl (r .modes) _ ∙ acts-starts goal (r .actions) ∙ past-P letterU refl (r .goalModes) _ ∙ past-C letterU refl (r .goalConditions) []))
+      ∙ read-back startCommand startOf Small const-back (r .starts) (F .startsIn)
+
+  modes-back : modesOf (fileCommands r) ≡ r .modes
+  modes-back = ap (map pairOf) (skipped letterU startCommand (λ x. refl) letterM refl (r .starts) _ ∙ own letterM modeCommand (λ x. refl) (r .modes) _ ∙ ap (modeCommands (r .modes))
+      (acts-modes goal (r .actions) ∙ past-P letterM refl (r .goalModes) _ ∙ past-C letterM refl (r .goalConditions) []))
+      ∙ pairs-back modeCommand (λ p. refl) (r .modes)
+
+  actions-back : map restrictedActionOf (actionsOf (fileCommands r)) ≡ r .actions
+  actions-back = ap (map restrictedActionOf) (parts letterA refl refl) ∙ acts-back goal (length (r .starts)) (no-parts letterA refl refl) (r .actions) smalls
+
+  task-back : restrictedTaskOf (fileCommands r) ≡ r
+  task-back = λ i. record {
+    starts = starts-back i;
+    modes = modes-back i;
+    actions = actions-back i;
+    goalModes = (ap modeConditionsOf goal-back ∙ goal-modes-back (r .goalModes) (r .goalConditions)) i;
+    goalConditions = (ap conditionsOf goal-back ∙ goal-conditions-back (length (r .starts)) (r .goalModes) (r .goalConditions) (F .goal .conditionsIn)) i;
+  }
 
   -- THE ROUND TRIP: the file of a well-formed restricted task is accepted, and read as that task
   pub reads-back : readRestricted (encodeFile r) ≡ given r
   unfolding encodeFile
   reads-back =
-      ap (λ (v : Verdict). onVerdict v (restrictedTaskOf (draftOf (commandsOf restrictedLimits (encodeAll (fileCommands r) ++ encode End))))) (trail-accepted restrictedLimits (fileCommands r) (file-ok r F) (trail r F))
-      ∙ ap (λ (cs : List Command). given (restrictedTaskOf (draftOf cs))) (trail-commands restrictedLimits (fileCommands r) (file-ok r F) (trail r F))
+      ap (λ (v : Verdict). onVerdict v (restrictedTaskOf (commandsOf restrictedLimits (encodeAll (fileCommands r) ++ encode End)))) (trail-accepted restrictedLimits (fileCommands r) (file-ok r F) (trail r F))
+      ∙ ap (λ (cs : List Command). given (restrictedTaskOf cs)) (trail-commands restrictedLimits (fileCommands r) (file-ok r F) (trail r F))
       ∙ ap given task-back

@@ -12,7 +12,7 @@ use lib.IntN.{ℤ, pos, negsuc, negℤ, natAbs, _+ℤ_, _-ℤ_, _*ℤ_, +ℤ-idl
 use lib.Signed.{leZ, ltZ}
 use Rattle.integers.specs.Relation.{atMost, atLeast}
 use Rattle.model.specs.Steps.{conditionsHold, linear, withinBounds, result}
-use Rattle.model.specs.Stages.{Name, source, helperA, helperB, hold, usesLeft, Stage, when, drain, refill, divide, empty, clear, move, drainTerms, openingAdditions, stagesOf, addedBound}
+use Rattle.model.specs.Stages.{Name, source, helperA, helperB, hold, Stage, when, drain, refill, divide, empty, clear, move, drainTerms, openingAdditions, stagesOf, addedBound}
 use Rattle.model.specs.Expansion.{addTo, plus, unitsIn, timesAdded, afterStrokes, afterStage, namedValues, magnitudes, priceOfEffect}
 use Rattle.integers.specs.Division.{unitLess, sign, floor, quotientOf, residueOf}
 use Rattle.model.specs.NamedSystems.{store, passes, afterStages, stagesPrice}
@@ -43,15 +43,14 @@ pub updated-itself : (t : ℕ) (v : ℕ → ℤ) → updated t (v t) v ≡ v
 updated-itself t v = fun-ext (by-place t (λ b j. cond b (v t) (v j)) (λ b j. v j) refl (λ j. refl))
 
 pub values-equal : (v : ℕ → ℤ) (a b : ℤ) (f : Name → ℤ) → ((j : ℕ) → f (source j) ≡ v j) → f helperA ≡ a → f helperB ≡ b
-    → ((j : ℕ) → f (hold j) ≡ pos 0) → ((j : ℕ) → f (usesLeft j) ≡ pos 0) → f ≡ namedValues v a b
-values-equal v a b f p q r e u = fun-ext go
+    → ((j : ℕ) → f (hold j) ≡ pos 0) → f ≡ namedValues v a b
+values-equal v a b f p q r e = fun-ext go
   where
     go : (w : Name) → f w ≡ namedValues v a b w
     go (source j) = p j
     go helperA = q
     go helperB = r
     go (hold j) = e j
-    go (usesLeft j) = u j
 
 -- z − z, z + 0, 0 + z as the stages write them
 away : (z : ℤ) → z +ℤ z *ℤ negsuc 0 ≡ pos 0
@@ -68,28 +67,28 @@ landing : (t : ℕ) (v : ℕ → ℤ) (z : ℤ) (j : ℕ) → timesAdded z (cond
 landing t v z = by-place t (λ c j. timesAdded z (cond c (some (pos 1)) none) (cond c (pos 0) (v j))) (λ c j. cond c z (v j)) (onto z) (λ j. refl)
 
 pub drained : (t : ℕ) (w : ℤ) (v : ℕ → ℤ) (a : ℤ) → afterStage (drain t w) (namedValues v a (pos 0)) ≡ namedValues (updated t (pos 0) v) (a +ℤ v t *ℤ w) (v t)
-drained t w v a = values-equal (updated t (pos 0) v) (a +ℤ v t *ℤ w) (v t) (afterStage (drain t w) (namedValues v a (pos 0))) (emptying t v) refl (onto (v t)) (λ j. refl) (λ j. refl)
+drained t w v a = values-equal (updated t (pos 0) v) (a +ℤ v t *ℤ w) (v t) (afterStage (drain t w) (namedValues v a (pos 0))) (emptying t v) refl (onto (v t)) (λ j. refl)
 
 pub refilled : (t : ℕ) (v : ℕ → ℤ) (a b : ℤ) → afterStage (refill t) (namedValues (updated t (pos 0) v) a b) ≡ namedValues (updated t b v) a (pos 0)
-refilled t v a b = values-equal (updated t b v) a (pos 0) (afterStage (refill t) (namedValues (updated t (pos 0) v) a b)) (landing t v b) refl (away b) (λ j. refl) (λ j. refl)
+refilled t v a b = values-equal (updated t b v) a (pos 0) (afterStage (refill t) (namedValues (updated t (pos 0) v) a b)) (landing t v b) refl (away b) (λ j. refl)
 
 pub cleared : (t : ℕ) (v : ℕ → ℤ) (a b : ℤ) → afterStage (clear t) (namedValues v a b) ≡ namedValues (updated t (pos 0) v) a b
-cleared t v a b = values-equal (updated t (pos 0) v) a b (afterStage (clear t) (namedValues v a b)) (emptying t v) refl refl (λ j. refl) (λ j. refl)
+cleared t v a b = values-equal (updated t (pos 0) v) a b (afterStage (clear t) (namedValues v a b)) (emptying t v) refl refl (λ j. refl)
 
 pub movedA : (t : ℕ) (lo hi : ℤ) (v : ℕ → ℤ) (a b : ℤ) → afterStage (move t helperA lo hi) (namedValues (updated t (pos 0) v) a b) ≡ namedValues (updated t a v) (pos 0) b
-movedA t lo hi v a b = values-equal (updated t a v) (pos 0) b (afterStage (move t helperA lo hi) (namedValues (updated t (pos 0) v) a b)) (landing t v a) (away a) refl (λ j. refl) (λ j. refl)
+movedA t lo hi v a b = values-equal (updated t a v) (pos 0) b (afterStage (move t helperA lo hi) (namedValues (updated t (pos 0) v) a b)) (landing t v a) (away a) refl (λ j. refl)
 
 pub movedB : (t : ℕ) (lo hi : ℤ) (v : ℕ → ℤ) (a b : ℤ) → afterStage (move t helperB lo hi) (namedValues (updated t (pos 0) v) a b) ≡ namedValues (updated t b v) a (pos 0)
-movedB t lo hi v a b = values-equal (updated t b v) a (pos 0) (afterStage (move t helperB lo hi) (namedValues (updated t (pos 0) v) a b)) (landing t v b) refl (away b) (λ j. refl) (λ j. refl)
+movedB t lo hi v a b = values-equal (updated t b v) a (pos 0) (afterStage (move t helperB lo hi) (namedValues (updated t (pos 0) v) a b)) (landing t v b) refl (away b) (λ j. refl)
 
 pub emptiedA : (v : ℕ → ℤ) (a b : ℤ) → afterStage (empty helperA) (namedValues v a b) ≡ namedValues v (pos 0) b
-emptiedA v a b = values-equal v (pos 0) b (afterStage (empty helperA) (namedValues v a b)) (λ j. refl) (away a) refl (λ j. refl) (λ j. refl)
+emptiedA v a b = values-equal v (pos 0) b (afterStage (empty helperA) (namedValues v a b)) (λ j. refl) (away a) refl (λ j. refl)
 
 pub emptiedB : (v : ℕ → ℤ) (a b : ℤ) → afterStage (empty helperB) (namedValues v a b) ≡ namedValues v a (pos 0)
-emptiedB v a b = values-equal v a (pos 0) (afterStage (empty helperB) (namedValues v a b)) (λ j. refl) refl (away b) (λ j. refl) (λ j. refl)
+emptiedB v a b = values-equal v a (pos 0) (afterStage (empty helperB) (namedValues v a b)) (λ j. refl) refl (away b) (λ j. refl)
 
 pub divided : (c : ℤ) (v : ℕ → ℤ) (y : ℤ) → afterStage (divide c) (namedValues v y (pos 0)) ≡ namedValues v (residueOf y c) (quotientOf y c)
-divided c v y = values-equal v (residueOf y c) (quotientOf y c) (afterStage (divide c) (namedValues v y (pos 0))) (λ j. refl) (floor-left y (unitLess c)) (+ℤ-idl (quotientOf y c)) (λ j. refl) (λ j. refl)
+divided c v y = values-equal v (residueOf y c) (quotientOf y c) (afterStage (divide c) (namedValues v y (pos 0))) (λ j. refl) (floor-left y (unitLess c)) (+ℤ-idl (quotientOf y c)) (λ j. refl)
 
 -- ---- runs of stages: the values that they end in, whether their turns' tests pass, what they cost
 pub record Gives (ds : List Stage) (v v′ : Name → ℤ) (ok : Bool) (n : ℕ) : Type 0 where
@@ -153,14 +152,15 @@ sign-cost (negsuc a) (pos n) = abs-neg (suc a * 1) ∙ omega arith
 sign-cost (negsuc a) (negsuc n) = omega arith
 
 -- ---- each effect
-started : (w : ℤ) (t : ℕ) (ts : List (ℕ × ℤ)) (v : ℕ → ℤ) → plus (openingAdditions (linearEffect t w ts)) (namedValues v (pos 0) (pos 0)) ≡ namedValues v w (pos 0)
+-- the values behind the opening of an L
+pub started : (w : ℤ) (t : ℕ) (ts : List (ℕ × ℤ)) (v : ℕ → ℤ) → plus (openingAdditions (linearEffect t w ts)) (namedValues v (pos 0) (pos 0)) ≡ namedValues v w (pos 0)
 started (pos zero) t ts v = refl
-started (pos (suc n)) t ts v = values-equal v (pos (suc n)) (pos 0) (plus (openingAdditions (linearEffect t (pos (suc n)) ts)) (namedValues v (pos 0) (pos 0))) (λ j. refl) (+ℤ-idl (pos (suc n))) refl (λ j. refl) (λ j. refl)
-started (negsuc n) t ts v = values-equal v (negsuc n) (pos 0) (plus (openingAdditions (linearEffect t (negsuc n) ts)) (namedValues v (pos 0) (pos 0))) (λ j. refl) (+ℤ-idl (negsuc n)) refl (λ j. refl) (λ j. refl)
+started (pos (suc n)) t ts v = values-equal v (pos (suc n)) (pos 0) (plus (openingAdditions (linearEffect t (pos (suc n)) ts)) (namedValues v (pos 0) (pos 0))) (λ j. refl) (+ℤ-idl (pos (suc n))) refl (λ j. refl)
+started (negsuc n) t ts v = values-equal v (negsuc n) (pos 0) (plus (openingAdditions (linearEffect t (negsuc n) ts)) (namedValues v (pos 0) (pos 0))) (λ j. refl) (+ℤ-idl (negsuc n)) refl (λ j. refl)
 
 added : (t : ℕ) (c : ℤ) (v : ℕ → ℤ) → plus ((source t, c) ∷ []) (namedValues v (pos 0) (pos 0)) ≡ namedValues (updated t (v t +ℤ c) v) (pos 0) (pos 0)
 added t c v = values-equal (updated t (v t +ℤ c) v) (pos 0) (pos 0) (plus ((source t, c) ∷ []) (namedValues v (pos 0) (pos 0)))
-    (by-place t (λ b j. addTo (cond b (some c) none) (v j)) (λ b j. cond b (v t +ℤ c) (v j)) refl (λ j. refl)) refl refl (λ j. refl) (λ j. refl)
+    (by-place t (λ b j. addTo (cond b (some c) none) (v j)) (λ b j. cond b (v t +ℤ c) (v j)) refl (λ j. refl)) refl refl (λ j. refl)
 
 dividing : (y : ℕ) (c : ℤ) (v : ℕ → ℤ) {ds : List Stage} {v′ : Name → ℤ} {ok : Bool} {k : ℕ} → Gives ds (namedValues v (residueOf (v y) c) (quotientOf (v y) c)) v′ ok k
     → Gives (drain y (pos 1) ∷ refill y ∷ divide c ∷ ds) (namedValues v (pos 0) (pos 0)) v′ ok (3 + 2 * natAbs (v y) + natAbs (quotientOf (v y) c) + k)

@@ -13,14 +13,15 @@ use lib.Dec.{T, eqb, eqb→eq, eqb-refl, T-not}
 use lib.IntN.{ℤ, pos, negsuc, negℤ, _+ℤ_, _*ℤ_}
 use lib.Signed.{leZ}
 use Rattle.integers.specs.All.{All}
+pub use Rattle.integers.proofs.All.{all-map, all-app}
 use Rattle.integers.specs.Division.{floor, remainder}
 use Rattle.integers.proofs.Parts.{ints, sum-parts, mul-up, mul-down, neg-up, neg-down}
 use Rattle.model.specs.Systems.{bind, provided}
 use Rattle.model.specs.Walks.{Only, Forced, Stuck}
 use Rattle.model.specs.Steps.{conditionsHold, modesHold}
 use Rattle.model.specs.Stages.{Name, NamedAction, StageKind, byOne, byUnit, leftOver, Stage, opposite, falling, rising, turn, strokeActions, stageActions, turnPlace, firstStage, stagesActions}
-use Rattle.model.specs.Expansion.{sameName, additionTo, addTo, plus, strokes, unitsIn, timesAdded, afterStrokes, afterStage, stageWalk}
-use Rattle.model.specs.NamedSystems.{NamedState, applies, apply, tryNamed, stepNamed, walkToDeadEnd, passes, afterStages}
+use Rattle.model.specs.Expansion.{sameName, additionTo, addTo, plus, strokes, unitsIn, timesAdded, afterStrokes, afterStage, stageWalk, walkToDeadEnd}
+use Rattle.model.specs.NamedSystems.{NamedState, applies, apply, tryNamed, stepNamed, passes, afterStages}
 use Rattle.model.proofs.Pairing.{bind-gives, some-injective, forced-app}
 
 pub and-intro : (a b : Bool) → T a → T b → T ((a && b))
@@ -74,14 +75,6 @@ pub all-get : {A : Type 0} (Q : A → Type 0) (l : List A) (k : ℕ) (r : A) →
 all-get Q [] k r h e = absurd (Option·none-ne-some r e)
 all-get Q (x ∷ l) zero r (h, hs) e = subst Q (some-injective e) h
 all-get Q (x ∷ l) (suc k) r (h, hs) e = all-get Q l k r hs e
-
-pub all-app : {A : Type 0} (Q : A → Type 0) (l m : List A) → All Q l → All Q m → All Q (l ++ m)
-all-app Q [] m h k = k
-all-app Q (x ∷ l) m (h, hs) k = (h, all-app Q l m hs k)
-
-pub all-map : {A : Type 0} (Q Q′ : A → Type 0) → ((r : A) → Q r → Q′ r) → (l : List A) → All Q l → All Q′ l
-all-map Q Q′ f [] h = tt
-all-map Q Q′ f (x ∷ l) (h, hs) = (f x h, all-map Q Q′ f l hs)
 
 -- no row of the list stands at control s
 abbrev pub Away : ℕ → List NamedAction → Type 0

@@ -44,14 +44,14 @@ in-range : (z : ℤ) → InRange l z → outside l (constant (bitsOf 4 z)) ≡ f
 in-range z h = rw (const-back z h) (le-ltb 1_000_000_000 (natAbs z) h)
 
 -- ---- declarations
-starts-run : (zs : List ℤ) (p : ReadingState) → p .section ≡ 0 → p .variables + length zs ≤ 64 → All (InRange l) zs → (more : List Command)
-    → ((q : ReadingState) → q .section ≡ 0 → q .variables ≡ p .variables + length zs → q .modes ≡ p .modes → q .actions ≡ p .actions → q .sizes ≡ p .sizes → Trail l q more)
+starts-run : (zs : List ℤ) (p : ReadingState) → p .section ≡ 0 → p .declared .variables + length zs ≤ 64 → All (InRange l) zs → (more : List Command)
+    → ((q : ReadingState) → q .section ≡ 0 → q .declared .variables ≡ p .declared .variables + length zs → q .declared .modes ≡ p .declared .modes → q .actions ≡ p .actions → q .declared .sizes ≡ p .declared .sizes → Trail l q more)
     → Trail l p (startCommands zs more)
 unfolding testsOf nextOf
-starts-run [] p s f h more k = k p s (sym (add-zero (p .variables))) refl refl refl
+starts-run [] p s f h more k = k p s (sym (add-zero (p .declared .variables))) refl refl refl
 starts-run (z ∷ zs) p s f (h, hs) more k =
     pass p (Start (bitsOf 4 z)) (startCommands zs more) refl (eq-eqb (p .section) 0 s)
-    (lt-leb 64 (p .variables) (omega (arith, f)), (in-range z h, tt))
+    (lt-leb 64 (p .declared .variables) (omega (arith, f)), (in-range z h, tt))
     (starts-run zs (withVariable p) s (omega (arith, f)) hs more (λ q a b c d e. k q a (omega (arith, b)) c d e))
 
 modes-run : (n : ℕ) (ms : List (ℕ × ℕ)) (sizes : List ℕ) (p : ReadingState) → Core n sizes p → p .section ≡ 0 → length sizes + length ms ≤ 8 → All (ModeOk l) ms
@@ -61,13 +61,13 @@ unfolding testsOf nextOf
 modes-run n [] sizes p c s f h more k = k p (subst (λ (z : List ℕ). Core n z p) (sym (append-nil sizes)) c) s refl
 modes-run n (m ∷ ms) sizes p c s f ((h, g), hs) more k =
     pass p (Mode (m .0) (m .1)) (modeCommands ms more) refl (eq-eqb (p .section) 0 s)
-    (lt-leb 8 (p .modes) (omega (arith, f, c .mods)), (lt-leb (m .0) (m .1) h, (le-ltb 8192 (m .0) g, tt)))
+    (lt-leb 8 (p .declared .modes) (omega (arith, f, c .mods)), (lt-leb (m .0) (m .1) h, (le-ltb 8192 (m .0) g, tt)))
     (modes-run n ms (sizes ++ (m .0 ∷ [])) (withMode p (m .0)) (core-mode n sizes p (m .0) (omega (arith, f)) c) s (omega (arith, f, length-append sizes (m .0 ∷ []))) hs more
     (λ q d a b. k q (subst (λ (z : List ℕ). Core n z q) (append-assoc sizes (m .0 ∷ []) (keys ms)) d) a b))
 
 -- ---- in an action or the goal
 declared : {n v : ℕ} {sizes : List ℕ} (p : ReadingState) → Core n sizes p → v < n → noVariable p v ≡ false
-declared {n} {v} {sizes} p c h = lt-leb (p .variables) v (omega (arith, h, c .variables))
+declared {n} {v} {sizes} p c h = lt-leb (p .declared .variables) v (omega (arith, h, c .variables))
 
 pub var-in : (n : ℕ) (l : Measured ℕ) → MeasureIn (λ (i : ℕ). i < n) l → variableOf l < n
 var-in n (variable i) h = h
@@ -75,16 +75,16 @@ var-in n (weightedSum ts) h = absurd h
 
 module _ (n : ℕ) (sizes : List ℕ) where
   mode-there : (p : ReadingState) → Core n sizes p → (e : ℕ × ℕ) → (e .0 < length sizes) × (e .1 < naturalAt sizes (e .0)) → (noMode p (e .0) ≡ false) × (notBelowSize p (e .0) (e .1) ≡ false)
-  mode-there p c e (h, g) = (lt-leb (p .modes) (e .0) (omega (arith, h, c .mods)), lt-leb (naturalAt (p .sizes) (e .0)) (e .1) (omega (arith, g, c .sized (e .0))))
+  mode-there p c e (h, g) = (lt-leb (p .declared .modes) (e .0) (omega (arith, h, c .mods)), lt-leb (naturalAt (p .declared .sizes) (e .0)) (e .1) (omega (arith, g, c .sized (e .0))))
 
-  places-run : (ps : List (ℕ × ℕ)) (p : ReadingState) → Core n sizes p → 2 ≤ p .section → p .modeConditions + length ps ≤ 16 → ValuesIn sizes ps → (more : List Command)
-      → ((q : ReadingState) → Core n sizes q → q .section ≡ p .section → q .actions ≡ p .actions → q .conditions ≡ p .conditions → q .numericEffects ≡ p .numericEffects → q .modesSet ≡ p .modesSet → q .variablesSeen ≡ p .variablesSeen → Trail l q more)
+  places-run : (ps : List (ℕ × ℕ)) (p : ReadingState) → Core n sizes p → 2 ≤ p .section → p .counts .modeConditions + length ps ≤ 16 → ValuesIn sizes ps → (more : List Command)
+      → ((q : ReadingState) → Core n sizes q → q .section ≡ p .section → q .actions ≡ p .actions → q .counts .conditions ≡ p .counts .conditions → q .counts .numericEffects ≡ p .counts .numericEffects → q .marks .modesSet ≡ p .marks .modesSet → q .marks .variablesSeen ≡ p .marks .variablesSeen → Trail l q more)
       → Trail l p (modeConditionCommands ps more)
   unfolding testsOf nextOf
   places-run [] p c s f h more k = k p c refl refl refl refl refl refl
   places-run (e ∷ ps) p c s f (h, hs) more k = let (g₁, g₂) = mode-there p c e h in
       pass p (ModeCondition (e .0) (e .1)) (modeConditionCommands ps more) refl (le-leb 2 (p .section) s)
-      (lt-leb 16 (p .modeConditions) (omega (arith, f)), (g₁, (g₂, tt)))
+      (lt-leb 16 (p .counts .modeConditions) (omega (arith, f)), (g₁, (g₂, tt)))
       (places-run ps (withModeCondition p) c s (omega (arith, f)) hs more k)
 
   rel-few : (r : Relation) → relationNumber r ≤ 3
@@ -93,38 +93,38 @@ module _ (n : ℕ) (sizes : List ℕ) where
   rel-few atLeast = omega arith
   rel-few above = omega arith
 
-  compares-run : (cs : List (NumericCondition ℕ)) (p : ReadingState) → Core n sizes p → 2 ≤ p .section → p .conditions + length cs ≤ 24 → All (ConditionOk l n) cs → (more : List Command)
-      → ((q : ReadingState) → Core n sizes q → q .section ≡ p .section → q .actions ≡ p .actions → q .numericEffects ≡ p .numericEffects → q .modesSet ≡ p .modesSet → q .variablesSeen ≡ p .variablesSeen → Trail l q more)
+  compares-run : (cs : List (NumericCondition ℕ)) (p : ReadingState) → Core n sizes p → 2 ≤ p .section → p .counts .conditions + length cs ≤ 24 → All (ConditionOk l n) cs → (more : List Command)
+      → ((q : ReadingState) → Core n sizes q → q .section ≡ p .section → q .actions ≡ p .actions → q .counts .numericEffects ≡ p .counts .numericEffects → q .marks .modesSet ≡ p .marks .modesSet → q .marks .variablesSeen ≡ p .marks .variablesSeen → Trail l q more)
       → Trail l p (conditionCommands cs more)
   unfolding testsOf nextOf
   compares-run [] p c s f h more k = k p c refl refl refl refl refl
   compares-run (x ∷ cs) p c s f ((h, g), hs) more k =
       pass p (Condition (variableOf (x .measured)) (relationNumber (x .relation)) (bitsOf 4 (x .constant))) (conditionCommands cs more) refl (le-leb 2 (p .section) s)
-      (lt-leb 24 (p .conditions) (omega (arith, f)), (declared p c (var-in n (x .measured) h), (le-ltb 3 (relationNumber (x .relation)) (rel-few (x .relation)), (in-range (x .constant) g, tt))))
+      (lt-leb 24 (p .counts .conditions) (omega (arith, f)), (declared p c (var-in n (x .measured) h), (le-ltb 3 (relationNumber (x .relation)) (rel-few (x .relation)), (in-range (x .constant) g, tt))))
       (compares-run cs (withCondition p) c s (omega (arith, f)) hs more k)
 
-  effects-run : (es : List (ℕ × ℕ)) (p : ReadingState) → Core n sizes p → p .section ≡ 2 → length sizes ≤ 8 → length (p .modesSet) ≡ 8 → ValuesIn sizes es → Distinct (keys es) → Free (p .modesSet) (keys es) → (more : List Command)
-      → ((q : ReadingState) → Core n sizes q → q .section ≡ 2 → q .actions ≡ p .actions → q .numericEffects ≡ p .numericEffects → q .variablesSeen ≡ p .variablesSeen → Trail l q more)
+  effects-run : (es : List (ℕ × ℕ)) (p : ReadingState) → Core n sizes p → p .section ≡ 2 → length sizes ≤ 8 → length (p .marks .modesSet) ≡ 8 → ValuesIn sizes es → Distinct (keys es) → Free (p .marks .modesSet) (keys es) → (more : List Command)
+      → ((q : ReadingState) → Core n sizes q → q .section ≡ 2 → q .actions ≡ p .actions → q .counts .numericEffects ≡ p .counts .numericEffects → q .marks .variablesSeen ≡ p .marks .variablesSeen → Trail l q more)
       → Trail l p (modeEffectCommands es more)
   unfolding testsOf nextOf
   effects-run [] p c s z m h a f more k = k p c s refl refl refl
   effects-run (e ∷ es) p c s z m (h, hs) (a, as₁) (f, fs) more k = let (g₁, g₂) = mode-there p c e h in
       pass p (ModeEffect (e .0) (e .1)) (modeEffectCommands es more) refl (eq-eqb (p .section) 2 s)
-      (g₁, (g₂, (lt-leb 1 (getD (p .modesSet) (e .0) 0) (omega (arith, f)), tt)))
-      (effects-run es (withModeEffect p (e .0)) c s z (length-set (p .modesSet) (e .0) 1 ∙ m) hs as₁
-      (free-set (p .modesSet) (e .0) (omega (arith, h .0, z, m)) (keys es) a fs) more k)
+      (g₁, (g₂, (lt-leb 1 (getD (p .marks .modesSet) (e .0) 0) (omega (arith, f)), tt)))
+      (effects-run es (withModeEffect p (e .0)) c s z (length-set (p .marks .modesSet) (e .0) 1 ∙ m) hs as₁
+      (free-set (p .marks .modesSet) (e .0) (omega (arith, h .0, z, m)) (keys es) a fs) more k)
 
-  adds-run : (es : List (ℕ × ℤ)) (p : ReadingState) → Core n sizes p → p .section ≡ 2 → n ≤ 64 → length (p .variablesSeen) ≡ 64 → p .numericEffects + length es ≤ 16
-      → All (AmountOk l n) es → Distinct (keys es) → Free (p .variablesSeen) (keys es) → (more : List Command)
+  adds-run : (es : List (ℕ × ℤ)) (p : ReadingState) → Core n sizes p → p .section ≡ 2 → n ≤ 64 → length (p .marks .variablesSeen) ≡ 64 → p .counts .numericEffects + length es ≤ 16
+      → All (AmountOk l n) es → Distinct (keys es) → Free (p .marks .variablesSeen) (keys es) → (more : List Command)
       → ((q : ReadingState) → Core n sizes q → q .section ≡ 2 → q .actions ≡ p .actions → Trail l q more)
       → Trail l p (additionCommands es more)
   unfolding testsOf nextOf
   adds-run [] p c s z m w h a f more k = k p c s refl
   adds-run (e ∷ es) p c s z m w ((h₁, (h₂, h₃)), hs) (a, as₁) (f, fs) more k =
       pass p (Add (e .0) (bitsOf 4 (e .1))) (additionCommands es more) refl (eq-eqb (p .section) 2 s)
-      (lt-leb 16 (p .numericEffects) (omega (arith, w)), (declared p c h₁, (not-zero, (in-range (e .1) h₃, (lt-leb 1 (getD (p .variablesSeen) (e .0) 0) (omega (arith, f)), tt)))))
-      (adds-run es (withAdd p (e .0)) c s z (length-set (p .variablesSeen) (e .0) 1 ∙ m) (omega (arith, w)) hs as₁
-      (free-set (p .variablesSeen) (e .0) (omega (arith, h₁, z, m)) (keys es) a fs) more k)
+      (lt-leb 16 (p .counts .numericEffects) (omega (arith, w)), (declared p c h₁, (not-zero, (in-range (e .1) h₃, (lt-leb 1 (getD (p .marks .variablesSeen) (e .0) 0) (omega (arith, f)), tt)))))
+      (adds-run es (withAdd p (e .0)) c s z (length-set (p .marks .variablesSeen) (e .0) 1 ∙ m) (omega (arith, w)) hs as₁
+      (free-set (p .marks .variablesSeen) (e .0) (omega (arith, h₁, z, m)) (keys es) a fs) more k)
     where
       not-zero : eqb (natAbs (constant (bitsOf 4 (e .1)))) 0 ≡ false
       not-zero = rw (const-back (e .1) h₃) (ne-eqb (natAbs (e .1)) 0 (λ q. omega (arith, h₂, q)))

@@ -16,7 +16,7 @@ use Rattle.commands.proofs.Encoding.{drop-encode, read-encode}
 use Rattle.model.specs.Limits.{Limits}
 use Rattle.model.specs.ReadingState.{ReadingState, Going, begin}
 use Rattle.model.specs.Rules.{allowed, testsOf, nextOf, ruleOf, takeOf}
-use Rattle.model.specs.Reading.{Accepted, verdictFrom, verdictOf, commandsFrom, commandsOf}
+use Rattle.model.specs.Reading.{acceptedWith, verdictFrom, verdictOf, commandsFrom, commandsOf, commandsAlong, verdictAlong, remainders}
 use Rattle.model.specs.Trail.{Trail, endState}
 
 -- ---- from commands to bytes and back
@@ -27,20 +27,20 @@ take-encode l p c rest o a = rw (ne-eqb (length (encode c ++ rest)) 0 (λ e. ome
 module _ (l : Limits) where
   run-one : (len k : ℕ) (p : ReadingState) (at : ℕ) (c : Command) (rest : List ℕ) → Fits c → allowed l p (byteOf c) ≡ true → ruleOf l p c .progress ≡ Going
       → verdictFrom l len (suc k) p at (encode c ++ rest) ≡ verdictFrom l len k (ruleOf l p c .state) (at + sizeOfByte (byteOf c)) rest
-  unfolding verdictFrom
+  unfolding remainders verdictAlong
   run-one len k p at c rest o a g = rw (take-encode l p c rest o a, g, drop-encode c rest o) refl
 
   trace-one : (k : ℕ) (p : ReadingState) (c : Command) (rest : List ℕ) → Fits c → allowed l p (byteOf c) ≡ true → ruleOf l p c .progress ≡ Going
       → commandsFrom l (suc k) p (encode c ++ rest) ≡ c ∷ commandsFrom l k (ruleOf l p c .state) rest
-  unfolding commandsFrom
+  unfolding remainders commandsAlong
   trace-one k p c rest o a g = rw (take-encode l p c rest o a, g, drop-encode c rest o, read-encode c rest o) refl
 
   end-allowed : (p : ReadingState) → p .section ≡ 3 → allowed l p 90 ≡ true
   end-allowed p e = eq-eqb (p .section) 3 e
 
   pub run-trail : (cs : List Command) (len k : ℕ) (p : ReadingState) (at : ℕ) → length cs < k → All Fits cs → Trail l p cs
-      → verdictFrom l len k p at (encodeAll cs ++ encode End) ≡ Accepted (endState l p cs .variables) (endState l p cs .modes) (endState l p cs .actions)
-  unfolding verdictFrom testsOf nextOf
+      → verdictFrom l len k p at (encodeAll cs ++ encode End) ≡ acceptedWith (endState l p cs)
+  unfolding remainders verdictAlong testsOf nextOf
   run-trail [] len zero p at h o t = absurd (omega arith)
   run-trail [] len (suc k) p at h o t = rw (take-encode l p End [] (tt, tt) (end-allowed p t)) refl
   run-trail (c ∷ cs) len zero p at h o t = absurd (omega arith)
@@ -50,7 +50,7 @@ module _ (l : Limits) where
       ∙ run-trail cs len k (ruleOf l p c .state) (at + sizeOfByte (byteOf c)) (omega arith) os t
 
   pub trace-trail : (cs : List Command) (k : ℕ) (p : ReadingState) → length cs < k → All Fits cs → Trail l p cs → commandsFrom l k p (encodeAll cs ++ encode End) ≡ cs
-  unfolding commandsFrom testsOf nextOf
+  unfolding remainders commandsAlong testsOf nextOf
   trace-trail [] zero p h o t = absurd (omega arith)
   trace-trail [] (suc k) p h o t = rw (take-encode l p End [] (tt, tt) (end-allowed p t)) refl
   trace-trail (c ∷ cs) zero p h o t = absurd (omega arith)
@@ -68,7 +68,7 @@ module _ (l : Limits) (cs : List Command) (o : All Fits cs) (t : Trail l begin c
   few : length cs < suc (length (encodeAll cs ++ encode End))
   few = omega (arith, count cs, length-append (encodeAll cs) (encode End))
 
-  pub trail-accepted : verdictOf l (encodeAll cs ++ encode End) ≡ Accepted (endState l begin cs .variables) (endState l begin cs .modes) (endState l begin cs .actions)
+  pub trail-accepted : verdictOf l (encodeAll cs ++ encode End) ≡ acceptedWith (endState l begin cs)
   unfolding verdictOf
   trail-accepted = run-trail l cs (length (encodeAll cs ++ encode End)) (suc (length (encodeAll cs ++ encode End))) begin 0 few o t
 

@@ -6,7 +6,7 @@ use Rattle.lists.specs.Numbers.{numbersBytes}
 use Rattle.commands.specs.Table.{sizeOfByte}
 use Rattle.commands.specs.Reading.{commandAt}
 use Rattle.model.specs.Rules.{testsOf, nextOf, takeOf}
-use Rattle.model.specs.Reading.{verdictFrom, verdictOf, commandsFrom, commandsOf}
+use Rattle.model.specs.Reading.{verdictOf, commandsOf, commandsAlong, verdictAlong, remainders}
 use Rattle.model.specs.Plans.{readPlan}
 use Rattle.model.specs.Lowering.{encodeFile}
 use Rattle.model.specs.Judging.{judge, pricesFrom}
@@ -14,7 +14,7 @@ use Rattle.model.specs.Listing.{digits, decimal, decimalSigned, stepLine
 use Rattle.model.specs.Worked.{Holds, markedCases}
 
 pub marked-cases-hold : All Holds markedCases
-unfolding sizeOfByte commandAt testsOf nextOf takeOf verdictFrom verdictOf commandsFrom commandsOf readPlan encodeFile judge pricesFrom digits decimal decimalSigned stepLine stepLines listing
+unfolding remainders sizeOfByte commandAt testsOf nextOf takeOf verdictAlong verdictOf commandsAlong commandsOf readPlan encodeFile judge pricesFrom digits decimal decimalSigned stepLine stepLines listing
 marked-cases-hold = (
   (refl, refl),
   ((refl, refl), ((refl, refl), ((refl, refl), ((refl, refl), (refl, (refl, (refl, (refl, (refl, (refl, (refl, (refl, (refl, tt))))))))))))),

@@ -1,6 +1,6 @@
 -- Document 01, "Files": "The bytes of action k can be had as a part of the caller's file"; and the action that those bytes give.
 -- Assumes nothing.
-use Prim.Native.Nat.{ℕ, zero, suc, _+_, _-_}
+use Prim.Native.Nat.{ℕ, suc, _+_, _-_}
 use mathlib.Core.Bool.{cond}
 use mathlib.Core.List.{List, [], _∷_}
 use lib.Dec.{eqb, ltb}
@@ -10,19 +10,20 @@ use Rattle.commands.specs.Table.{sizeOfByte, letterA, letterG}
 use Rattle.commands.specs.Reading.{commandAt}
 use Rattle.commands.specs.declared.Command.{Command}
 use Rattle.model.specs.Limits.{Limits}
-use Rattle.model.specs.Reading.{Verdict, Accepted, Rejected, verdictOf}
-use Rattle.model.specs.Decoding.{Part, blank, beforeAll}
+use Rattle.model.specs.Reading.{remainders, Verdict, Accepted, Rejected, verdictOf}
+use Rattle.model.specs.Decoding.{upTo}
 
 -- the offset of a command A, G or another, before those of the commands behind it
 abbrev pub edgeAt : ℕ → ℕ → List ℕ → List ℕ
 edgeAt b at more = cond (eqb b letterG) (at ∷ []) (cond (eqb b letterA) (at ∷ more) more)
 
--- the offsets of the commands A, and last that of G, among so many commands from an offset on, `rest` being what remains there
-unfoldable pub edges : ℕ → ℕ → List ℕ → List ℕ
-edges zero at rest = []
-edges (suc most) at rest =
-    cond (eqb (length rest) 0) []
-    (edgeAt (getD rest 0 0) at (edges most (at + sizeOfByte (getD rest 0 0)) (drop (sizeOfByte (getD rest 0 0)) rest)))
+-- the offsets of the commands A, and last that of G, from an offset on
+unfoldable pub edgesAlong : ℕ → List (List ℕ) → List ℕ
+edgesAlong at [] = []
+edgesAlong at (rest ∷ more) = cond (eqb (length rest) 0) [] (edgeAt (getD rest 0 0) at (edgesAlong (at + sizeOfByte (getD rest 0 0)) more))
+
+abbrev pub edges : ℕ → ℕ → List ℕ → List ℕ
+edges most at rest = edgesAlong at (remainders most rest)
 
 -- the k-th of them, or the file's length
 unfoldable pub edgeOf : List ℕ → ℕ → ℕ
@@ -47,10 +48,13 @@ partAt file place = take (place .1 - place .0) (drop (place .0) file)
 abbrev pub actionBytes : Limits → List ℕ → ℕ → Answer (List ℕ)
 actionBytes l file k = then (actionPlace l file k) (λ place. given (partAt file place))
 
--- ---- the commands in a run of bytes, and the action whose bytes they are: all but its A
-unfoldable pub commandsIn : ℕ → List ℕ → List Command
-commandsIn zero s = []
-commandsIn (suc most) s = cond (eqb (length s) 0) [] (commandAt s ∷ commandsIn most (drop (sizeOfByte (getD s 0 0)) s))
+-- ---- the commands in a run of bytes; and those of the action whose bytes they are: behind its A, up to the next A or G
+unfoldable pub allAlong : List (List ℕ) → List Command
+allAlong [] = []
+allAlong (rest ∷ more) = cond (eqb (length rest) 0) [] (commandAt rest ∷ allAlong more)
 
-unfoldable pub decodeAction : List ℕ → Part
-decodeAction s = beforeAll (drop 1 (commandsIn (suc (length s)) s)) blank .current
+abbrev pub commandsIn : ℕ → List ℕ → List Command
+commandsIn most s = allAlong (remainders most s)
+
+unfoldable pub decodeAction : List ℕ → List Command
+decodeAction s = upTo (drop 1 (commandsIn (suc (length s)) s))

@@ -1,115 +1,139 @@
--- Document 01, "Files": the task of a file's commands, read from the last to the first; and what a reader of a whole file answers.
+-- Document 01, "Files": the task of a file's commands, field by field; and what a reader of a whole file answers.
 -- Assumes nothing.
 use Prim.Native.Nat.{ℕ}
-use mathlib.Core.List.{List, [], _∷_}
+use mathlib.Core.Bool.{Bool, true, cond}
+use mathlib.Core.List.{List, [], _∷_, map}
+use lib.Dec.{eqb}
+use lib.ListN.{getD}
 use lib.IntN.{ℤ}
 use Rattle.integers.specs.Relation.{relationOf}
 use Rattle.lists.specs.Answer.{Answer, given, refused}
+use Rattle.commands.specs.Table.{letterV, letterU, letterM, letterA, letterC, letterP, letterE, plusSign, letterL, letterT, letterQ, letterR, letterG}
+use Rattle.commands.specs.Encoding.{byteOf, operands}
 use Rattle.commands.specs.declared.Command.{Command}
-use Rattle.commands.specs.declared.Command.the-variants.{Variable, Start, Mode, Action, Condition, ModeCondition, ModeEffect, Add, Linear, Term, Quotient, Residue, Goal, End, Refused}
-use Rattle.model.specs.Tasks.{variable, NumericCondition, Effect, noEffect, addEffect, linearEffect, quotientEffect, residueEffect, SourceAction, RestrictedAction, SourceVariable, SourceTask, RestrictedTask}
+use Rattle.model.specs.Tasks.{variable, NumericCondition, Effect, noEffect, addEffect, linearEffect, quotientEffect, residueEffect, SourceAction}
+use Rattle.model.specs.Tasks.{RestrictedAction, SourceVariable, SourceTask, RestrictedTask}
 use Rattle.model.specs.Limits.{sourceLimits, restrictedLimits}
 use Rattle.model.specs.Rules.{constant}
 use Rattle.model.specs.Reading.{Verdict, Accepted, Rejected, verdictOf, commandsOf}
 
--- what stands between an A or G and the next A, G or Z. A source action has its effect, a restricted one its additions; `terms` are the
--- T's that no L has taken yet
-pub record Part : Type 0 where
-  pub modeConditions : List (ℕ × ℕ)
-  pub conditions : List (NumericCondition ℕ)
-  pub modeEffects : List (ℕ × ℕ)
-  pub additions : List (ℕ × ℤ)
-  pub effect : Effect
-  pub terms : List (ℕ × ℤ)
+-- ---- commands by their bytes
+-- those with this byte, in order
+abbrev pub those : ℕ → List Command → List Command
+those b [] = []
+those b (c ∷ cs) = cond (eqb (byteOf c) b) (c ∷ those b cs) (those b cs)
 
-abbrev pub emptyPart : Part
-emptyPart = record { modeConditions = []; conditions = []; modeEffects = []; additions = []; effect = noEffect; terms = [] }
+-- up to the next A or G
+abbrev pub isEdge : Command → Bool
+isEdge c = cond (eqb (byteOf c) letterG) true (eqb (byteOf c) letterA)
 
--- the commands from some place of a file on; `current` has what stands between that place and the next A, G or Z
-pub record Draft : Type 0 where
-  pub variables : List SourceVariable
-  pub starts : List ℤ
-  pub modes : List (ℕ × ℕ)
-  pub actions : List Part
-  pub goal : Part
-  pub current : Part
+abbrev pub upTo : List Command → List Command
+upTo [] = []
+upTo (c ∷ cs) = cond (isEdge c) [] (c ∷ upTo cs)
 
-abbrev pub blank : Draft
-blank = record { variables = []; starts = []; modes = []; actions = []; goal = emptyPart; current = emptyPart }
+-- behind each command with this byte, those up to the next A or G
+abbrev pub partsAt : ℕ → List Command → List (List Command)
+partsAt b [] = []
+partsAt b (c ∷ cs) = cond (eqb (byteOf c) b) (upTo cs ∷ partsAt b cs) (partsAt b cs)
 
-abbrev pub withCurrent : Draft → Part → Draft
-withCurrent s a = record { variables = s .variables; starts = s .starts; modes = s .modes; actions = s .actions; goal = s .goal; current = a }
+-- the commands of each action; and of the goal
+abbrev pub actionsOf : List Command → List (List Command)
+actionsOf = partsAt letterA
 
--- a command in front of an action's or the goal's others
-abbrev pub inFront : Command → Part → Part
-inFront (Condition v r k) a = record { modeConditions = a .modeConditions; conditions = record { measured = variable v; relation = relationOf r; constant = constant k } ∷ a .conditions; modeEffects = a .modeEffects; additions = a .additions; effect = a .effect; terms = a .terms }
-inFront (ModeCondition m x) a = record { modeConditions = (m, x) ∷ a .modeConditions; conditions = a .conditions; modeEffects = a .modeEffects; additions = a .additions; effect = a .effect; terms = a .terms }
-inFront (ModeEffect m x) a = record { modeConditions = a .modeConditions; conditions = a .conditions; modeEffects = (m, x) ∷ a .modeEffects; additions = a .additions; effect = a .effect; terms = a .terms }
-inFront (Add v k) a = record { modeConditions = a .modeConditions; conditions = a .conditions; modeEffects = a .modeEffects; additions = (v, constant k) ∷ a .additions; effect = addEffect v (constant k); terms = a .terms }
-inFront (Linear t k) a = record { modeConditions = a .modeConditions; conditions = a .conditions; modeEffects = a .modeEffects; additions = a .additions; effect = linearEffect t (constant k) (a .terms); terms = a .terms }
-inFront (Term v k) a = record { modeConditions = a .modeConditions; conditions = a .conditions; modeEffects = a .modeEffects; additions = a .additions; effect = a .effect; terms = (v, constant k) ∷ a .terms }
-inFront (Quotient t y k) a = record { modeConditions = a .modeConditions; conditions = a .conditions; modeEffects = a .modeEffects; additions = a .additions; effect = quotientEffect t y (constant k); terms = a .terms }
-inFront (Residue t y k) a = record { modeConditions = a .modeConditions; conditions = a .conditions; modeEffects = a .modeEffects; additions = a .additions; effect = residueEffect t y (constant k); terms = a .terms }
-inFront (Variable b c d) a = a
-inFront (Start b) a = a
-inFront (Mode z x) a = a
-inFront Action a = a
-inFront Goal a = a
-inFront End a = a
-inFront (Refused number) a = a
+abbrev pub goalOf : List Command → List Command
+goalOf cs = getD (partsAt letterG cs) 0 []
 
--- a command in front of the others of the file
-abbrev pub before : Command → Draft → Draft
-before (Variable lower upper start) s = record { variables = record { lower = constant lower; upper = constant upper; start = constant start } ∷ s .variables; starts = s .starts; modes = s .modes; actions = s .actions; goal = s .goal; current = s .current }
-before (Start a) s = record { variables = s .variables; starts = constant a ∷ s .starts; modes = s .modes; actions = s .actions; goal = s .goal; current = s .current }
-before (Mode z x) s = record { variables = s .variables; starts = s .starts; modes = (z, x) ∷ s .modes; actions = s .actions; goal = s .goal; current = s .current }
-before Action s = record { variables = s .variables; starts = s .starts; modes = s .modes; actions = s .current ∷ s .actions; goal = s .goal; current = emptyPart }
-before Goal s = record { variables = s .variables; starts = s .starts; modes = s .modes; actions = s .actions; goal = s .current; current = emptyPart }
-before (Condition v r k) s = withCurrent s (inFront (Condition v r k) (s .current))
-before (ModeCondition m x) s = withCurrent s (inFront (ModeCondition m x) (s .current))
-before (ModeEffect m x) s = withCurrent s (inFront (ModeEffect m x) (s .current))
-before (Add v k) s = withCurrent s (inFront (Add v k) (s .current))
-before (Linear t k) s = withCurrent s (inFront (Linear t k) (s .current))
-before (Term v k) s = withCurrent s (inFront (Term v k) (s .current))
-before (Quotient t y k) s = withCurrent s (inFront (Quotient t y k) (s .current))
-before (Residue t y k) s = withCurrent s (inFront (Residue t y k) (s .current))
-before End s = s
-before (Refused number) s = s
+-- ---- what one command says: its operands, in their order
+abbrev pub operand : Command → ℕ → ℕ
+operand c i = getD (operands c) i 0
 
-abbrev pub beforeAll : List Command → Draft → Draft
-beforeAll [] s = s
-beforeAll (c ∷ cs) s = before c (beforeAll cs s)
+-- V lower upper start; U start
+abbrev pub sourceVariableOf : Command → SourceVariable
+sourceVariableOf c = record { lower = constant (operand c 0); upper = constant (operand c 1); start = constant (operand c 2) }
 
-abbrev pub draftOf : List Command → Draft
-draftOf cs = beforeAll cs blank
+abbrev pub startOf : Command → ℤ
+startOf c = constant (operand c 0)
+
+-- M size start; P and E mode value
+abbrev pub pairOf : Command → ℕ × ℕ
+pairOf c = (operand c 0, operand c 1)
+
+-- C var relation constant
+abbrev pub conditionOf : Command → NumericCondition ℕ
+conditionOf c = record { measured = variable (operand c 0); relation = relationOf (operand c 1); constant = constant (operand c 2) }
+
+-- + var c; T var weight
+abbrev pub amountOf : Command → ℕ × ℤ
+amountOf c = (operand c 0, constant (operand c 1))
+
+-- ---- what commands say of what they stand in: a file, an action or the goal
+abbrev pub variablesOf : List Command → List SourceVariable
+variablesOf cs = map sourceVariableOf (those letterV cs)
+
+abbrev pub startsOf : List Command → List ℤ
+startsOf cs = map startOf (those letterU cs)
+
+abbrev pub modesOf : List Command → List (ℕ × ℕ)
+modesOf cs = map pairOf (those letterM cs)
+
+abbrev pub conditionsOf : List Command → List (NumericCondition ℕ)
+conditionsOf cs = map conditionOf (those letterC cs)
+
+abbrev pub modeConditionsOf : List Command → List (ℕ × ℕ)
+modeConditionsOf cs = map pairOf (those letterP cs)
+
+abbrev pub modeEffectsOf : List Command → List (ℕ × ℕ)
+modeEffectsOf cs = map pairOf (those letterE cs)
+
+abbrev pub additionsOf : List Command → List (ℕ × ℤ)
+additionsOf cs = map amountOf (those plusSign cs)
+
+abbrev pub termsOf : List Command → List (ℕ × ℤ)
+termsOf cs = map amountOf (those letterT cs)
+
+-- "At most one numeric effect per action": the first; an L with the T's behind it
+abbrev pub effectOf : List Command → Effect
+effectOf [] = noEffect
+effectOf (c ∷ cs) =
+    cond (eqb (byteOf c) plusSign) (addEffect (operand c 0) (constant (operand c 1)))
+    (cond (eqb (byteOf c) letterL) (linearEffect (operand c 0) (constant (operand c 1)) (termsOf cs))
+    (cond (eqb (byteOf c) letterQ) (quotientEffect (operand c 0) (operand c 1) (constant (operand c 2)))
+    (cond (eqb (byteOf c) letterR) (residueEffect (operand c 0) (operand c 1) (constant (operand c 2)))
+    (effectOf cs))))
 
 -- ---- the tasks
-abbrev pub sourceActionOf : Part → SourceAction
-sourceActionOf a = record { modeConditions = a .modeConditions; conditions = a .conditions; modeEffects = a .modeEffects; effect = a .effect }
-
-abbrev pub restrictedActionOf : Part → RestrictedAction
-restrictedActionOf a = record { modeConditions = a .modeConditions; conditions = a .conditions; modeEffects = a .modeEffects; additions = a .additions }
-
-abbrev pub each : {A B : Type 0} → (A → B) → List A → List B
-each f [] = []
-each f (x ∷ xs) = f x ∷ each f xs
-
-abbrev pub sourceTaskOf : Draft → SourceTask
-sourceTaskOf s = record {
-  variables = s .variables;
-  modes = s .modes;
-  actions = each sourceActionOf (s .actions);
-  goalModes = s .goal .modeConditions;
-  goalConditions = s .goal .conditions;
+abbrev pub sourceActionOf : List Command → SourceAction
+sourceActionOf cs = record {
+  modeConditions = modeConditionsOf cs;
+  conditions = conditionsOf cs;
+  modeEffects = modeEffectsOf cs;
+  effect = effectOf cs;
 }
 
-abbrev pub restrictedTaskOf : Draft → RestrictedTask
-restrictedTaskOf s = record {
-  starts = s .starts;
-  modes = s .modes;
-  actions = each restrictedActionOf (s .actions);
-  goalModes = s .goal .modeConditions;
-  goalConditions = s .goal .conditions;
+abbrev pub restrictedActionOf : List Command → RestrictedAction
+restrictedActionOf cs = record {
+  modeConditions = modeConditionsOf cs;
+  conditions = conditionsOf cs;
+  modeEffects = modeEffectsOf cs;
+  additions = additionsOf cs;
+}
+
+abbrev pub sourceTaskOf : List Command → SourceTask
+sourceTaskOf cs = record {
+  variables = variablesOf cs;
+  modes = modesOf cs;
+  actions = map sourceActionOf (actionsOf cs);
+  goalModes = modeConditionsOf (goalOf cs);
+  goalConditions = conditionsOf (goalOf cs);
+}
+
+abbrev pub restrictedTaskOf : List Command → RestrictedTask
+restrictedTaskOf cs = record {
+  starts = startsOf cs;
+  modes = modesOf cs;
+  actions = map restrictedActionOf (actionsOf cs);
+  goalModes = modeConditionsOf (goalOf cs);
+  goalConditions = conditionsOf (goalOf cs);
 }
 
 -- ---- whole files: "A task is accepted when the rules on its file give no refusal"
@@ -118,7 +142,7 @@ onVerdict (Accepted variables modes actions) t = given t
 onVerdict (Rejected number place) t = refused number place
 
 abbrev pub readSource : List ℕ → Answer SourceTask
-readSource file = onVerdict (verdictOf sourceLimits file) (sourceTaskOf (draftOf (commandsOf sourceLimits file)))
+readSource file = onVerdict (verdictOf sourceLimits file) (sourceTaskOf (commandsOf sourceLimits file))
 
 abbrev pub readRestricted : List ℕ → Answer RestrictedTask
-readRestricted file = onVerdict (verdictOf restrictedLimits file) (restrictedTaskOf (draftOf (commandsOf restrictedLimits file)))
+readRestricted file = onVerdict (verdictOf restrictedLimits file) (restrictedTaskOf (commandsOf restrictedLimits file))

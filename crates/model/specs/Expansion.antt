@@ -10,9 +10,10 @@ use lib.IntN.{ℤ, pos, negsuc, natAbs, _+ℤ_, _*ℤ_}
 use Rattle.integers.specs.Division.{floor, quotientOf, residueOf}
 use Rattle.model.specs.Systems.{orEmpty, orZero, expandFrom, keep, followPlan}
 use Rattle.model.specs.Tasks.{Effect, noEffect, addEffect, linearEffect, quotientEffect, residueEffect, SourceAction, SourceTask, RestrictedTask, State}
-use Rattle.model.specs.Steps.{integerAt, naturalAt, linear, lowerBounds, upperBounds, sourceStart, stepSource, restrictedStart, stepRestricted}
-use Rattle.model.specs.Stages.{Name, source, helperA, helperB, hold, usesLeft, StageKind, byOne, byUnit, Stage, turnPlace, openingAdditions, stagesOf, opening, sourceNumber}
-use Rattle.model.specs.Lowering.{lowerTask}
+use Rattle.model.specs.Steps.{conditionsHold, integerAt, naturalAt, linear, lowerBounds}
+use Rattle.model.specs.Steps.{upperBounds, sourceStart, stepSource, restrictedStart, stepRestricted}
+use Rattle.model.specs.Stages.{Name, source, helperA, helperB, hold, StageKind, byOne}
+use Rattle.model.specs.Stages.{byUnit, Stage, turnPlace, openingAdditions, stagesOf, opening, sourceNumber}
 
 -- ---- values by name, and what additions make of them
 abbrev pub sameName : Name → Name → Bool
@@ -20,27 +21,18 @@ sameName (source i) (source j) = eqb i j
 sameName (source i) helperA = false
 sameName (source i) helperB = false
 sameName (source i) (hold j) = false
-sameName (source i) (usesLeft j) = false
 sameName helperA (source j) = false
 sameName helperA helperA = true
 sameName helperA helperB = false
 sameName helperA (hold j) = false
-sameName helperA (usesLeft j) = false
 sameName helperB (source j) = false
 sameName helperB helperA = false
 sameName helperB helperB = true
 sameName helperB (hold j) = false
-sameName helperB (usesLeft j) = false
 sameName (hold i) (source j) = false
 sameName (hold i) helperA = false
 sameName (hold i) helperB = false
 sameName (hold i) (hold j) = eqb i j
-sameName (hold i) (usesLeft j) = false
-sameName (usesLeft i) (source j) = false
-sameName (usesLeft i) helperA = false
-sameName (usesLeft i) helperB = false
-sameName (usesLeft i) (hold j) = false
-sameName (usesLeft i) (usesLeft j) = eqb i j
 
 -- what an action adds to a variable: its additions name each variable at most once
 abbrev pub additionTo : List (Name × ℤ) → Name → Option ℤ
@@ -60,7 +52,6 @@ namedValues v a b (source j) = v j
 namedValues v a b helperA = a
 namedValues v a b helperB = b
 namedValues v a b (hold j) = pos 0
-namedValues v a b (usesLeft j) = pos 0
 
 -- ---- the walk through the stages: in each, falling or rising as often as the unit goes into the counter, then the turn
 -- how often: falling so many times, or, where negative, rising
@@ -90,6 +81,13 @@ stageWalk b [] v = []
 stageWalk b (d ∷ ds) v =
     strokes b (unitsIn (d .kind) (v (d .counter))) ++ ((b + turnPlace (d .kind)) ∷ stageWalk (suc (b + turnPlace (d .kind))) ds (afterStage d v))
 
+-- the walk that hangs: up to the first turn whose further conditions fail, and not with it
+abbrev pub walkToDeadEnd : ℕ → List Stage → (Name → ℤ) → List ℕ
+walkToDeadEnd b [] v = []
+walkToDeadEnd b (d ∷ ds) v = strokes b (unitsIn (d .kind) (v (d .counter)))
+    ++ cond (conditionsHold (d .turnConditions) (afterStrokes d v))
+    ((b + turnPlace (d .kind)) ∷ walkToDeadEnd (suc (b + turnPlace (d .kind))) ds (afterStage d v)) []
+
 -- the values behind an opening
 abbrev pub openedValues : SourceAction → (ℕ → ℤ) → Name → ℤ
 openedValues a v = plus (openingAdditions (a .effect)) (namedValues v (pos 0) (pos 0))
@@ -101,6 +99,14 @@ module _ (lower upper : ℕ → ℤ) (acts : List SourceAction) where
 
   abbrev pub stageStepsFrom : State → ℕ → List ℕ
   stageStepsFrom x = stageStepsOver (integerAt (x .values))
+
+  -- the same where its result is out of bounds: up to where nothing applies
+  abbrev pub deadEndStepsOver : (ℕ → ℤ) → ℕ → List ℕ
+  deadEndStepsOver v k =
+      orEmpty (getElem? acts k) (λ a. walkToDeadEnd (suc (opening lower upper acts k)) (stagesOf lower upper (a .effect)) (openedValues a v))
+
+  abbrev pub deadEndStepsFrom : State → ℕ → List ℕ
+  deadEndStepsFrom x = deadEndStepsOver (integerAt (x .values))
 
 -- ---- "Step price, over the values before the step"
 abbrev pub magnitudes : List (ℕ × ℤ) → (ℕ → ℤ) → ℕ
@@ -122,20 +128,31 @@ priceOver acts v k = orZero (getElem? acts k) (λ a. priceOfEffect (a .effect) v
 abbrev pub priceFrom : List SourceAction → State → ℕ → ℕ
 priceFrom acts x = priceOver acts (integerAt (x .values))
 
--- ---- of a whole task
+-- ---- of a whole task: the number in R of an action's opening, the source action that a number opens, and what follows an opening
+abbrev pub openingOf : SourceTask → ℕ → ℕ
+openingOf t = opening (lowerBounds t) (upperBounds t) (t .actions)
+
+abbrev pub sourceNumberOf : SourceTask → ℕ → Option ℕ
+sourceNumberOf t = sourceNumber (lowerBounds t) (upperBounds t) (t .actions)
+
+abbrev pub stageStepsOf : SourceTask → State → ℕ → List ℕ
+stageStepsOf t = stageStepsFrom (lowerBounds t) (upperBounds t) (t .actions)
+
+abbrev pub deadEndStepsOf : SourceTask → State → ℕ → List ℕ
+deadEndStepsOf t = deadEndStepsFrom (lowerBounds t) (upperBounds t) (t .actions)
+
 -- "for each source step its single action or its opening, then ..": what follows is the walk above
 abbrev pub expandTask : SourceTask → List ℕ → List ℕ
-expandTask t p = expandFrom (stepSource t) (opening (lowerBounds t) (upperBounds t) (t .actions)) (stageStepsFrom (lowerBounds t) (upperBounds t) (t .actions)) p (sourceStart t)
+expandTask t p = expandFrom (stepSource t) (openingOf t) (stageStepsOf t) p (sourceStart t)
 
--- The same, said by R's own steps: "from R's start, for each source step its single action or its opening, then, while control is not 0, the
--- one action that applies", for at most 1,000,000 steps
+-- The same, said by the steps of R alone: "from R's start, for each source step its single action or its opening, then, while control is not
+-- 0, the one action that applies", for at most 1,000,000 steps
 abbrev pub controlAtRest : SourceTask → State → Bool
 controlAtRest t x = eqb (naturalAt (x .modes) (length (t .modes))) 0
 
-abbrev pub expandByFollowing : SourceTask → List ℕ → List ℕ
-expandByFollowing t p =
-    followPlan (stepRestricted (lowerTask t)) (controlAtRest t) (opening (lowerBounds t) (upperBounds t) (t .actions)) (length (lowerTask t .actions)) 1_000_000 p (restrictedStart (lowerTask t))
+abbrev pub expandByFollowing : SourceTask → RestrictedTask → List ℕ → List ℕ
+expandByFollowing t r p = followPlan (stepRestricted r) (controlAtRest t) (openingOf t) (length (r .actions)) 1_000_000 p (restrictedStart r)
 
 -- "Projecting keeps the openings and single actions as source numbers, in their order, and drops the rest."
 abbrev pub projectTask : SourceTask → List ℕ → List ℕ
-projectTask t q = keep (sourceNumber (lowerBounds t) (upperBounds t) (t .actions)) q
+projectTask t q = keep (sourceNumberOf t) q

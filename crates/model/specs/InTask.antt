@@ -8,9 +8,10 @@ use mathlib.Core.List.{List, [], _∷_, _++_}
 use lib.Dec.{T}
 use lib.IntN.{ℤ}
 use Rattle.integers.specs.All.{All}
-use Rattle.model.specs.Tasks.{Measured, variable, weightedSum, NumericCondition, Effect, noEffect, addEffect, linearEffect, quotientEffect, residueEffect, SourceAction, State}
+use Rattle.model.specs.Tasks.{Measured, variable, weightedSum, NumericCondition, Effect, noEffect}
+use Rattle.model.specs.Tasks.{addEffect, linearEffect, quotientEffect, residueEffect, SourceAction, State}
 use Rattle.model.specs.Steps.{integerAt, naturalAt, conditionsHold, modesHold}
-use Rattle.model.specs.Stages.{Name, source, helperA, helperB, hold, usesLeft}
+use Rattle.model.specs.Stages.{Name, source, helperA, helperB, hold}
 use Rattle.model.specs.NamedSystems.{modeEffectOn}
 
 abbrev pub NameIn : ℕ → Name → Type 0
@@ -18,7 +19,6 @@ NameIn n (source i) = i < n
 NameIn n helperA = Unit {0}
 NameIn n helperB = Unit {0}
 NameIn n (hold j) = ⊥
-NameIn n (usesLeft j) = ⊥
 
 -- a condition of a file reads one variable, and it is declared
 abbrev pub MeasureIn : {I : Type 0} → (I → Type 0) → Measured I → Type 0

@@ -83,9 +83,17 @@ lowerBytes file = then (readSource file) (λ t. given (lowerFile t))
 -- "It refuses a plan that isn't valid for T." 9: the expansion is over 1,000,000 steps
 abbrev pub expandBytes : List ℕ → List ℕ → Answer (List ℕ)
 expandBytes file plan =
-    then (readSource file) (λ t. then (readPlan plan) (λ p. then (judgeSourceTask t p) (λ v. then (priceTask t true p) (λ c. given (planBytes (expandTask t p))))))
+    then (readSource file) (λ t.
+    then (readPlan plan) (λ p.
+    then (judgeSourceTask t p) (λ v.
+    then (priceTask t true p) (λ c.
+    given (planBytes (expandTask t p))))))
 
 -- "Projecting takes T and a restricted plan and judges the plan against R first": R is the task in the file that the lowering writes
 abbrev pub projectBytes : List ℕ → List ℕ → Answer (List ℕ)
 projectBytes file plan =
-    then (readSource file) (λ t. then (readRestricted (lowerFile t)) (λ r. then (readPlan plan) (λ q. then (judgeRestrictedTask r q) (λ v. given (planBytes (projectTask t q))))))
+    then (readSource file) (λ t.
+    then (readRestricted (lowerFile t)) (λ r.
+    then (readPlan plan) (λ q.
+    then (judgeRestrictedTask r q) (λ v.
+    given (planBytes (projectTask t q))))))

@@ -2,7 +2,7 @@
 -- Assumes nothing.
 use Prim.Native.Nat.{ℕ, zero, suc, _+_}
 use mathlib.Core.Bool.{cond}
-use mathlib.Core.List.{List, [], _∷_, _++_}
+use mathlib.Core.List.{List, [], _∷_, _++_, map}
 use lib.Dec.{eqb}
 use lib.ListN.{length}
 use lib.IntN.{ℤ, pos}
@@ -13,7 +13,7 @@ use Rattle.commands.specs.declared.Command.{Command}
 use Rattle.commands.specs.declared.Command.the-variants.{Start, Mode, Action, Condition, ModeCondition, ModeEffect, Add, Goal, End}
 use Rattle.model.specs.Tasks.{Measured, variable, weightedSum, NumericCondition, SourceAction, RestrictedAction, SourceTask, RestrictedTask, State}
 use Rattle.model.specs.Steps.{lowerBounds, upperBounds, sourceStart}
-use Rattle.model.specs.Stages.{Name, source, helperA, helperB, hold, usesLeft, NamedAction, lowerActions, stageCount}
+use Rattle.model.specs.Stages.{Name, source, helperA, helperB, hold, NamedAction, lowerActions, stageCount}
 
 -- ---- numbers for names: "R has T's n variables, then A (number n) and B (n+1)"
 abbrev pub numberOfName : ℕ → Name → ℕ
@@ -21,7 +21,6 @@ numberOfName n (source i) = i
 numberOfName n helperA = n
 numberOfName n helperB = suc n
 numberOfName n (hold j) = suc (suc (n + j))
-numberOfName n (usesLeft j) = suc (suc (n + j))
 
 abbrev pub numberedAdditions : ℕ → List (Name × ℤ) → List (ℕ × ℤ)
 numberedAdditions n [] = []
@@ -67,38 +66,54 @@ lowerTask t = record {
 }
 
 -- ---- the file. "Byte order in an action: A; P ..; C ..; E ..; + by rising variable"
-abbrev pub startCommands : List ℤ → List Command → List Command
-startCommands [] more = more
-startCommands (z ∷ zs) more = Start (bitsOf 4 z) ∷ startCommands zs more
+-- what stands in it, one command each
+abbrev pub startCommand : ℤ → Command
+startCommand z = Start (bitsOf 4 z)
 
-abbrev pub modeCommands : List (ℕ × ℕ) → List Command → List Command
-modeCommands [] more = more
-modeCommands (m ∷ ms) more = Mode (m .0) (m .1) ∷ modeCommands ms more
+abbrev pub modeCommand : ℕ × ℕ → Command
+modeCommand m = Mode (m .0) (m .1)
 
-abbrev pub modeConditionCommands : List (ℕ × ℕ) → List Command → List Command
-modeConditionCommands [] more = more
-modeConditionCommands (p ∷ ps) more = ModeCondition (p .0) (p .1) ∷ modeConditionCommands ps more
+abbrev pub modeConditionCommand : ℕ × ℕ → Command
+modeConditionCommand p = ModeCondition (p .0) (p .1)
 
 -- the variable of a condition (no condition of a file has a sum)
 abbrev pub variableOf : Measured ℕ → ℕ
 variableOf (variable i) = i
 variableOf (weightedSum ts) = zero
 
+abbrev pub conditionCommand : NumericCondition ℕ → Command
+conditionCommand c = Condition (variableOf (c .measured)) (relationNumber (c .relation)) (bitsOf 4 (c .constant))
+
+abbrev pub modeEffectCommand : ℕ × ℕ → Command
+modeEffectCommand e = ModeEffect (e .0) (e .1)
+
+abbrev pub additionCommand : ℕ × ℤ → Command
+additionCommand e = Add (e .0) (bitsOf 4 (e .1))
+
+-- runs of them, in front of what follows
+abbrev pub startCommands : List ℤ → List Command → List Command
+startCommands zs more = map startCommand zs ++ more
+
+abbrev pub modeCommands : List (ℕ × ℕ) → List Command → List Command
+modeCommands ms more = map modeCommand ms ++ more
+
+abbrev pub modeConditionCommands : List (ℕ × ℕ) → List Command → List Command
+modeConditionCommands ps more = map modeConditionCommand ps ++ more
+
 abbrev pub conditionCommands : List (NumericCondition ℕ) → List Command → List Command
-conditionCommands [] more = more
-conditionCommands (c ∷ cs) more = Condition (variableOf (c .measured)) (relationNumber (c .relation)) (bitsOf 4 (c .constant)) ∷ conditionCommands cs more
+conditionCommands cs more = map conditionCommand cs ++ more
 
 abbrev pub modeEffectCommands : List (ℕ × ℕ) → List Command → List Command
-modeEffectCommands [] more = more
-modeEffectCommands (e ∷ es) more = ModeEffect (e .0) (e .1) ∷ modeEffectCommands es more
+modeEffectCommands es more = map modeEffectCommand es ++ more
 
 abbrev pub additionCommands : List (ℕ × ℤ) → List Command → List Command
-additionCommands [] more = more
-additionCommands (e ∷ es) more = Add (e .0) (bitsOf 4 (e .1)) ∷ additionCommands es more
+additionCommands es more = map additionCommand es ++ more
 
 abbrev pub actionCommands : RestrictedAction → List Command → List Command
 actionCommands a more =
-    Action ∷ modeConditionCommands (a .modeConditions) (conditionCommands (a .conditions) (modeEffectCommands (a .modeEffects) (additionCommands (a .additions) more)))
+    Action
+    ∷ modeConditionCommands (a .modeConditions)
+    (conditionCommands (a .conditions) (modeEffectCommands (a .modeEffects) (additionCommands (a .additions) more)))
 
 abbrev pub actionsCommands : List RestrictedAction → List Command → List Command
 actionsCommands [] more = more
@@ -107,7 +122,8 @@ actionsCommands (a ∷ acts) more = actionCommands a (actionsCommands acts more)
 -- "File order: all U, all M, actions, G (same order), Z"
 abbrev pub fileCommands : RestrictedTask → List Command
 fileCommands r =
-    startCommands (r .starts) (modeCommands (r .modes) (actionsCommands (r .actions) (Goal ∷ modeConditionCommands (r .goalModes) (conditionCommands (r .goalConditions) []))))
+    startCommands (r .starts) (modeCommands (r .modes) (actionsCommands (r .actions)
+    (Goal ∷ modeConditionCommands (r .goalModes) (conditionCommands (r .goalConditions) []))))
 
 unfoldable pub encodeFile : RestrictedTask → List ℕ
 encodeFile r = encodeAll (fileCommands r) ++ encode End

@@ -4,15 +4,15 @@
 use Prim.Native.Nat.{ℕ, zero, suc, _+_}
 use mathlib.Core.Bool.{Bool, true, cond, _&&_}
 use mathlib.Core.Option.{Option, none, some}
-use mathlib.Core.List.{List, [], _∷_, _++_}
+use mathlib.Core.List.{List, [], _∷_}
 use lib.Dec.{eqb}
 use lib.ListN.{getElem?}
 use lib.IntN.{ℤ, pos, natAbs}
-use Rattle.model.specs.Systems.{bind, orEmpty, orZero, provided}
+use Rattle.model.specs.Systems.{bind, orZero, provided}
 use Rattle.model.specs.Tasks.{SourceAction, State}
 use Rattle.model.specs.Steps.{integerAt, naturalAt, conditionsHold, modesHold, result, withinBounds}
-use Rattle.model.specs.Stages.{Name, NamedAction, Stage, turnPlace, stagesOf, opening}
-use Rattle.model.specs.Expansion.{plus, namedValues, unitsIn, strokes, afterStrokes, afterStage, openedValues, stageStepsOver, priceOver}
+use Rattle.model.specs.Stages.{Name, NamedAction, Stage, stagesOf}
+use Rattle.model.specs.Expansion.{plus, namedValues, unitsIn, afterStrokes, afterStage, openedValues, stageStepsOver, deadEndStepsOver, priceOver}
 
 -- ---- mode effects: mode and value, each mode at most once
 abbrev pub modeEffectOn : List (ℕ × ℕ) → ℕ → Option ℕ
@@ -86,12 +86,7 @@ abbrev pub stagesPrice : List Stage → (Name → ℤ) → ℕ
 stagesPrice [] v = zero
 stagesPrice (d ∷ ds) v = suc (natAbs (unitsIn (d .kind) (v (d .counter)))) + stagesPrice ds (afterStage d v)
 
--- the walk that hangs: up to the first turn whose further conditions fail; and the number of its steps
-abbrev pub walkToDeadEnd : ℕ → List Stage → (Name → ℤ) → List ℕ
-walkToDeadEnd b [] v = []
-walkToDeadEnd b (d ∷ ds) v = strokes b (unitsIn (d .kind) (v (d .counter)))
-    ++ cond (conditionsHold (d .turnConditions) (afterStrokes d v)) ((b + turnPlace (d .kind)) ∷ walkToDeadEnd (suc (b + turnPlace (d .kind))) ds (afterStage d v)) []
-
+-- the number of steps of the walk that hangs
 abbrev pub priceToDeadEnd : List Stage → (Name → ℤ) → ℕ
 priceToDeadEnd [] v = zero
 priceToDeadEnd (d ∷ ds) v =
@@ -108,7 +103,7 @@ module _ (lower upper : ℕ → ℤ) (acts : List SourceAction) where
 
   -- the walk to a dead end, where the result is out of bounds, and the number of its steps
   abbrev pub deadEndSteps : NamedSource → ℕ → List ℕ
-  deadEndSteps s k = orEmpty (getElem? acts k) (λ a. walkToDeadEnd (suc (opening lower upper acts k)) (stagesOf lower upper (a .effect)) (entered a s))
+  deadEndSteps s = deadEndStepsOver lower upper acts (s .value)
 
   abbrev pub deadEndPrice : NamedSource → ℕ → ℕ
   deadEndPrice s k = orZero (getElem? acts k) (λ a. priceToDeadEnd (stagesOf lower upper (a .effect)) (entered a s))

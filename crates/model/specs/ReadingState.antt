@@ -16,21 +16,31 @@ inAction = 2
 abbrev pub inGoal : ℕ
 inGoal = 3
 
--- Counted in the file: variables, modes, actions. Counted in the action or goal: conditions (C), modeConditions (P), numericEffects.
--- `terms`: 0 where no T may stand, else 1 plus the T's since their L. `sizes`: of each mode. `modesSet`: 1 at each mode that
--- has its effect in the action. `variablesSeen`: 1 at each variable that stands in a T or a + of the action
-pub record ReadingState : Type 0 where
-  pub section : ℕ
+-- what the file has declared: how many variables and modes, and the size of each mode
+pub record Declarations : Type 0 where
   pub variables : ℕ
   pub modes : ℕ
-  pub actions : ℕ
+  pub sizes : List ℕ
+
+-- how much the action or goal has so far: C, P and numeric effects
+pub record Counts : Type 0 where
   pub conditions : ℕ
   pub modeConditions : ℕ
   pub numericEffects : ℕ
-  pub terms : ℕ
-  pub sizes : List ℕ
+
+-- what the action has touched: 1 at each mode that has its effect, 1 at each variable that stands in a T or a +
+pub record Marks : Type 0 where
   pub modesSet : List ℕ
   pub variablesSeen : List ℕ
+
+-- `terms`: 0 where no T may stand, else 1 plus the T's since their L
+pub record ReadingState : Type 0 where
+  pub section : ℕ
+  pub terms : ℕ
+  pub actions : ℕ
+  pub declared : Declarations
+  pub counts : Counts
+  pub marks : Marks
 
 -- what comes of one command: the reading goes on, it is at the end, or it stops with a refusal's number
 pub data Progress : Type 0 where
@@ -56,164 +66,84 @@ abbrev pub rule : ReadingState → List (Bool × ℕ) → Taken → Taken
 rule p [] q = q
 rule p (t ∷ ts) q = cond (t .0) (stop p (t .1)) (rule p ts q)
 
+-- ---- before anything is declared, counted or marked
 abbrev pub noModes : List ℕ
 noModes = replicate (restrictedLimits .modes) 0
 
 abbrev pub noVariables : List ℕ
 noVariables = replicate (restrictedLimits .variables) 0
 
--- before the first command
+abbrev pub noneDeclared : Declarations
+noneDeclared = record { variables = 0; modes = 0; sizes = noModes }
+
+abbrev pub noneCounted : Counts
+noneCounted = record { conditions = 0; modeConditions = 0; numericEffects = 0 }
+
+abbrev pub noneMarked : Marks
+noneMarked = record { modesSet = noModes; variablesSeen = noVariables }
+
+-- ---- one more of each
+abbrev pub oneVariable : Declarations → Declarations
+oneVariable d = record { variables = d .variables + 1; modes = d .modes; sizes = d .sizes }
+
+abbrev pub oneMode : Declarations → ℕ → Declarations
+oneMode d size = record { variables = d .variables; modes = d .modes + 1; sizes = set (d .sizes) (d .modes) size }
+
+abbrev pub oneCondition : Counts → Counts
+oneCondition c = record { conditions = c .conditions + 1; modeConditions = c .modeConditions; numericEffects = c .numericEffects }
+
+abbrev pub oneModeCondition : Counts → Counts
+oneModeCondition c = record { conditions = c .conditions; modeConditions = c .modeConditions + 1; numericEffects = c .numericEffects }
+
+abbrev pub oneNumericEffect : Counts → Counts
+oneNumericEffect c = record { conditions = c .conditions; modeConditions = c .modeConditions; numericEffects = c .numericEffects + 1 }
+
+abbrev pub markMode : Marks → ℕ → Marks
+markMode m mode = record { modesSet = set (m .modesSet) mode 1; variablesSeen = m .variablesSeen }
+
+abbrev pub markVariable : Marks → ℕ → Marks
+markVariable m variable = record { modesSet = m .modesSet; variablesSeen = set (m .variablesSeen) variable 1 }
+
+-- ---- the state before the first command, and after each
 abbrev pub begin : ReadingState
-begin = record {
-  section = inDeclarations;
-  variables = 0;
-  modes = 0;
-  actions = 0;
-  conditions = 0;
-  modeConditions = 0;
-  numericEffects = 0;
-  terms = 0;
-  sizes = noModes;
-  modesSet = noModes;
-  variablesSeen = noVariables;
-}
+begin = record { section = inDeclarations; terms = 0; actions = 0; declared = noneDeclared; counts = noneCounted; marks = noneMarked }
 
 -- an action or the goal begins: nothing is counted in it yet
 abbrev pub opened : ReadingState → ℕ → ℕ → ReadingState
-opened p section actions = record {
-  section = section;
-  variables = p .variables;
-  modes = p .modes;
-  actions = actions;
-  conditions = 0;
-  modeConditions = 0;
-  numericEffects = 0;
-  terms = 0;
-  sizes = p .sizes;
-  modesSet = noModes;
-  variablesSeen = noVariables;
-}
+opened p section actions = record { section = section; terms = 0; actions = actions; declared = p .declared; counts = noneCounted; marks = noneMarked }
+
+-- a declaration
+abbrev declaring : ReadingState → Declarations → ReadingState
+declaring p d = record { section = p .section; terms = 0; actions = p .actions; declared = d; counts = p .counts; marks = p .marks }
+
+-- a command inside an action or the goal, after which `terms` is as given
+abbrev inside : ReadingState → ℕ → Counts → Marks → ReadingState
+inside p terms c m = record { section = p .section; terms = terms; actions = p .actions; declared = p .declared; counts = c; marks = m }
 
 abbrev pub withVariable : ReadingState → ReadingState
-withVariable p = record {
-  section = p .section;
-  variables = p .variables + 1;
-  modes = p .modes;
-  actions = p .actions;
-  conditions = p .conditions;
-  modeConditions = p .modeConditions;
-  numericEffects = p .numericEffects;
-  terms = 0;
-  sizes = p .sizes;
-  modesSet = p .modesSet;
-  variablesSeen = p .variablesSeen;
-}
+withVariable p = declaring p (oneVariable (p .declared))
 
 abbrev pub withMode : ReadingState → ℕ → ReadingState
-withMode p size = record {
-  section = p .section;
-  variables = p .variables;
-  modes = p .modes + 1;
-  actions = p .actions;
-  conditions = p .conditions;
-  modeConditions = p .modeConditions;
-  numericEffects = p .numericEffects;
-  terms = 0;
-  sizes = set (p .sizes) (p .modes) size;
-  modesSet = p .modesSet;
-  variablesSeen = p .variablesSeen;
-}
+withMode p size = declaring p (oneMode (p .declared) size)
 
 abbrev pub withCondition : ReadingState → ReadingState
-withCondition p = record {
-  section = p .section;
-  variables = p .variables;
-  modes = p .modes;
-  actions = p .actions;
-  conditions = p .conditions + 1;
-  modeConditions = p .modeConditions;
-  numericEffects = p .numericEffects;
-  terms = 0;
-  sizes = p .sizes;
-  modesSet = p .modesSet;
-  variablesSeen = p .variablesSeen;
-}
+withCondition p = inside p 0 (oneCondition (p .counts)) (p .marks)
 
 abbrev pub withModeCondition : ReadingState → ReadingState
-withModeCondition p = record {
-  section = p .section;
-  variables = p .variables;
-  modes = p .modes;
-  actions = p .actions;
-  conditions = p .conditions;
-  modeConditions = p .modeConditions + 1;
-  numericEffects = p .numericEffects;
-  terms = 0;
-  sizes = p .sizes;
-  modesSet = p .modesSet;
-  variablesSeen = p .variablesSeen;
-}
+withModeCondition p = inside p 0 (oneModeCondition (p .counts)) (p .marks)
 
 -- an effect on mode m
 abbrev pub withModeEffect : ReadingState → ℕ → ReadingState
-withModeEffect p m = record {
-  section = p .section;
-  variables = p .variables;
-  modes = p .modes;
-  actions = p .actions;
-  conditions = p .conditions;
-  modeConditions = p .modeConditions;
-  numericEffects = p .numericEffects;
-  terms = 0;
-  sizes = p .sizes;
-  modesSet = set (p .modesSet) m 1;
-  variablesSeen = p .variablesSeen;
-}
+withModeEffect p m = inside p 0 (p .counts) (markMode (p .marks) m)
 
 -- a numeric effect, after which `terms` is as given
 abbrev pub withNumericEffect : ReadingState → ℕ → ReadingState
-withNumericEffect p terms = record {
-  section = p .section;
-  variables = p .variables;
-  modes = p .modes;
-  actions = p .actions;
-  conditions = p .conditions;
-  modeConditions = p .modeConditions;
-  numericEffects = p .numericEffects + 1;
-  terms = terms;
-  sizes = p .sizes;
-  modesSet = p .modesSet;
-  variablesSeen = p .variablesSeen;
-}
+withNumericEffect p terms = inside p terms (oneNumericEffect (p .counts)) (p .marks)
 
 -- a + on variable v
 abbrev pub withAdd : ReadingState → ℕ → ReadingState
-withAdd p v = record {
-  section = p .section;
-  variables = p .variables;
-  modes = p .modes;
-  actions = p .actions;
-  conditions = p .conditions;
-  modeConditions = p .modeConditions;
-  numericEffects = p .numericEffects + 1;
-  terms = 0;
-  sizes = p .sizes;
-  modesSet = p .modesSet;
-  variablesSeen = set (p .variablesSeen) v 1;
-}
+withAdd p v = inside p 0 (oneNumericEffect (p .counts)) (markVariable (p .marks) v)
 
 -- a T on variable v
 abbrev pub withTerm : ReadingState → ℕ → ReadingState
-withTerm p v = record {
-  section = p .section;
-  variables = p .variables;
-  modes = p .modes;
-  actions = p .actions;
-  conditions = p .conditions;
-  modeConditions = p .modeConditions;
-  numericEffects = p .numericEffects;
-  terms = p .terms + 1;
-  sizes = p .sizes;
-  modesSet = p .modesSet;
-  variablesSeen = set (p .variablesSeen) v 1;
-}
+withTerm p v = inside p (p .terms + 1) (p .counts) (markVariable (p .marks) v)

@@ -12,9 +12,11 @@ use Rattle.integers.specs.Numbers.{signedOf}
 use Rattle.commands.specs.Table.{letterV, letterU, letterM, letterA, letterC, letterP, letterE, plusSign, letterL, letterT, letterQ, letterR, letterG, letterZ}
 use Rattle.commands.specs.Reading.{commandAt}
 use Rattle.commands.specs.declared.Command.{Command}
-use Rattle.commands.specs.declared.Command.the-variants.{Variable, Start, Mode, Action, Condition, ModeCondition, ModeEffect, Add, Linear, Term, Quotient, Residue, Goal, End, Refused}
+use Rattle.commands.specs.declared.Command.the-variants.{Variable, Start, Mode, Action, Condition, ModeCondition, ModeEffect, Add, Linear, Term, Quotient}
+use Rattle.commands.specs.declared.Command.the-variants.{Residue, Goal, End, Refused}
 use Rattle.model.specs.Limits.{Limits}
-use Rattle.model.specs.ReadingState.{inDeclarations, inAction, inGoal, ReadingState, Taken, stop, goOn, finish, rule, opened, withVariable, withMode, withCondition, withModeCondition, withModeEffect, withNumericEffect, withAdd, withTerm}
+use Rattle.model.specs.ReadingState.{inDeclarations, inAction, inGoal, ReadingState, Taken, stop, goOn, finish, rule, opened, withVariable, withMode}
+use Rattle.model.specs.ReadingState.{withCondition, withModeCondition, withModeEffect, withNumericEffect, withAdd, withTerm}
 
 abbrev pub isOneOf : ℕ → List ℕ → Bool
 isOneOf b [] = false
@@ -47,19 +49,19 @@ abbrev pub isZero : ℤ → Bool
 isZero z = eqb (natAbs z) 0
 
 abbrev pub noVariable : ReadingState → ℕ → Bool
-noVariable p v = leb (p .variables) v
+noVariable p v = leb (p .declared .variables) v
 
 abbrev pub noMode : ReadingState → ℕ → Bool
-noMode p m = leb (p .modes) m
+noMode p m = leb (p .declared .modes) m
 
 abbrev pub notBelowSize : ReadingState → ℕ → ℕ → Bool
-notBelowSize p m x = leb (getD (p .sizes) m 0) x
+notBelowSize p m x = leb (getD (p .declared .sizes) m 0) x
 
 -- Of each command: its tests in the order 4, 5, 6, 7, each with the refusal that it gives; and below, the state after it.
 unfoldable pub testsOf : Limits → ReadingState → Command → List (Bool × ℕ)
 -- V lower upper start. 4: one variable too many. 6: a bound out of range, lower > upper, a start outside
 testsOf l p (Variable lower upper start) =
-    (leb (l .variables) (p .variables), 4)
+    (leb (l .variables) (p .declared .variables), 4)
     ∷ (outside l (constant lower), 6)
     ∷ (outside l (constant upper), 6)
     ∷ (not (leZ (constant lower) (constant upper)), 6)
@@ -67,42 +69,42 @@ testsOf l p (Variable lower upper start) =
     ∷ (not (leZ (constant start) (constant upper)), 6)
     ∷ []
 -- U start. 4: one variable too many. 6: out of range
-testsOf l p (Start start) = (leb (l .variables) (p .variables), 4) ∷ (outside l (constant start), 6) ∷ []
+testsOf l p (Start start) = (leb (l .variables) (p .declared .variables), 4) ∷ (outside l (constant start), 6) ∷ []
 -- M size start. 4: one mode too many. 5: a start not below the size, as any is where the size is 0. 6: a size over the limit
-testsOf l p (Mode size start) = (leb (l .modes) (p .modes), 4) ∷ (leb size start, 5) ∷ (ltb (l .size) size, 6) ∷ []
+testsOf l p (Mode size start) = (leb (l .modes) (p .declared .modes), 4) ∷ (leb size start, 5) ∷ (ltb (l .size) size, 6) ∷ []
 -- A. 4: one action too many
 testsOf l p Action = (leb (l .actions) (p .actions), 4) ∷ []
 -- C var relation constant. 4: one C too many. 5: no such variable, a relation over 3. 6: out of range
 testsOf l p (Condition v r k) =
-    (leb (l .conditions) (p .conditions), 4) ∷ (noVariable p v, 5) ∷ (ltb (l .relations) r, 5) ∷ (outside l (constant k), 6) ∷ []
+    (leb (l .conditions) (p .counts .conditions), 4) ∷ (noVariable p v, 5) ∷ (ltb (l .relations) r, 5) ∷ (outside l (constant k), 6) ∷ []
 -- P mode value. 4: one P too many. 5: no such mode, a value not below its size
-testsOf l p (ModeCondition m x) = (leb (l .modeConditions) (p .modeConditions), 4) ∷ (noMode p m, 5) ∷ (notBelowSize p m x, 5) ∷ []
+testsOf l p (ModeCondition m x) = (leb (l .modeConditions) (p .counts .modeConditions), 4) ∷ (noMode p m, 5) ∷ (notBelowSize p m x, 5) ∷ []
 -- E mode value. 5: as of P. 7: a second effect on the mode
-testsOf l p (ModeEffect m x) = (noMode p m, 5) ∷ (notBelowSize p m x, 5) ∷ (leb 1 (getD (p .modesSet) m 0), 7) ∷ []
+testsOf l p (ModeEffect m x) = (noMode p m, 5) ∷ (notBelowSize p m x, 5) ∷ (leb 1 (getD (p .marks .modesSet) m 0), 7) ∷ []
 -- + var c. 4: one too many in a restricted action. 5: no such variable. 6: c is 0 or out of range.
 -- 7: a second numeric effect in a source action, the variable a second time in a restricted one
 testsOf l p (Add v k) =
-    (cond (l .restricted) (leb (l .additions) (p .numericEffects)) false, 4)
+    (cond (l .restricted) (leb (l .additions) (p .counts .numericEffects)) false, 4)
     ∷ (noVariable p v, 5)
     ∷ (isZero (constant k), 6)
     ∷ (outside l (constant k), 6)
-    ∷ (cond (l .restricted) (leb 1 (getD (p .variablesSeen) v 0)) (leb 1 (p .numericEffects)), 7)
+    ∷ (cond (l .restricted) (leb 1 (getD (p .marks .variablesSeen) v 0)) (leb 1 (p .counts .numericEffects)), 7)
     ∷ []
 -- L target w0. 5: no such variable. 6: out of range. 7: a second numeric effect
-testsOf l p (Linear t k) = (noVariable p t, 5) ∷ (outside l (constant k), 6) ∷ (leb 1 (p .numericEffects), 7) ∷ []
+testsOf l p (Linear t k) = (noVariable p t, 5) ∷ (outside l (constant k), 6) ∷ (leb 1 (p .counts .numericEffects), 7) ∷ []
 -- T var weight. 4: a fifth. 5: no such variable. 6: the weight is 0 or out of range. 7: the variable a second time
 testsOf l p (Term v k) =
     (ltb (l .terms) (p .terms), 4)
     ∷ (noVariable p v, 5)
     ∷ (isZero (constant k), 6)
     ∷ (outside l (constant k), 6)
-    ∷ (leb 1 (getD (p .variablesSeen) v 0), 7)
+    ∷ (leb 1 (getD (p .marks .variablesSeen) v 0), 7)
     ∷ []
 -- Q and R, target operand c. 5: no such variable. 6: c is 0 or out of range. 7: a second numeric effect
 testsOf l p (Quotient t y k) =
-    (noVariable p t, 5) ∷ (noVariable p y, 5) ∷ (isZero (constant k), 6) ∷ (outside l (constant k), 6) ∷ (leb 1 (p .numericEffects), 7) ∷ []
+    (noVariable p t, 5) ∷ (noVariable p y, 5) ∷ (isZero (constant k), 6) ∷ (outside l (constant k), 6) ∷ (leb 1 (p .counts .numericEffects), 7) ∷ []
 testsOf l p (Residue t y k) =
-    (noVariable p t, 5) ∷ (noVariable p y, 5) ∷ (isZero (constant k), 6) ∷ (outside l (constant k), 6) ∷ (leb 1 (p .numericEffects), 7) ∷ []
+    (noVariable p t, 5) ∷ (noVariable p y, 5) ∷ (isZero (constant k), 6) ∷ (outside l (constant k), 6) ∷ (leb 1 (p .counts .numericEffects), 7) ∷ []
 testsOf l p Goal = []
 testsOf l p End = []
 -- the byte is no command's (1), or the file ends inside the operands (2)

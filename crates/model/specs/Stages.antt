@@ -11,15 +11,15 @@ use lib.IntN.{ℤ, pos, negsuc, negℤ, _-ℤ_}
 use lib.Signed.{ltZ}
 use Rattle.integers.specs.Division.{unitLess, sign}
 use Rattle.integers.specs.Relation.{Relation, atMost, atLeast}
-use Rattle.model.specs.Tasks.{Measured, variable, weightedSum, NumericCondition, Effect, noEffect, addEffect, linearEffect, quotientEffect, residueEffect, SourceAction}
+use Rattle.model.specs.Tasks.{Measured, variable, weightedSum, NumericCondition, Effect, noEffect}
+use Rattle.model.specs.Tasks.{addEffect, linearEffect, quotientEffect, residueEffect, SourceAction}
 
--- R's variables by name: the source's, then A and B. (Holds and uses left are room for further helpers; no lowering has one.)
+-- R's variables by name: the source's, then A and B. (A hold is room for a further helper; no lowering has one.)
 pub data Name : Type 0 where
   source : ℕ → Name
   helperA : Name
   helperB : Name
   hold : ℕ → Name
-  usesLeft : ℕ → Name
 
 -- an action of R: `control` is the value of control that it needs, `nextControl` the one that it leaves
 pub record NamedAction : Type 0 where

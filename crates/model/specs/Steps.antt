@@ -3,15 +3,15 @@
 use Prim.Native.Nat.{ℕ, zero, suc}
 use mathlib.Core.Bool.{Bool, true, _&&_}
 use mathlib.Core.Option.{Option, none, some}
-use mathlib.Core.List.{List, [], _∷_}
+use mathlib.Core.List.{List, [], _∷_, map}
 use lib.ListN.{getElem?, getD, set}
 use lib.Dec.{eqb, ltb}
 use lib.Signed.{leZ}
 use lib.IntN.{ℤ, pos, _+ℤ_, _*ℤ_}
 use Rattle.integers.specs.Division.{quotientOf, residueOf}
 use Rattle.integers.specs.Relation.{related, withinLimit}
-use Rattle.model.specs.Tasks.{Measured, variable, weightedSum, NumericCondition, Effect, noEffect, addEffect, linearEffect, quotientEffect, residueEffect, SourceAction, RestrictedAction, SourceVariable, SourceTask, RestrictedTask, State}
-use Rattle.model.specs.Decoding.{each}
+use Rattle.model.specs.Tasks.{Measured, variable, weightedSum, NumericCondition, Effect, noEffect, addEffect, linearEffect, quotientEffect, residueEffect}
+use Rattle.model.specs.Tasks.{SourceAction, RestrictedAction, SourceVariable, SourceTask, RestrictedTask, State}
 use Rattle.model.specs.Systems.{bind, provided, guarded}
 
 -- the value of a variable, the value of a mode, by number
@@ -73,7 +73,9 @@ putResult (some p) l = set l (p .0) (p .1)
 module _ (lower upper : ℕ → ℤ) where
   abbrev pub trySource : State → SourceAction → Option State
   trySource x a =
-      provided (modesHold (a .modeConditions) (naturalAt (x .modes)) && conditionsHold (a .conditions) (integerAt (x .values)) && withinBounds lower upper (result (a .effect) (integerAt (x .values))))
+      provided
+      (modesHold (a .modeConditions) (naturalAt (x .modes)) && conditionsHold (a .conditions) (integerAt (x .values))
+      && withinBounds lower upper (result (a .effect) (integerAt (x .values))))
       (record { values = putResult (result (a .effect) (integerAt (x .values))) (x .values); modes = setAll (a .modeEffects) (x .modes) })
 
   abbrev pub sourceStep : List SourceAction → State → ℕ → Option State
@@ -124,19 +126,19 @@ soundRestricted sizes x = valuesWithin figure (x .values) && modesBelowSizes siz
 
 -- ---- of a whole task: its bounds and sizes by number, its start, its step, its goal
 abbrev pub lowerBounds : SourceTask → ℕ → ℤ
-lowerBounds t = integerAt (each (λ (b : SourceVariable). b .lower) (t .variables))
+lowerBounds t = integerAt (map (λ (b : SourceVariable). b .lower) (t .variables))
 
 abbrev pub upperBounds : SourceTask → ℕ → ℤ
-upperBounds t = integerAt (each (λ (b : SourceVariable). b .upper) (t .variables))
+upperBounds t = integerAt (map (λ (b : SourceVariable). b .upper) (t .variables))
 
 abbrev pub sizesOf : List (ℕ × ℕ) → List ℕ
-sizesOf ms = each (λ (m : ℕ × ℕ). m .0) ms
+sizesOf ms = map (λ (m : ℕ × ℕ). m .0) ms
 
 abbrev pub startModes : List (ℕ × ℕ) → List ℕ
-startModes ms = each (λ (m : ℕ × ℕ). m .1) ms
+startModes ms = map (λ (m : ℕ × ℕ). m .1) ms
 
 abbrev pub sourceStart : SourceTask → State
-sourceStart t = record { values = each (λ (b : SourceVariable). b .start) (t .variables); modes = startModes (t .modes) }
+sourceStart t = record { values = map (λ (b : SourceVariable). b .start) (t .variables); modes = startModes (t .modes) }
 
 abbrev pub stepSource : SourceTask → State → ℕ → Option State
 stepSource t = guarded (soundSource (lowerBounds t) (upperBounds t) (sizesOf (t .modes))) (sourceStep (lowerBounds t) (upperBounds t) (t .actions))

@@ -3,17 +3,17 @@
 -- Assumes nothing.
 use mathlib.Core.Path.{_≡_}
 use Prim.Native.Nat.{ℕ, _<_, _≤_}
-use mathlib.Core.List.{List, [], _∷_}
+use mathlib.Core.List.{List, [], _∷_, map}
 use lib.Dec.{T, eqb}
 use lib.IntN.{ℤ, natAbs}
 use mathlib.Core.Bool.{false}
 use lib.ListN.{length}
 use lib.Signed.{leZ}
 use Rattle.integers.specs.All.{All}
-use Rattle.model.specs.Tasks.{NumericCondition, Effect, noEffect, addEffect, linearEffect, quotientEffect, residueEffect, SourceAction, RestrictedAction, SourceTask, RestrictedTask, SourceVariable}
+use Rattle.model.specs.Tasks.{NumericCondition, Effect, noEffect, addEffect, linearEffect, quotientEffect, residueEffect, SourceAction, RestrictedAction}
+use Rattle.model.specs.Tasks.{SourceTask, RestrictedTask, SourceVariable}
 use Rattle.model.specs.Steps.{naturalAt, sizesOf}
 use Rattle.model.specs.Limits.{Limits, sourceLimits, restrictedLimits}
-use Rattle.model.specs.Decoding.{each}
 use Rattle.model.specs.InTask.{MeasureIn}
 
 -- no number twice
@@ -22,7 +22,7 @@ Distinct [] = Unit {0}
 Distinct (k ∷ ks) = All (λ (j : ℕ). eqb j k ≡ false) ks × Distinct ks
 
 abbrev pub keys : {A : Type 0} → List (ℕ × A) → List ℕ
-keys es = each (λ e. e .0) es
+keys es = map (λ e. e .0) es
 
 -- modes that are declared, with values below their sizes
 abbrev pub ValuesIn : List ℕ → List (ℕ × ℕ) → Type 0

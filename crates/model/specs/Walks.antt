@@ -40,17 +40,21 @@ module _ {S X : Type 0} (sourceStep : S → ℕ → Option S) (step : X → ℕ 
     pub outcomes : (s : S) → Good s → (a : ℕ) → Outcome s a
 
 -- ---- the pairing of whole plans: from the start s₀, with goals, and with at most `limit` restricted steps
-pub record Pairing {S X : Type 0} (sourceStep : S → ℕ → Option S) (step : X → ℕ → Option X) (atRest : S → X) (opening : ℕ → ℕ) (sourceNumber : ℕ → Option ℕ) (stageSteps : S → ℕ → List ℕ) (price : S → ℕ → ℕ)
+pub record Pairing {S X : Type 0} (sourceStep : S → ℕ → Option S) (step : X → ℕ → Option X) (atRest : S → X)
+    (opening : ℕ → ℕ) (sourceNumber : ℕ → Option ℕ) (stageSteps : S → ℕ → List ℕ) (price : S → ℕ → ℕ)
     (s₀ : S) (GoalS : S → Type 0) (GoalR : X → Type 0) (limit : ℕ) : Type 0 where
   -- a valid source plan whose expansion is not too long: the expansion is a valid restricted plan that ends in the same state, helpers at rest;
   -- its projection is the plan; its length is the sum of the step prices
   pub forth : (p : List ℕ) (s′ : S) → runPlan sourceStep p s₀ ≡ some s′ → GoalS s′ → length (expandFrom sourceStep opening stageSteps p s₀) ≤ limit
-      → (runPlan step (expandFrom sourceStep opening stageSteps p s₀) (atRest s₀) ≡ some (atRest s′)) × GoalR (atRest s′) × (keep sourceNumber (expandFrom sourceStep opening stageSteps p s₀) ≡ p)
+      → (runPlan step (expandFrom sourceStep opening stageSteps p s₀) (atRest s₀) ≡ some (atRest s′)) × GoalR (atRest s′)
+      × (keep sourceNumber (expandFrom sourceStep opening stageSteps p s₀) ≡ p)
       × (length (expandFrom sourceStep opening stageSteps p s₀) ≡ totalPrice sourceStep price p s₀)
   -- the length of a valid source plan's expansion is the sum of the step prices, however long it is
-  pub lengths : (p : List ℕ) (s′ : S) → runPlan sourceStep p s₀ ≡ some s′ → length (expandFrom sourceStep opening stageSteps p s₀) ≡ totalPrice sourceStep price p s₀
+  pub lengths : (p : List ℕ) (s′ : S) → runPlan sourceStep p s₀ ≡ some s′
+      → length (expandFrom sourceStep opening stageSteps p s₀) ≡ totalPrice sourceStep price p s₀
   -- a valid restricted plan that is not too long: its projection is a valid source plan that ends in the same state, its end has helpers at rest;
   -- the expansion of the projection is the plan
   pub back : (q : List ℕ) (x : X) → runPlan step q (atRest s₀) ≡ some x → GoalR x → length q ≤ limit
-      → (s′ : S) × (runPlan sourceStep (keep sourceNumber q) s₀ ≡ some s′) × GoalS s′ × (x ≡ atRest s′) × (expandFrom sourceStep opening stageSteps (keep sourceNumber q) s₀ ≡ q)
+      → (s′ : S) × (runPlan sourceStep (keep sourceNumber q) s₀ ≡ some s′) × GoalS s′ × (x ≡ atRest s′)
+      × (expandFrom sourceStep opening stageSteps (keep sourceNumber q) s₀ ≡ q)
       × (length (expandFrom sourceStep opening stageSteps (keep sourceNumber q) s₀) ≤ limit)

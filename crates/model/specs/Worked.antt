@@ -54,6 +54,17 @@ fiveFromFour = 86 ∷ 0 ∷ 0 ∷ 0 ∷ 0 ∷ 9 ∷ 0 ∷ 0 ∷ 0 ∷ 4 ∷ 0 �
 abbrev pub emptyGoal : List ℕ
 emptyGoal = 71 ∷ 90 ∷ []
 
+-- the listing of the first action of `listingTask`: "step action cost values", "0 0 35 3", "goal 35"
+abbrev pub headLine : List ℕ
+headLine =
+    115 ∷ 116 ∷ 101 ∷ 112 ∷ 32 ∷ 97 ∷ 99 ∷ 116 ∷ 105 ∷ 111 ∷ 110 ∷ 32 ∷ 99 ∷ 111 ∷ 115 ∷ 116 ∷ 32 ∷ 118 ∷ 97 ∷ 108 ∷ 117 ∷ 101 ∷ 115 ∷ 10 ∷ []
+
+abbrev pub stepLine : List ℕ
+stepLine = 48 ∷ 32 ∷ 48 ∷ 32 ∷ 51 ∷ 53 ∷ 32 ∷ 51 ∷ 10 ∷ []
+
+abbrev pub goalLine : List ℕ
+goalLine = 103 ∷ 111 ∷ 97 ∷ 108 ∷ 32 ∷ 51 ∷ 53 ∷ 10 ∷ []
+
 abbrev pub markedCases : List Case
 markedCases =
     divides (pos 7) (pos 2) (pos 3) (pos 1)
@@ -61,14 +72,16 @@ markedCases =
     ∷ divides (pos 7) (negsuc 1) (negsuc 2) (pos 1)
     ∷ divides (negsuc 6) (negsuc 1) (pos 4) (pos 1)
     ∷ divides (pos 0) (pos 5) (pos 0) (pos 0)
-    ∷ expanded listingTask firstAction (0 ∷ (replicate 7 1 ++ (3 ∷ (replicate 7 4 ++ (6 ∷ (replicate 3 7 ++ (9 ∷ 10 ∷ 12 ∷ (replicate 7 13 ++ (15 ∷ (replicate 3 16 ++ (18 ∷ [])))))))))))
+    ∷ expanded listingTask firstAction
+    (0 ∷ (replicate 7 1 ++ (3 ∷ (replicate 7 4 ++ (6 ∷ (replicate 3 7 ++ (9 ∷ 10 ∷ 12 ∷ (replicate 7 13 ++ (15 ∷ (replicate 3 16 ++ (18 ∷ [])))))))))))
     ∷ priced listingTask firstAction (given 35)
-    ∷ listed listingTask firstAction (115 ∷ 116 ∷ 101 ∷ 112 ∷ 32 ∷ 97 ∷ 99 ∷ 116 ∷ 105 ∷ 111 ∷ 110 ∷ 32 ∷ 99 ∷ 111 ∷ 115 ∷ 116 ∷ 32 ∷ 118 ∷ 97 ∷ 108 ∷ 117 ∷ 101 ∷ 115 ∷ 10 ∷ 48 ∷ 32 ∷ 48 ∷ 32 ∷ 51 ∷ 53 ∷ 32 ∷ 51 ∷ 10 ∷ 103 ∷ 111 ∷ 97 ∷ 108 ∷ 32 ∷ 51 ∷ 53 ∷ 10 ∷ [])
+    ∷ listed listingTask firstAction (headLine ++ (stepLine ++ goalLine))
     ∷ judged doubling firstAction (given (1, values (pos 9 ∷ [])))
     ∷ priced doubling firstAction (given 26)
     ∷ judged doublingToEight firstAction (refused 12 0)
     ∷ judged emptyGoal [] (given (0, values []))
     ∷ judged fiveFromFour [] (refused 13 0)
     ∷ lowered (86 ∷ 0 ∷ 0 ∷ 0 ∷ 0 ∷ 9 ∷ 0 ∷ 0 ∷ 0 ∷ 7 ∷ 0 ∷ 0 ∷ 0 ∷ 65 ∷ 43 ∷ 0 ∷ 255 ∷ 255 ∷ 255 ∷ 255 ∷ 71 ∷ 90 ∷ [])
-    (85 ∷ 7 ∷ 0 ∷ 0 ∷ 0 ∷ 85 ∷ 0 ∷ 0 ∷ 0 ∷ 0 ∷ 85 ∷ 0 ∷ 0 ∷ 0 ∷ 0 ∷ 77 ∷ 1 ∷ 0 ∷ 0 ∷ 0 ∷ 65 ∷ 80 ∷ 0 ∷ 0 ∷ 0 ∷ 67 ∷ 0 ∷ 2 ∷ 1 ∷ 0 ∷ 0 ∷ 0 ∷ 43 ∷ 0 ∷ 255 ∷ 255 ∷ 255 ∷ 255 ∷ 71 ∷ 80 ∷ 0 ∷ 0 ∷ 0 ∷ 90 ∷ [])
+    (85 ∷ 7 ∷ 0 ∷ 0 ∷ 0 ∷ 85 ∷ 0 ∷ 0 ∷ 0 ∷ 0 ∷ 85 ∷ 0 ∷ 0 ∷ 0 ∷ 0 ∷ 77 ∷ 1 ∷ 0 ∷ 0 ∷ 0
+    ∷ 65 ∷ 80 ∷ 0 ∷ 0 ∷ 0 ∷ 67 ∷ 0 ∷ 2 ∷ 1 ∷ 0 ∷ 0 ∷ 0 ∷ 43 ∷ 0 ∷ 255 ∷ 255 ∷ 255 ∷ 255 ∷ 71 ∷ 80 ∷ 0 ∷ 0 ∷ 0 ∷ 90 ∷ [])
     ∷ []

@@ -15,6 +15,8 @@ use Rattle.model.specs.Limits.{sourceLimits}
 use Rattle.model.specs.Steps.{integerAt, naturalAt, conditionsHold, modesHold, setAll}
 use Rattle.model.specs.TaskOk.{ConditionOk, ValuesIn}
 use Rattle.source.specs.Parts.{valuesBetween, modesBelow}
+use Rattle.source.specs.Sizes.{VARIABLES, MODES}
+use Rattle.rows.specs.Layout.{TOP, KEEP, PUT, KIND, MOST, CONSTANT, MARKS, NUMBERS}
 use Rattle.rows.specs.Row.{valuesIn, modesIn, modesAfter}
 
 -- stored at i where a test says so
@@ -31,8 +33,8 @@ raised l i z = setIf (ltZ (integerAt l i) z) l i z
 
 -- the values of variable i narrowed to those that stand in a relation to c
 abbrev pub narrowed : Relation → List ℤ → ℕ → ℤ → List ℤ
-narrowed below l i c = capped l (8 + i) (c -ℤ pos 1)
-narrowed atMost l i c = capped l (8 + i) c
+narrowed below l i c = capped l (MOST + i) (c -ℤ pos 1)
+narrowed atMost l i c = capped l (MOST + i) c
 narrowed atLeast l i c = raised l i c
 narrowed above l i c = raised l i (c +ℤ pos 1)
 
@@ -44,18 +46,19 @@ abbrev pub narrowedAll : List (NumericCondition ℕ) → List ℤ → List ℤ
 narrowedAll [] l = l
 narrowedAll (c ∷ cs) l = narrowedAll cs (narrowedOn (c .measured) (c .relation) (c .constant) l)
 
--- the bounds of the first k variables stand in a row; from 16 on it is as before
+-- the bounds of the first k variables stand in a row; from the effect on it is as before
 pub record BoundsPut (k : ℕ) (lower upper : List ℤ) (numbers numbers′ : List ℤ) : Type 0 where
-  pub long : length numbers′ ≡ 24
+  pub long : length numbers′ ≡ NUMBERS
   pub leasts : (i : ℕ) → i < k → integerAt numbers′ i ≡ integerAt lower i
-  pub mosts : (i : ℕ) → i < k → integerAt numbers′ (8 + i) ≡ integerAt upper i
-  pub rest : (j : ℕ) → 16 ≤ j → integerAt numbers′ j ≡ integerAt numbers j
+  pub mosts : (i : ℕ) → i < k → integerAt numbers′ (MOST + i) ≡ integerAt upper i
+  pub rest : (j : ℕ) → CONSTANT ≤ j → integerAt numbers′ j ≡ integerAt numbers j
 
 -- the row asks that the values of a state lie within the bounds and that the conditions hold
 pub record RangesPut (lower upper : List ℤ) (cs : List (NumericCondition ℕ)) (numbers numbers′ : List ℤ) : Type 0 where
-  pub long : length numbers′ ≡ 24
-  pub values : (n : ℕ) → n ≤ 8 → All (ConditionOk sourceLimits n) cs → (x : List ℤ) → valuesIn n numbers′ x ≡ (valuesBetween n lower upper x && conditionsHold cs (integerAt (take n x)))
-  pub rest : (j : ℕ) → 16 ≤ j → integerAt numbers′ j ≡ integerAt numbers j
+  pub long : length numbers′ ≡ NUMBERS
+  pub values : (n : ℕ) → n ≤ VARIABLES → All (ConditionOk sourceLimits n) cs → (x : List ℤ)
+      → valuesIn n numbers′ x ≡ (valuesBetween n lower upper x && conditionsHold cs (integerAt (take n x)))
+  pub rest : (j : ℕ) → CONSTANT ≤ j → integerAt numbers′ j ≡ integerAt numbers j
 
 -- ---- the modes
 unfoldable pub cappedMark : List ℕ → ℕ → ℕ → List ℕ
@@ -66,7 +69,7 @@ raisedMark l i z = setIf (ltb (naturalAt l i) z) l i z
 
 -- the values of mode i narrowed to v
 abbrev pub held : List ℕ → ℕ → ℕ → List ℕ
-held l i v = cappedMark (raisedMark l i v) (4 + i) v
+held l i v = cappedMark (raisedMark l i v) (TOP + i) v
 
 abbrev pub heldAll : List (ℕ × ℕ) → List ℕ → List ℕ
 heldAll [] l = l
@@ -74,7 +77,7 @@ heldAll (p ∷ ps) l = heldAll ps (held l (p .0) (p .1))
 
 -- mode i marked as set to v
 abbrev pub marked : List ℕ → ℕ → ℕ → List ℕ
-marked l i v = set (set l (8 + i) 0) (12 + i) v
+marked l i v = set (set l (KEEP + i) 0) (PUT + i) v
 
 abbrev pub markedAll : List (ℕ × ℕ) → List ℕ → List ℕ
 markedAll [] l = l
@@ -87,24 +90,28 @@ pub record Indexed (most room count : ℕ) (l : List ℕ) : Type 0 where
 
 -- the sizes of m modes of a source task
 pub record SizesFit (m : ℕ) (sizes : List ℕ) : Type 0 where
-  pub few : m ≤ 4
+  pub few : m ≤ MODES
   pub some : (i : ℕ) → i < m → 1 ≤ naturalAt sizes i
   pub small : (i : ℕ) → i < m → naturalAt sizes i ≤ 16
 
 -- the first k modes may have every value below their sizes, and stay
 pub record SizesPut (k : ℕ) (sizes : List ℕ) (marks marks′ : List ℕ) : Type 0 where
-  pub long : length marks′ ≡ 32
-  pub mosts : (i : ℕ) → i < k → naturalAt marks′ (4 + i) + 1 ≡ naturalAt sizes i
-  pub stay : (i : ℕ) → i < k → naturalAt marks′ (8 + i) ≡ 1
-  pub leasts : (i : ℕ) → i < 4 → naturalAt marks′ i ≡ naturalAt marks i
-  pub others : (i : ℕ) → k ≤ i → i < 4 → naturalAt marks′ (8 + i) ≡ naturalAt marks (8 + i)
-  pub rest : (j : ℕ) → 12 ≤ j → naturalAt marks′ j ≡ naturalAt marks j
+  pub long : length marks′ ≡ MARKS
+  pub mosts : (i : ℕ) → i < k → naturalAt marks′ (TOP + i) + 1 ≡ naturalAt sizes i
+  pub stay : (i : ℕ) → i < k → naturalAt marks′ (KEEP + i) ≡ 1
+  pub leasts : (i : ℕ) → i < MODES → naturalAt marks′ i ≡ naturalAt marks i
+  pub others : (i : ℕ) → k ≤ i → i < MODES → naturalAt marks′ (KEEP + i) ≡ naturalAt marks (KEEP + i)
+  pub rest : (j : ℕ) → PUT ≤ j → naturalAt marks′ j ≡ naturalAt marks j
 
 -- A row that was 0 asks that the modes of a state are below their sizes and that the conditions hold, and sets them as the effects do
 pub record ModesPut (m : ℕ) (sizes : List ℕ) (ps es : List (ℕ × ℕ)) (marks marks′ : List ℕ) : Type 0 where
-  pub long : length marks′ ≡ 32
-  pub rest : (j : ℕ) → 16 ≤ j → naturalAt marks′ j ≡ naturalAt marks j
-  pub modes : ((j : ℕ) → naturalAt marks j ≡ 0) → ValuesIn (take m sizes) ps → (x : List ℕ) → modesIn m marks′ x ≡ (modesBelow m sizes x && modesHold ps (naturalAt (take m x)))
-  pub sets : ((j : ℕ) → naturalAt marks j ≡ 0) → ValuesIn (take m sizes) es → (x : List ℕ) → m ≤ length x → modesAfter m marks′ x ≡ setAll es (take m x) ++ drop m x
-  pub stays : ((j : ℕ) → naturalAt marks j ≡ 0) → ValuesIn (take m sizes) es → (i : ℕ) → i < m → (y : ℕ) → y < naturalAt sizes i → y * naturalAt marks′ (8 + i) + naturalAt marks′ (12 + i) < naturalAt sizes i
-  pub keeps : ((j : ℕ) → naturalAt marks j ≡ 0) → ValuesIn (take m sizes) es → (i : ℕ) → i < 4 → naturalAt marks′ (8 + i) * 65535 + naturalAt marks′ (12 + i) ≤ 65535
+  pub long : length marks′ ≡ MARKS
+  pub rest : (j : ℕ) → KIND ≤ j → naturalAt marks′ j ≡ naturalAt marks j
+  pub modes : ((j : ℕ) → naturalAt marks j ≡ 0) → ValuesIn (take m sizes) ps → (x : List ℕ)
+      → modesIn m marks′ x ≡ (modesBelow m sizes x && modesHold ps (naturalAt (take m x)))
+  pub sets : ((j : ℕ) → naturalAt marks j ≡ 0) → ValuesIn (take m sizes) es → (x : List ℕ) → m ≤ length x
+      → modesAfter m marks′ x ≡ setAll es (take m x) ++ drop m x
+  pub stays : ((j : ℕ) → naturalAt marks j ≡ 0) → ValuesIn (take m sizes) es → (i : ℕ) → i < m → (y : ℕ) → y < naturalAt sizes i
+      → y * naturalAt marks′ (KEEP + i) + naturalAt marks′ (PUT + i) < naturalAt sizes i
+  pub keeps : ((j : ℕ) → naturalAt marks j ≡ 0) → ValuesIn (take m sizes) es → (i : ℕ) → i < MODES
+      → naturalAt marks′ (KEEP + i) * 65535 + naturalAt marks′ (PUT + i) ≤ 65535

@@ -5,8 +5,12 @@
 use actions::CONDITIONS;
 use actions::MODE_CONDITIONS;
 use actions::MODE_EFFECTS;
+use rows::KEEP;
 use rows::MARKS;
+use rows::MOST;
 use rows::NUMBERS;
+use rows::PUT;
+use rows::TOP;
 use source::MODES;
 use source::VARIABLES;
 ghost use mathlib.Core.Path.{_≡_};
@@ -17,6 +21,8 @@ ghost use Rattle.integers.specs.Relation.{relationOf};
 ghost use Rattle.model.specs.Limits.{sourceLimits};
 ghost use Rattle.actions.specs.Views.{conditionsIs, pairsIs};
 ghost use Rattle.actions.specs.Within.{ConditionsWithin};
+ghost use Rattle.source.specs.Sizes.{VARIABLES, MODES};
+ghost use Rattle.rows.specs.Layout.{MARKS, NUMBERS};
 ghost use Rattle.narrowing.specs.Narrowed.{capped, raised, narrowed, narrowedAll, cappedMark, raisedMark, held, heldAll, marked, markedAll, Indexed, SizesFit, BoundsPut, RangesPut, SizesPut, ModesPut};
 
 fn wide(x: u8) -> usize
@@ -49,13 +55,13 @@ fn raise(numbers: &mut [i64; NUMBERS], i: usize, least: i64)
 
 // Narrows the values of a variable to those that a C holds of.
 fn narrow(numbers: &mut [i64; NUMBERS], variable: u8, relation: u8, constant: i64)
-    requires { ⌜ (variable < 8) × (natAbs constant ≤ 10000) ⌝ }
+    requires { ⌜ (variable < VARIABLES) × (natAbs constant ≤ 10000) ⌝ }
     ensures { λ _. ⌜ now (numbers .exit) ≡ narrowed (relationOf relation) (now (numbers .entry)) variable constant ⌝ }
 {
     let i = wide(variable);
     match relation {
-        0 => cap(numbers, 8 + i, constant - 1),
-        1 => cap(numbers, 8 + i, constant),
+        0 => cap(numbers, MOST + i, constant - 1),
+        1 => cap(numbers, MOST + i, constant),
         2 => raise(numbers, i, constant),
         _ => raise(numbers, i, constant + 1),
     }
@@ -69,7 +75,7 @@ fn narrow_all<'a>(
     relations: &'a [u8; CONDITIONS],
     constants: &'a [i64; CONDITIONS],
 )
-    requires { ⌜ ConditionsWithin sourceLimits 8 count (now variables) (now constants) ⌝ }
+    requires { ⌜ ConditionsWithin sourceLimits VARIABLES count (now variables) (now constants) ⌝ }
     ensures { λ _. ⌜ now (numbers .exit) ≡ narrowedAll (conditionsIs count (now (variables .entry)) (now (relations .entry)) (now (constants .entry))) (now (numbers .entry)) ⌝ }
 {
     let mut i: usize = 0;
@@ -82,12 +88,12 @@ fn narrow_all<'a>(
 // The bounds of a task, at the front of a row.
 fn put_bounds(numbers: &mut [i64; NUMBERS], lower: &[i64; VARIABLES], upper: &[i64; VARIABLES])
     requires { ⌜ length (now numbers) ≡ 24 ⌝ }
-    ensures { λ _. ⌜ BoundsPut 8 (now (lower .entry)) (now (upper .entry)) (now (numbers .entry)) (now (numbers .exit)) ⌝ }
+    ensures { λ _. ⌜ BoundsPut VARIABLES (now (lower .entry)) (now (upper .entry)) (now (numbers .entry)) (now (numbers .exit)) ⌝ }
 {
     let mut i: usize = 0;
-    while i < 8 {
+    while i < VARIABLES {
         numbers[i] = lower[i];
-        numbers[8 + i] = upper[i];
+        numbers[MOST + i] = upper[i];
         i += 1;
     }
 }
@@ -102,7 +108,7 @@ pub fn put_ranges<'a>(
     relations: &'a [u8; CONDITIONS],
     constants: &'a [i64; CONDITIONS],
 )
-    requires { ⌜ (length (now numbers) ≡ 24) × ConditionsWithin sourceLimits 8 count (now variables) (now constants) ⌝ }
+    requires { ⌜ (length (now numbers) ≡ NUMBERS) × ConditionsWithin sourceLimits VARIABLES count (now variables) (now constants) ⌝ }
     ensures { λ _. ⌜ RangesPut (now (lower .entry)) (now (upper .entry)) (conditionsIs count (now (variables .entry)) (now (relations .entry)) (now (constants .entry))) (now (numbers .entry)) (now (numbers .exit)) ⌝ }
 {
     put_bounds(numbers, lower, upper);
@@ -111,7 +117,7 @@ pub fn put_ranges<'a>(
 
 // Makes mark i of a row at most `most`.
 fn cap_mark(marks: &mut [u16; MARKS], i: usize, most: u16)
-    requires { ⌜ i < 32 ⌝ }
+    requires { ⌜ i < MARKS ⌝ }
     ensures { λ _. ⌜ now (marks .exit) ≡ cappedMark (now (marks .entry)) i most ⌝ }
 {
     if most < marks[i] {
@@ -122,7 +128,7 @@ fn cap_mark(marks: &mut [u16; MARKS], i: usize, most: u16)
 
 // Makes mark i of a row at least `least`.
 fn raise_mark(marks: &mut [u16; MARKS], i: usize, least: u16)
-    requires { ⌜ i < 32 ⌝ }
+    requires { ⌜ i < MARKS ⌝ }
     ensures { λ _. ⌜ now (marks .exit) ≡ raisedMark (now (marks .entry)) i least ⌝ }
 {
     if marks[i] < least {
@@ -133,12 +139,12 @@ fn raise_mark(marks: &mut [u16; MARKS], i: usize, least: u16)
 
 // Narrows the values of a mode to that of a P.
 fn hold(marks: &mut [u16; MARKS], mode: u8, value: u16)
-    requires { ⌜ mode < 4 ⌝ }
+    requires { ⌜ mode < MODES ⌝ }
     ensures { λ _. ⌜ now (marks .exit) ≡ held (now (marks .entry)) mode value ⌝ }
 {
     let i = wide(mode);
     raise_mark(marks, i, value);
-    cap_mark(marks, 4 + i, value);
+    cap_mark(marks, TOP + i, value);
 }
 
 // Likewise every P of an action.
@@ -148,7 +154,7 @@ fn hold_all<'a>(
     modes: &'a [u8; MODE_CONDITIONS],
     values: &'a [u16; MODE_CONDITIONS],
 )
-    requires { ⌜ Indexed 4 16 count (now modes) ⌝ }
+    requires { ⌜ Indexed MODES 16 count (now modes) ⌝ }
     ensures { λ _. ⌜ now (marks .exit) ≡ heldAll (pairsIs 0 count (now (modes .entry)) (now (values .entry))) (now (marks .entry)) ⌝ }
 {
     let mut i: usize = 0;
@@ -160,12 +166,12 @@ fn hold_all<'a>(
 
 // Marks a mode as set by an E.
 fn mark(marks: &mut [u16; MARKS], mode: u8, value: u16)
-    requires { ⌜ mode < 4 ⌝ }
+    requires { ⌜ mode < MODES ⌝ }
     ensures { λ _. ⌜ now (marks .exit) ≡ marked (now (marks .entry)) mode value ⌝ }
 {
     let i = wide(mode);
-    marks[8 + i] = 0;
-    marks[12 + i] = value;
+    marks[KEEP + i] = 0;
+    marks[PUT + i] = value;
 }
 
 // Likewise every E of an action.
@@ -175,7 +181,7 @@ fn mark_all<'a>(
     modes: &'a [u8; MODE_EFFECTS],
     values: &'a [u16; MODE_EFFECTS],
 )
-    requires { ⌜ Indexed 4 8 count (now modes) ⌝ }
+    requires { ⌜ Indexed MODES 8 count (now modes) ⌝ }
     ensures { λ _. ⌜ now (marks .exit) ≡ markedAll (pairsIs 0 count (now (modes .entry)) (now (values .entry))) (now (marks .entry)) ⌝ }
 {
     let mut i: usize = 0;
@@ -187,13 +193,13 @@ fn mark_all<'a>(
 
 // The modes of a task of m modes: each may have every value below its size, and stays.
 fn put_sizes(marks: &mut [u16; MARKS], m: usize, sizes: &[u16; MODES])
-    requires { ⌜ (length (now marks) ≡ 32) × SizesFit m (now sizes) ⌝ }
+    requires { ⌜ (length (now marks) ≡ MARKS) × SizesFit m (now sizes) ⌝ }
     ensures { λ _. ⌜ SizesPut m (now (sizes .entry)) (now (marks .entry)) (now (marks .exit)) ⌝ }
 {
     let mut i: usize = 0;
     while i < m {
-        marks[4 + i] = sizes[i] - 1;
-        marks[8 + i] = 1;
+        marks[TOP + i] = sizes[i] - 1;
+        marks[KEEP + i] = 1;
         i += 1;
     }
 }
@@ -210,7 +216,7 @@ pub fn put_modes<'a>(
     effect_modes: &'a [u8; MODE_EFFECTS],
     effect_values: &'a [u16; MODE_EFFECTS],
 )
-    requires { ⌜ (length (now marks) ≡ 32) × SizesFit m (now sizes) × Indexed 4 16 «condition_count» (now «condition_modes») × Indexed 4 8 «effect_count» (now «effect_modes») ⌝ }
+    requires { ⌜ (length (now marks) ≡ MARKS) × SizesFit m (now sizes) × Indexed MODES 16 «condition_count» (now «condition_modes») × Indexed MODES 8 «effect_count» (now «effect_modes») ⌝ }
     ensures { λ _. ⌜ ModesPut m (now (sizes .entry)) (pairsIs 0 «condition_count» (now («condition_modes» .entry)) (now («condition_values» .entry))) (pairsIs 0 «effect_count» (now («effect_modes» .entry)) (now («effect_values» .entry))) (now (marks .entry)) (now (marks .exit)) ⌝ }
 {
     put_sizes(marks, m, sizes);

@@ -14,12 +14,12 @@ use borrow.Author.Tests.{eq-eqb, ne-eqb}
 use Rattle.lists.specs.Numbers.{halves}
 use Rattle.lists.proofs.Numbers.{length-halves}
 use Rattle.model.specs.Following.{agreeing}
-use Rattle.planbytes.specs.Agreeing.{numberAt, Small, fourAt, fourOf, Passed}
+use Rattle.planbytes.specs.Agreeing.{stepAt, Small, fourAt, fourOf, Passed}
 use Rattle.planbytes.proofs.Halves.{half-at}
 
 -- ---- a plan's numbers from step `at` on
-pub number-at : (s : List ℕ) (at i : ℕ) → 2 * (at + i) + 1 < length s → getD (drop at (halves s)) i 0 ≡ numberAt s (2 * (at + i))
-number-at s at i h = getD-drop at (halves s) i 0 ∙ half-at s (at + i) h
+pub step-at : (s : List ℕ) (at i : ℕ) → 2 * (at + i) + 1 < length s → getD (drop at (halves s)) i 0 ≡ stepAt s (2 * (at + i))
+step-at s at i h = getD-drop at (halves s) i 0 ∙ half-at s (at + i) h
 
 pub numbers-from : (s : List ℕ) (at : ℕ) → length (drop at (halves s)) ≡ length s / 2 - at
 numbers-from s at = length-drop at (halves s) ∙ ap (λ (n : ℕ). n - at) (length-halves s)
@@ -95,5 +95,5 @@ passed-block s at {m} {i} {k} P room l b {p} place f e =
     let e₂ : 2 * (at + (i + 2)) ≡ p + 4 = omega arith in
     let e₃ : 2 * (at + (i + 3)) ≡ p + 6 = omega arith in
     passed-four P l
-    (rw (number-at s at i (omega arith), number-at s at (i + 1) (omega arith), number-at s at (i + 2) (omega arith), number-at s at (i + 3) (omega arith), e₁, e₂, e₃, sym place)
-    (four-same k (numberAt s p) (numberAt s (p + 2)) (numberAt s (p + 4)) (numberAt s (p + 6)) b (f .1) (f .2) (f .3) (f .4) (sym (f .0) ∙ e)))
+    (rw (step-at s at i (omega arith), step-at s at (i + 1) (omega arith), step-at s at (i + 2) (omega arith), step-at s at (i + 3) (omega arith), e₁, e₂, e₃, sym place)
+    (four-same k (stepAt s p) (stepAt s (p + 2)) (stepAt s (p + 4)) (stepAt s (p + 6)) b (f .1) (f .2) (f .3) (f .4) (sym (f .0) ∙ e)))

@@ -6,16 +6,16 @@ use mathlib.Core.List.{List}
 use lib.ListN.{length, getD, drop, replicate}
 use Rattle.model.specs.Following.{agreeing}
 
--- the number in the two bytes from a place on; it has 16 bits
-abbrev pub numberAt : List ℕ → ℕ → ℕ
-numberAt bytes place = getD bytes place 0 + 256 * getD bytes (place + 1) 0
+-- the step in the two bytes of a plan from a place on: a number of 16 bits
+abbrev pub stepAt : List ℕ → ℕ → ℕ
+stepAt bytes place = getD bytes place 0 + 256 * getD bytes (place + 1) 0
 
 abbrev pub Small : List ℕ → ℕ → Type 0
-Small bytes place = numberAt bytes place < 65536
+Small bytes place = stepAt bytes place < 65536
 
 -- four from a place on, as one number of 64 bits
 abbrev pub fourAt : List ℕ → ℕ → ℕ
-fourAt bytes place = numberAt bytes place + 65536 * numberAt bytes (place + 2) + 4294967296 * numberAt bytes (place + 4) + 281474976710656 * numberAt bytes (place + 6)
+fourAt bytes place = stepAt bytes place + 65536 * stepAt bytes (place + 2) + 4294967296 * stepAt bytes (place + 4) + 281474976710656 * stepAt bytes (place + 6)
 
 abbrev pub fourOf : ℕ → ℕ
 fourOf k = k + 65536 * k + 4294967296 * k + 281474976710656 * k

@@ -5,7 +5,7 @@ ghost use Prim.Native.Nat.{min, _+_, _*_, _<_, _≤_};
 ghost use lib.ListN.{length, getD, drop, replicate};
 ghost use Rattle.model.specs.Plans.{planNumbers};
 ghost use Rattle.model.specs.Following.{agreeing};
-ghost use Rattle.planbytes.specs.Agreeing.{numberAt, Small, fourAt, fourOf, Passed};
+ghost use Rattle.planbytes.specs.Agreeing.{stepAt, Small, fourAt, fourOf, Passed};
 ghost use Rattle.planbytes.specs.Counted.{countedIs, countOf};
 
 // What the bytes of a plan are: so many steps, or the refusal 10 with their length.
@@ -56,9 +56,9 @@ fn wider(byte: u8) -> u64
 }
 
 // The number in the two bytes from a place on.
-fn number_at(plan: &[u8], place: usize) -> u64
+fn step_at(plan: &[u8], place: usize) -> u64
     requires { ⌜ place + 1 < length (now plan) ⌝ }
-    ensures { λ r. ⌜ (r ≡ numberAt (now (plan .entry)) place) × (r < 65536) ⌝ }
+    ensures { λ r. ⌜ (r ≡ stepAt (now (plan .entry)) place) × (r < 65536) ⌝ }
 {
     let next = place + 1;
     wider(plan[place]) + 256 * wider(plan[next])
@@ -69,10 +69,10 @@ fn four_at(plan: &[u8], place: usize) -> u64
     requires { ⌜ place + 7 < length (now plan) ⌝ }
     ensures { λ r. ⌜ (r ≡ fourAt (now (plan .entry)) place) × Small (now (plan .entry)) place × Small (now (plan .entry)) (place + 2) × Small (now (plan .entry)) (place + 4) × Small (now (plan .entry)) (place + 6) ⌝ }
 {
-    number_at(plan, place)
-        + 65536 * number_at(plan, place + 2)
-        + 4294967296 * number_at(plan, place + 4)
-        + 281474976710656 * number_at(plan, place + 6)
+    step_at(plan, place)
+        + 65536 * step_at(plan, place + 2)
+        + 4294967296 * step_at(plan, place + 4)
+        + 281474976710656 * step_at(plan, place + 6)
 }
 
 // Four times the same number, as one of 64 bits.
@@ -135,7 +135,7 @@ fn matches_ones(plan: &[u8], at: usize, number: u16, most: usize, passed: usize)
     let k = number as u64;
     let mut i = passed;
     while i < most {
-        if k != number_at(plan, 2 * (at + i)) {
+        if k != step_at(plan, 2 * (at + i)) {
             return i;
         }
         i += 1;

@@ -26,7 +26,7 @@ use Rattle.rows.specs.Row.{kindAt, targetAt, operandAt, termCountAt, constantAt
 use Rattle.prepared.specs.Made.{termAt, TermsPut, headMarks, headNumbers, HeadPut, Blank, EffectPut}
 
 -- ---- the terms
-pub terms-begin : (f : ℕ → ℕ × ℤ) (marks : List ℕ) (numbers : List ℤ) → length marks ≡ 32 → length numbers ≡ 24 → TermsPut 0 f marks numbers marks numbers
+pub terms-begin : (f : ℕ → ℕ × ℤ) (marks : List ℕ) (numbers : List ℤ) → length marks ≡ 24 → length numbers ≡ 24 → TermsPut 0 f marks numbers marks numbers
 terms-begin f marks numbers h g = record {
   marksLong = h;
   numbersLong = g;
@@ -64,7 +64,7 @@ module _ (k : ℕ) (f : ℕ → ℕ × ℤ) (marks₀ : List ℕ) (numbers₀ : 
           rw s (getD-set-same numbers (17 + k) w (pos 0) (omega (arith, h .numbersLong)) ∙ isWeight)
 
 -- ---- what stands where in the rest
-module _ (kind target operand count : ℕ) (l : List ℕ) (long : length l ≡ 32) where
+module _ (kind target operand count : ℕ) (l : List ℕ) (long : length l ≡ 24) where
   head-kind : naturalAt (headMarks kind target operand count l) 16 ≡ kind
   head-kind =
       getD-set-other (set (set (set l 16 kind) 17 target) 18 operand) 19 16 count 0 (λ q. omega arith) ∙ getD-set-other (set (set l 16 kind) 17 target) 18 16 operand 0 (λ q. omega arith)

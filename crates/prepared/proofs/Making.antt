@@ -19,7 +19,7 @@ use Rattle.lists.proofs.Each.{length-tabulate, getD-tabulate}
 use Rattle.lists.proofs.Loops.{and-left, and-right, every-at}
 use Rattle.model.specs.Tasks.{NumericCondition}
 use Rattle.model.specs.Limits.{sourceLimits}
-use Rattle.model.specs.Steps.{integerAt, naturalAt}
+use Rattle.model.specs.Steps.{integerAt, naturalAt, conditionsHold}
 use Rattle.actions.specs.declared.SourceAction.{SourceAction as DecodedSource}
 use Rattle.actions.specs.Views.{sourceActionIs}
 use Rattle.actions.specs.Within.{ConditionsWithin}
@@ -46,11 +46,11 @@ each-passes : (n : ℕ) (f : ℕ → Bool) → every (λ b. b) (tabulate n f) �
 each-passes n f h i l = sym (getD-tabulate n f i true l) ∙ every-at (λ b. b) (tabulate n f) i true h (omega (arith, length-tabulate n f, l))
 
 -- ---- the rows before the effect is written
-marks-zero : {marks : List ℕ} → marks ≡ replicate 32 0 → (j : ℕ) → naturalAt marks j ≡ 0
-marks-zero e j = ap (λ (l : List ℕ). naturalAt l j) e ∙ zeros-at 32 0 j
+marks-zero : {marks : List ℕ} → marks ≡ replicate 24 0 → (j : ℕ) → naturalAt marks j ≡ 0
+marks-zero e j = ap (λ (l : List ℕ). naturalAt l j) e ∙ zeros-at 24 0 j
 
 pub blank : {lower upper : List ℤ} {cs : List (NumericCondition ℕ)} {m : ℕ} {sizes : List ℕ} {ps es : List (ℕ × ℕ)} {marks₀ : List ℕ} {numbers₀ : List ℤ} {marks₁ : List ℕ} {numbers₁ : List ℤ}
-    → marks₀ ≡ replicate 32 0 → numbers₀ ≡ replicate 24 (pos 0) → RangesPut lower upper cs numbers₀ numbers₁ → ModesPut m sizes ps es marks₀ marks₁ → Blank marks₁ numbers₁
+    → marks₀ ≡ replicate 24 0 → numbers₀ ≡ replicate 24 (pos 0) → RangesPut lower upper cs numbers₀ numbers₁ → ModesPut m sizes ps es marks₀ marks₁ → Blank marks₁ numbers₁
 blank e f r p = record {
   marksLong = p .long;
   numbersLong = r .long;
@@ -91,7 +91,7 @@ module _ {n m : ℕ} {lower upper : List ℤ} {sizes : List ℕ} {a : DecodedSou
   pub effects-ask : Indexed 4 8 (a .«mode_effect_count») (a .«mode_effect_modes»)
   effects-ask = record { few = omega (arith, fit .within .modeEffects .few, few-modes); each = λ i l. omega (arith, fit .within .modeEffects .declared i l, few-modes) }
 
-  module _ {marks₀ : List ℕ} {numbers₀ : List ℤ} {marks₁ : List ℕ} {numbers₁ : List ℤ} {marks₂ : List ℕ} {numbers₂ : List ℤ} (blank₀ : marks₀ ≡ replicate 32 0) (r : RangesPut lower upper (sourceActionIs a .conditions) numbers₀ numbers₁)
+  module _ {marks₀ : List ℕ} {numbers₀ : List ℤ} {marks₁ : List ℕ} {numbers₁ : List ℤ} {marks₂ : List ℕ} {numbers₂ : List ℤ} (blank₀ : marks₀ ≡ replicate 24 0) (r : RangesPut lower upper (sourceActionIs a .conditions) numbers₀ numbers₁)
       (p : ModesPut m sizes (sourceActionIs a .modeConditions) (sourceActionIs a .modeEffects) marks₀ marks₁)
       (e : EffectPut n lower upper (sourceActionIs a .effect) marks₁ numbers₁ marks₂ numbers₂) where
     made : (i y : ℕ) → i < 4 → y * naturalAt marks₂ (8 + i) + naturalAt marks₂ (12 + i) ≡ y * naturalAt marks₁ (8 + i) + naturalAt marks₁ (12 + i)
@@ -125,6 +125,7 @@ module _ {n m : ℕ} {lower upper : List ℤ} {sizes : List ℕ} {a : DecodedSou
     pub row-of : RowOf n m lower upper sizes marks₂ numbers₂ (sourceActionIs a)
     row-of = record {
       usable = record {
+        near = λ x h. value-near x (and-left (valuesBetween n lower upper x) (conditionsHold (sourceActionIs a .conditions) (integerAt (take n x))) (sym (values-row x ∙ r .values n (fit .few) (fit .ok .conditionsOk .conditionsIn) x) ∙ h));
         keeps = λ i l. rw (e .marksKept (8 + i) (omega arith), e .marksKept (12 + i) (omega arith)) (p .keeps (marks-zero blank₀) (fit .ok .modeEffectsIn) i l);
         factors = e .factors;
         divides = e .divides;

@@ -1,13 +1,13 @@
 -- The rows of the actions of an accepted file, one after the other.
 -- Assumes nothing.
-use mathlib.Core.Path.{_≡_, refl, sym, ap, _∙_}
+use mathlib.Core.Path.{_≡_, refl, sym, ap, _∙_, subst, subst⁻¹}
 use Prim.Native.Nat.{ℕ, zero, suc, _+_, _≤_, _<_}
 use native.Mathlib.Omega.{arith}
 use mathlib.Core.Bool.{Bool, true, false}
 use mathlib.Core.Option.{some}
 use mathlib.Core.List.{List, [], _∷_}
 use lib.Dec.{ltb}
-use lib.ListN.{length, length-set, set, replicate, length-replicate, getElem?}
+use lib.ListN.{length, length-set, set, take, replicate, length-replicate, getElem?}
 use lib.Seq.{getD-take, getD-set-same, getD-set-other}
 use lib.IntN.{ℤ, natAbs}
 use borrow.Author.Tests.{ltb-true, ltb-false}
@@ -19,28 +19,29 @@ use Rattle.model.specs.Tasks.{SourceVariable, SourceTask}
 use Rattle.model.specs.Limits.{sourceLimits}
 use Rattle.model.specs.Reading.{verdictOf}
 use Rattle.model.specs.TaskOk.{ModeOk, SourceActionOk, SourceVariableOk}
-use Rattle.model.specs.Steps.{naturalAt, sizesOf}
-use Rattle.model.specs.Decoding.{each, sourceActionOf, readSource}
+use Rattle.model.specs.Steps.{integerAt, naturalAt, sizesOf}
+use Rattle.model.specs.Decoding.{sourceActionOf, readSource}
 use Rattle.model.specs.ActionBytes.{actionPart, decodeAction}
 use Rattle.model.proofs.AcceptedOk.{accepted-source-ok}
 use Rattle.model.proofs.StageWalk.{all-get, all-map}
 use Rattle.actions.specs.declared.SourceAction.{SourceAction as DecodedSource}
-use Rattle.actions.specs.Places.{edgesOf}
+use Rattle.actions.specs.Places.{edgesOf, goalPart}
 use Rattle.actions.specs.Views.{sourceActionIs, fittingSource}
-use Rattle.actions.proofs.Accepted.{source-action-decoded, source-action-within, source-edges, places-at}
+use Rattle.actions.proofs.Accepted.{source-action-decoded, source-action-within, goal-action-ok, source-goal-decoded, source-edges, places-at}
+use Rattle.actions.proofs.Fits.{source-within}
 use Rattle.source.specs.Judged.{AcceptedWith}
 use Rattle.source.proofs.Judging.{task-of, accepted-task, counted-task, few-actions}
 use Rattle.source.proofs.Steps.{within-all}
 use Rattle.narrowing.specs.Narrowed.{SizesFit}
 use Rattle.rows.specs.Row.{RowOf}
-use Rattle.rows.specs.Ready.{RowAt, Prepared}
+use Rattle.rows.specs.Ready.{RowAt, Prepared, goalAction}
 use Rattle.prepared.specs.Made.{RowFits, PlacedAt, Declares}
 
 -- ---- the first k rows of a file
 pub record Made (file : List ℕ) (count n : ℕ) (lower upper : List ℤ) (m : ℕ) (sizes : List ℕ) (k : ℕ) (marks : List (List ℕ)) (numbers : List (List ℤ)) : Type 0 where
   pub bound : k ≤ count
-  pub marksLong : length marks ≡ 32
-  pub numbersLong : length numbers ≡ 32
+  pub marksLong : length marks ≡ 33
+  pub numbersLong : length numbers ≡ 33
   pub rows : (t : SourceTask) → readSource file ≡ given t → (j : ℕ) → j < k → RowAt (t .actions) n m lower upper sizes marks numbers j
 
 -- ---- what an accepted file declares
@@ -63,6 +64,14 @@ module _ (file : List ℕ) (bytes : Bytes file) (count n : ℕ) (lower upper : L
           small = λ i l. rw (same i l) (each i l .1);
         }
 
+    lowers-near : (i : ℕ) → i < n → natAbs (integerAt lower i) ≤ 10000
+    lowers-near i l = rw (declares .holds t is .lowerIs i l)
+        (within-all (λ (b : SourceVariable). b .lower) (t .variables) (all-map (SourceVariableOk sourceLimits) (λ (b : SourceVariable). natAbs (b .lower) ≤ 10_000) (λ b z. z .0) (t .variables) (accepted-source-ok file t is .variablesIn)) i)
+
+    uppers-near : (i : ℕ) → i < n → natAbs (integerAt upper i) ≤ 10000
+    uppers-near i l = rw (declares .holds t is .upperIs i l)
+        (within-all (λ (b : SourceVariable). b .upper) (t .variables) (all-map (SourceVariableOk sourceLimits) (λ (b : SourceVariable). natAbs (b .upper) ≤ 10_000) (λ b z. z .1) (t .variables) (accepted-source-ok file t is .variablesIn)) i)
+
     module _ (k : ℕ) (below : k < count) (a : DecodedSource) (decodes : sourceActionIs a ≡ fittingSource (sourceActionOf (decodeAction (actionPart file k)))) where
       pub found : getElem? (t .actions) k ≡ some (sourceActionIs a)
       found = source-action-decoded file bytes t is k (omega (arith, counted-task file count bytes accepted t is)) a decodes
@@ -77,10 +86,8 @@ module _ (file : List ℕ) (bytes : Bytes file) (count n : ℕ) (lower upper : L
             ok = rw (h .variableCount, h .sizesAre) (all-get (SourceActionOk sourceLimits (length (t .variables)) (sizesOf (t .modes))) (t .actions) k (sourceActionIs a) (ok .actionsOk) found);
             within = rw (h .variableCount, h .sizesAre) (source-action-within file bytes t is k (omega arith) a decodes);
             sizesFit = sizes-fit;
-            lowersNear = λ i l. rw (h .lowerIs i l)
-                (within-all (λ (b : SourceVariable). b .lower) (t .variables) (all-map (SourceVariableOk sourceLimits) (λ (b : SourceVariable). natAbs (b .lower) ≤ 10_000) (λ b z. z .0) (t .variables) (ok .variablesIn)) i);
-            uppersNear = λ i l. rw (h .upperIs i l)
-                (within-all (λ (b : SourceVariable). b .upper) (t .variables) (all-map (SourceVariableOk sourceLimits) (λ (b : SourceVariable). natAbs (b .upper) ≤ 10_000) (λ b z. z .1) (t .variables) (ok .variablesIn)) i);
+            lowersNear = lowers-near;
+            uppersNear = uppers-near;
           }
 
   pub action-fits : (k : ℕ) → k < count → (a : DecodedSource) → sourceActionIs a ≡ fittingSource (sourceActionOf (decodeAction (actionPart file k))) → RowFits n m lower upper sizes a
@@ -101,22 +108,58 @@ module _ (file : List ℕ) (bytes : Bytes file) (count n : ℕ) (lower upper : L
       }
 
   -- ---- its rows
-  pub begins : (marks : List (List ℕ)) (numbers : List (List ℤ)) → length marks ≡ 32 → length numbers ≡ 32 → Made file count n lower upper m sizes 0 marks numbers
+  pub begins : (marks : List (List ℕ)) (numbers : List (List ℤ)) → length marks ≡ 33 → length numbers ≡ 33 → Made file count n lower upper m sizes 0 marks numbers
   begins marks numbers h g = record { bound = omega arith; marksLong = h; numbersLong = g; rows = λ t is j l. absurd (omega arith) }
 
-  pub over : (k : ℕ) (marks : List (List ℕ)) (numbers : List (List ℤ)) → Made file count n lower upper m sizes k marks numbers → count ≤ k → Prepared file count n lower upper m sizes marks numbers
-  over k marks numbers h l = record {
-    ready = λ t is. record {
-      ok = accepted-source-ok file t is;
-      counted = counted-task file count bytes accepted t is;
-      rowsAre = λ j b. h .rows t is j (omega arith);
-      lowersAre = declares .holds t is .lowersAre;
-      uppersAre = declares .holds t is .uppersAre;
-      sizesAre = declares .holds t is .sizesAre;
-      marksLong = h .marksLong;
-      numbersLong = h .numbersLong;
-    };
-  }
+  -- the goal, as an action
+  module _ (a : DecodedSource) (decodes : sourceActionIs a ≡ fittingSource (sourceActionOf (decodeAction (goalPart file count)))) where
+    goal-is : (t : SourceTask) → readSource file ≡ given t → sourceActionIs a ≡ goalAction t
+    goal-is t is = source-goal-decoded file bytes t is a
+        (decodes ∙ ap (λ (n : ℕ). fittingSource (sourceActionOf (decodeAction (goalPart file n)))) (counted-task file count bytes accepted t is))
+
+    pub goal-fits : RowFits n m lower upper sizes a
+    goal-fits =
+        let t = task-of file count in
+        let is = accepted-task file count accepted in
+        let h = declares .holds t is in
+        let asks : SourceActionOk sourceLimits n (take m sizes) (sourceActionIs a) = rw (h .variableCount, h .sizesAre)
+        (subst⁻¹ (SourceActionOk sourceLimits (length (t .variables)) (sizesOf (t .modes))) (goal-is t is) (goal-action-ok file bytes t is)) in
+        record {
+          few = h .variablesFew;
+          ok = asks;
+          within = source-within sourceLimits n (take m sizes) a asks;
+          sizesFit = sizes-fit t is;
+          lowersNear = lowers-near t is;
+          uppersNear = uppers-near t is;
+        }
+
+    pub over : (k : ℕ) (marks : List (List ℕ)) (numbers : List (List ℤ)) → Made file count n lower upper m sizes k marks numbers → count ≤ k → (row : List ℕ) (line : List ℤ) → RowOf n m lower upper sizes row line (sourceActionIs a)
+        → Prepared file count n lower upper m sizes (set marks count row) (set numbers count line)
+    over k marks numbers h l row line r = record {
+      ready = λ t is. record {
+        ok = accepted-source-ok file t is;
+        counted = counted-task file count bytes accepted t is;
+        rowsAre = λ j b. kept t is j b;
+        lowersAre = declares .holds t is .lowersAre;
+        uppersAre = declares .holds t is .uppersAre;
+        sizesAre = declares .holds t is .sizesAre;
+        goalRow = rw (getD-set-same marks count row [] (omega (arith, room, h .marksLong)), getD-set-same numbers count line [] (omega (arith, room, h .numbersLong))) (subst (RowOf n m lower upper sizes row line) (goal-is t is) r);
+        marksLong = length-set marks count row ∙ h .marksLong;
+        numbersLong = length-set numbers count line ∙ h .numbersLong;
+      };
+    }
+      where
+        room : count ≤ 32
+        room = few-actions file count bytes accepted
+
+        kept : (t : SourceTask) → readSource file ≡ given t → (j : ℕ) → j < count → RowAt (t .actions) n m lower upper sizes (set marks count row) (set numbers count line) j
+        kept t is j b =
+            let q = h .rows t is j (omega arith) in
+            record {
+              action = q .action;
+              found = q .found;
+              row = rw (getD-set-other marks count j row [] (λ s. omega arith), getD-set-other numbers count j line [] (λ s. omega arith)) (q .row);
+            }
 
   module _ (k : ℕ) (marks : List (List ℕ)) (numbers : List (List ℤ)) (h : Made file count n lower upper m sizes k marks numbers) (l : k < count) (a : DecodedSource) (decodes : sourceActionIs a ≡ fittingSource (sourceActionOf (decodeAction (actionPart file k))))
       (row : List ℕ) (line : List ℤ) (is : RowOf n m lower upper sizes row line (sourceActionIs a)) where

@@ -18,6 +18,8 @@ use Rattle.actions.specs.Views.{termIs, sourceActionIs}
 use Rattle.actions.specs.Within.{SourceWithin}
 use Rattle.declarations.specs.Holding.{HoldsSource}
 use Rattle.narrowing.specs.Narrowed.{SizesFit}
+use Rattle.source.specs.Sizes.{VARIABLES}
+use Rattle.rows.specs.Layout.{KIND, TARGET, OPERAND, COUNT, TERM, CONSTANT, WEIGHT, LOWER, UPPER, ADD, QUOTIENT, MARKS, NUMBERS}
 use Rattle.rows.specs.Row.{kindAt, targetAt, termCountAt, constantAt, effectAt}
 
 -- ---- the terms of an L
@@ -26,46 +28,46 @@ termAt terms i = termIs (getD terms i (record { variable = 0; weight = pos 0 }))
 
 -- the first k terms stand in the rows, of which term i is f i; the rest is as before
 pub record TermsPut (k : ℕ) (f : ℕ → ℕ × ℤ) (marks : List ℕ) (numbers : List ℤ) (marks′ : List ℕ) (numbers′ : List ℤ) : Type 0 where
-  pub marksLong : length marks′ ≡ 32
-  pub numbersLong : length numbers′ ≡ 24
-  pub variables : (i : ℕ) → i < k → naturalAt marks′ (20 + i) ≡ f i .0
-  pub weights : (i : ℕ) → i < k → integerAt numbers′ (17 + i) ≡ f i .1
-  pub marksKept : (j : ℕ) → j < 20 → naturalAt marks′ j ≡ naturalAt marks j
-  pub numbersKept : (j : ℕ) → j < 17 → integerAt numbers′ j ≡ integerAt numbers j
-  pub numbersBehind : (j : ℕ) → 17 + k ≤ j → integerAt numbers′ j ≡ integerAt numbers j
+  pub marksLong : length marks′ ≡ MARKS
+  pub numbersLong : length numbers′ ≡ NUMBERS
+  pub variables : (i : ℕ) → i < k → naturalAt marks′ (TERM + i) ≡ f i .0
+  pub weights : (i : ℕ) → i < k → integerAt numbers′ (WEIGHT + i) ≡ f i .1
+  pub marksKept : (j : ℕ) → j < TERM → naturalAt marks′ j ≡ naturalAt marks j
+  pub numbersKept : (j : ℕ) → j < WEIGHT → integerAt numbers′ j ≡ integerAt numbers j
+  pub numbersBehind : (j : ℕ) → WEIGHT + k ≤ j → integerAt numbers′ j ≡ integerAt numbers j
 
 -- ---- the rest of an effect
 abbrev pub headMarks : ℕ → ℕ → ℕ → ℕ → List ℕ → List ℕ
-headMarks kind target operand count l = set (set (set (set l 16 kind) 17 target) 18 operand) 19 count
+headMarks kind target operand count l = set (set (set (set l KIND kind) TARGET target) OPERAND operand) COUNT count
 
 abbrev pub headNumbers : ℤ → ℤ → ℤ → List ℤ → List ℤ
-headNumbers c least most l = set (set (set l 16 c) 21 least) 22 most
+headNumbers c least most l = set (set (set l CONSTANT c) LOWER least) UPPER most
 
 pub record HeadPut (n : ℕ) (lower upper : List ℤ) (kind target operand count : ℕ) (c : ℤ) (marks : List ℕ) (numbers : List ℤ) (marks′ : List ℕ) (numbers′ : List ℤ) : Type 0 where
   pub marksAre : marks′ ≡ headMarks kind target operand count marks
   pub numbersAre : numbers′ ≡ headNumbers c (integerAt (take n lower) target) (integerAt (take n upper) target) numbers
 
--- ---- an effect in rows that were 0 from 16 on
+-- ---- an effect in rows that were 0 from its kind and its constant on
 pub record Blank (marks : List ℕ) (numbers : List ℤ) : Type 0 where
-  pub marksLong : length marks ≡ 32
-  pub numbersLong : length numbers ≡ 24
-  pub marksBlank : (j : ℕ) → 16 ≤ j → naturalAt marks j ≡ 0
-  pub numbersBlank : (j : ℕ) → 16 ≤ j → integerAt numbers j ≡ pos 0
+  pub marksLong : length marks ≡ MARKS
+  pub numbersLong : length numbers ≡ NUMBERS
+  pub marksBlank : (j : ℕ) → KIND ≤ j → naturalAt marks j ≡ 0
+  pub numbersBlank : (j : ℕ) → CONSTANT ≤ j → integerAt numbers j ≡ pos 0
 
 pub record EffectPut (n : ℕ) (lower upper : List ℤ) (e : Effect) (marks : List ℕ) (numbers : List ℤ) (marks′ : List ℕ) (numbers′ : List ℤ) : Type 0 where
   pub effect : effectAt marks′ numbers′ ≡ e
-  pub factors : (i : ℕ) → i ≤ 4 → natAbs (integerAt numbers′ (16 + i)) ≤ 10000
-  pub divides : 3 ≤ kindAt marks′ → 1 ≤ natAbs (constantAt numbers′)
-  pub unweighted : (i : ℕ) → i < 4 → termCountAt marks′ ≤ i → integerAt numbers′ (17 + i) ≡ pos 0
-  pub targetDeclared : 1 ≤ kindAt marks′ → targetAt marks′ < n
-  pub lowerAt : 1 ≤ kindAt marks′ → integerAt numbers′ 21 ≡ integerAt (take n lower) (targetAt marks′)
-  pub upperAt : 1 ≤ kindAt marks′ → integerAt numbers′ 22 ≡ integerAt (take n upper) (targetAt marks′)
-  pub marksKept : (j : ℕ) → j < 16 → naturalAt marks′ j ≡ naturalAt marks j
-  pub numbersKept : (j : ℕ) → j < 16 → integerAt numbers′ j ≡ integerAt numbers j
+  pub factors : (i : ℕ) → i ≤ 4 → natAbs (integerAt numbers′ (CONSTANT + i)) ≤ 10000
+  pub divides : QUOTIENT ≤ kindAt marks′ → 1 ≤ natAbs (constantAt numbers′)
+  pub unweighted : (i : ℕ) → i < 4 → termCountAt marks′ ≤ i → integerAt numbers′ (WEIGHT + i) ≡ pos 0
+  pub targetDeclared : ADD ≤ kindAt marks′ → targetAt marks′ < n
+  pub lowerAt : ADD ≤ kindAt marks′ → integerAt numbers′ LOWER ≡ integerAt (take n lower) (targetAt marks′)
+  pub upperAt : ADD ≤ kindAt marks′ → integerAt numbers′ UPPER ≡ integerAt (take n upper) (targetAt marks′)
+  pub marksKept : (j : ℕ) → j < KIND → naturalAt marks′ j ≡ naturalAt marks j
+  pub numbersKept : (j : ℕ) → j < CONSTANT → integerAt numbers′ j ≡ integerAt numbers j
 
 -- ---- an action that keeps to the rules, in a task with these bounds and sizes
 pub record RowFits (n m : ℕ) (lower upper : List ℤ) (sizes : List ℕ) (a : DecodedSource) : Type 0 where
-  pub few : n ≤ 8
+  pub few : n ≤ VARIABLES
   pub ok : SourceActionOk sourceLimits n (take m sizes) (sourceActionIs a)
   pub within : SourceWithin sourceLimits n (take m sizes) a
   pub sizesFit : SizesFit m sizes

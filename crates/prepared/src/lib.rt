@@ -6,8 +6,21 @@ use actions::Effect;
 use actions::SourceAction;
 use actions::TERMS;
 use actions::Term;
+use rows::ADD;
+use rows::CONSTANT;
+use rows::COUNT;
+use rows::KIND;
+use rows::LINEAR;
+use rows::LOWER;
 use rows::MARKS;
 use rows::NUMBERS;
+use rows::OPERAND;
+use rows::QUOTIENT;
+use rows::RESIDUE;
+use rows::TARGET;
+use rows::TERM;
+use rows::UPPER;
+use rows::WEIGHT;
 use source::MODES;
 use source::VARIABLES;
 ghost use mathlib.Core.Path.{_≡_};
@@ -20,10 +33,13 @@ ghost use Rattle.model.specs.Reading.{verdictOf};
 ghost use Rattle.model.specs.Decoding.{sourceActionOf};
 ghost use Rattle.model.specs.ActionBytes.{actionPart, decodeAction};
 ghost use Rattle.model.specs.TaskOk.{EffectOk};
+ghost use Rattle.actions.specs.Places.{goalPart};
 ghost use Rattle.actions.specs.Views.{sourceActionIs, fittingSource, effectIs, termsIs};
+ghost use Rattle.source.specs.Sizes.{VARIABLES, ACTIONS};
 ghost use Rattle.source.specs.Judged.{AcceptedWith};
 ghost use Rattle.rows.specs.Row.{RowOf};
 ghost use Rattle.rows.specs.Ready.{Prepared};
+ghost use Rattle.rows.specs.Layout.{MARKS, NUMBERS};
 ghost use Rattle.prepared.specs.Made.{termAt, TermsPut, HeadPut, Blank, EffectPut, RowFits, PlacedAt, Declares};
 
 // The places of the actions of a file, and that of its goal.
@@ -37,15 +53,15 @@ fn wide(x: u8) -> u16
 
 // The variables and the weights of the first k terms of an L.
 fn put_terms(marks: &mut [u16; MARKS], numbers: &mut [i64; NUMBERS], k: usize, terms: [Term; TERMS])
-    requires { ⌜ (k ≤ 4) × (length (now marks) ≡ 32) × (length (now numbers) ≡ 24) ⌝ }
+    requires { ⌜ (k ≤ 4) × (length (now marks) ≡ MARKS) × (length (now numbers) ≡ NUMBERS) ⌝ }
     ensures { λ _. ⌜ TermsPut k (termAt terms) (now (marks .entry)) (now (numbers .entry)) (now (marks .exit)) (now (numbers .exit)) ⌝ }
 {
     let mut i: usize = 0;
     while i < k {
         let term = terms[i];
         let weight = term.weight;
-        marks[20 + i] = wide(term.variable);
-        numbers[17 + i] = weight;
+        marks[TERM + i] = wide(term.variable);
+        numbers[WEIGHT + i] = weight;
         i += 1;
     }
 }
@@ -63,16 +79,16 @@ fn put_head(
     count: u16,
     constant: i64,
 )
-    requires { ⌜ n ≤ 8 ⌝ }
+    requires { ⌜ n ≤ VARIABLES ⌝ }
     ensures { λ _. ⌜ HeadPut n (now (lower .entry)) (now (upper .entry)) kind target operand count constant (now (marks .entry)) (now (numbers .entry)) (now (marks .exit)) (now (numbers .exit)) ⌝ }
 {
-    marks[16] = kind;
-    marks[17] = wide(target);
-    marks[18] = wide(operand);
-    marks[19] = count;
-    numbers[16] = constant;
-    numbers[21] = source::value_at(lower, n, target);
-    numbers[22] = source::value_at(upper, n, target);
+    marks[KIND] = kind;
+    marks[TARGET] = wide(target);
+    marks[OPERAND] = wide(operand);
+    marks[COUNT] = count;
+    numbers[CONSTANT] = constant;
+    numbers[LOWER] = source::value_at(lower, n, target);
+    numbers[UPPER] = source::value_at(upper, n, target);
 }
 
 // An L, with its terms.
@@ -87,7 +103,7 @@ fn put_linear(
     count: usize,
     terms: [Term; TERMS],
 )
-    requires { ⌜ (n ≤ 8) × Blank (now marks) (now numbers) × EffectOk sourceLimits n (linearEffect target constant (termsIs count terms)) ⌝ }
+    requires { ⌜ (n ≤ VARIABLES) × Blank (now marks) (now numbers) × EffectOk sourceLimits n (linearEffect target constant (termsIs count terms)) ⌝ }
     ensures { λ _. ⌜ EffectPut n (now (lower .entry)) (now (upper .entry)) (linearEffect target constant (termsIs count terms)) (now (marks .entry)) (now (numbers .entry)) (now (marks .exit)) (now (numbers .exit)) ⌝ }
 {
     let k = source::lesser(TERMS, count);
@@ -98,7 +114,7 @@ fn put_linear(
         n,
         lower,
         upper,
-        2,
+        LINEAR,
         target,
         0,
         k as u16,
@@ -117,12 +133,12 @@ fn put_effect(
     count: usize,
     terms: [Term; TERMS],
 )
-    requires { ⌜ (n ≤ 8) × Blank (now marks) (now numbers) × EffectOk sourceLimits n (effectIs effect (termsIs count terms)) ⌝ }
+    requires { ⌜ (n ≤ VARIABLES) × Blank (now marks) (now numbers) × EffectOk sourceLimits n (effectIs effect (termsIs count terms)) ⌝ }
     ensures { λ _. ⌜ EffectPut n (now (lower .entry)) (now (upper .entry)) (effectIs effect (termsIs count terms)) (now (marks .entry)) (now (numbers .entry)) (now (marks .exit)) (now (numbers .exit)) ⌝ }
 {
     match effect {
         Effect::None => {}
-        Effect::Add(target, c) => put_head(marks, numbers, n, lower, upper, 1, target, 0, 0, c),
+        Effect::Add(target, c) => put_head(marks, numbers, n, lower, upper, ADD, target, 0, 0, c),
         Effect::Linear(target, c) => put_linear(
             marks,
             numbers,
@@ -140,7 +156,7 @@ fn put_effect(
             n,
             lower,
             upper,
-            3,
+            QUOTIENT,
             target,
             operand,
             0,
@@ -152,7 +168,7 @@ fn put_effect(
             n,
             lower,
             upper,
-            4,
+            RESIDUE,
             target,
             operand,
             0,
@@ -172,7 +188,7 @@ pub fn put_row(
     sizes: &[u16; MODES],
     a: SourceAction,
 )
-    requires { ⌜ (now marks ≡ replicate 32 0) × (now numbers ≡ replicate 24 (pos 0)) × RowFits n m (now lower) (now upper) (now sizes) a ⌝ }
+    requires { ⌜ (now marks ≡ replicate MARKS 0) × (now numbers ≡ replicate NUMBERS (pos 0)) × RowFits n m (now lower) (now upper) (now sizes) a ⌝ }
     ensures { λ _. ⌜ RowOf n m (now (lower .entry)) (now (upper .entry)) (now (sizes .entry)) (now (marks .exit)) (now (numbers .exit)) (sourceActionIs a) ⌝ }
 {
     narrowing::put_ranges(
@@ -202,13 +218,20 @@ pub fn put_row(
 
 // Action k of a file, by the places of its actions.
 fn decode_placed(file: &[u8], places: &[usize; PLACES], k: usize) -> SourceAction
-    requires { ⌜ (k < 32) × PlacedAt (now file) (now places) k ⌝ }
+    requires { ⌜ (k < ACTIONS) × PlacedAt (now file) (now places) k ⌝ }
     ensures { λ r. ⌜ sourceActionIs r ≡ fittingSource (sourceActionOf (decodeAction (actionPart (now (file .entry)) k))) ⌝ }
 {
     actions::decode_source(actions::part(file, places[k], places[k + 1]))
 }
 
-// The rows of the actions of an accepted file, of which there are `count`, by what it declares. Rows behind them are left as they were.
+// The goal of an accepted file with so many actions, as an action: it has no effects.
+fn goal_of(file: &[u8], count: usize) -> SourceAction
+    ensures { λ r. ⌜ sourceActionIs r ≡ fittingSource (sourceActionOf (decodeAction (goalPart (now (file .entry)) count))) ⌝ }
+{
+    actions::decode_source(actions::goal_bytes(file, count))
+}
+
+// The rows of the actions of an accepted file, of which there are `count`, by what it declares; behind them that of its goal.
 pub fn prepare(
     file: &[u8],
     count: usize,
@@ -220,7 +243,7 @@ pub fn prepare(
     marks: &mut [[u16; MARKS]],
     numbers: &mut [[i64; NUMBERS]],
 )
-    requires { ⌜ AcceptedWith (verdictOf sourceLimits (now file)) count × Declares (now file) n (now lower) (now upper) m (now sizes) × (length (now marks) ≡ 32) × (length (now numbers) ≡ 32) ⌝ }
+    requires { ⌜ AcceptedWith (verdictOf sourceLimits (now file)) count × Declares (now file) n (now lower) (now upper) m (now sizes) × (length (now marks) ≡ 33) × (length (now numbers) ≡ 33) ⌝ }
     ensures { λ _. ⌜ Prepared (now (file .entry)) count n (now (lower .entry)) (now (upper .entry)) m (now (sizes .entry)) (now (marks .exit)) (now (numbers .exit)) ⌝ }
 {
     let mut places = [0usize; PLACES];
@@ -235,4 +258,10 @@ pub fn prepare(
         numbers[k] = line;
         k += 1;
     }
+    let goal = goal_of(file, count);
+    let mut last = [0u16; MARKS];
+    let mut most = [0i64; NUMBERS];
+    put_row(&mut last, &mut most, n, lower, upper, m, sizes, goal);
+    marks[count] = last;
+    numbers[count] = most;
 }

@@ -6,7 +6,7 @@ use Prim.Native.Nat.{ℕ, zero, suc, _+_, _≤_, _<_}
 use native.Mathlib.Omega.{arith}
 use mathlib.Core.Bool.{Bool, true, false, cond, _&&_}
 use mathlib.Core.Option.{Option, some}
-use mathlib.Core.List.{List, [], _∷_}
+use mathlib.Core.List.{List, [], _∷_, map}
 use lib.Dec.{eqb, ltb}
 use lib.ListN.{length, set, length-set}
 use lib.Seq.{ext-getD}
@@ -18,13 +18,12 @@ use Rattle.integers.proofs.Parts.{ints, add, mul}
 use Rattle.integers.proofs.Products.{mul-add}
 use Rattle.lists.proofs.Loops.{and-left, and-right}
 use Rattle.model.specs.Tasks.{Measured, variable, weightedSum, NumericCondition, RestrictedAction, State}
-use Rattle.model.specs.Decoding.{each}
 use Rattle.model.specs.Systems.{bind, provided}
 use Rattle.model.specs.Steps.{integerAt, naturalAt, measure, conditionsHold, modesHold, addAll, setAll, valuesWithin, appliesRestricted, applyRestricted, figure}
 use Rattle.restricted.proofs.Tests.{within-at, at-within}
 use Rattle.restricted.proofs.Effects.{add-length}
 use Rattle.restricted_rows.specs.Steps.{stepBy, scaled, behind}
-use Rattle.restricted_rows.proofs.Stepping.{each-once}
+use Rattle.restricted_rows.proofs.Stepping.{map-scaled-once}
 use Rattle.repeats.specs.Repeats.{stepsBy}
 use Rattle.repeats.proofs.Writes.{getD-past, getD-set, set-again}
 use Rattle.repeats.proofs.Convex.{Convex, on-line, convex-related, convex-within}
@@ -47,7 +46,7 @@ added x y z k = omega (ints, add (x +ℤ pos k *ℤ y) (pos k *ℤ z), add x (po
 passed-by : (x z : ℤ) (k : ℕ) → x +ℤ pos k *ℤ z ≡ x +ℤ pos k *ℤ (pos 0 +ℤ z)
 passed-by x z k = let e : z ≡ pos 0 +ℤ z = omega (ints, add (pos 0) z) in ap (λ (y : ℤ). x +ℤ pos k *ℤ y) e
 
-line-within : (k : ℕ) (es : List (ℕ × ℤ)) (l : List ℤ) (i : ℕ) → i < length l → integerAt (addAll (each (scaled k) es) l) i ≡ integerAt l i +ℤ pos k *ℤ rate es i
+line-within : (k : ℕ) (es : List (ℕ × ℤ)) (l : List ℤ) (i : ℕ) → i < length l → integerAt (addAll (map (scaled k) es) l) i ≡ integerAt l i +ℤ pos k *ℤ rate es i
 unfolding rate
 line-within k [] l i h = none-added (integerAt l i) k
 line-within k (e ∷ es) l i h =
@@ -60,27 +59,27 @@ line-within k (e ∷ es) l i h =
     go true q = rw (eqb-true (e .0) i q) (added (integerAt l i) (e .1) (rate es i) k)
     go false q = passed-by (integerAt l i) (rate es i) k
 
-line-at : (k : ℕ) (es : List (ℕ × ℤ)) (l : List ℤ) (i : ℕ) → integerAt (addAll (each (scaled k) es) l) i ≡ integerAt l i +ℤ pos k *ℤ rateIn es l i
+line-at : (k : ℕ) (es : List (ℕ × ℤ)) (l : List ℤ) (i : ℕ) → integerAt (addAll (map (scaled k) es) l) i ≡ integerAt l i +ℤ pos k *ℤ rateIn es l i
 unfolding rateIn
 line-at k es l i = go (ltb i (length l)) refl
   where
-    go : (t : Bool) → ltb i (length l) ≡ t → integerAt (addAll (each (scaled k) es) l) i ≡ integerAt l i +ℤ pos k *ℤ cond t (rate es i) (pos 0)
+    go : (t : Bool) → ltb i (length l) ≡ t → integerAt (addAll (map (scaled k) es) l) i ≡ integerAt l i +ℤ pos k *ℤ cond t (rate es i) (pos 0)
     go true q = line-within k es l i (ltb-true i (length l) q)
     go false q =
         let h : length l ≤ i = ltb-false i (length l) q in
-        getD-past (addAll (each (scaled k) es) l) i (pos 0) (omega (arith, add-length (each (scaled k) es) l)) ∙ none-added (pos 0) k ∙ ap (λ (z : ℤ). z +ℤ pos k *ℤ pos 0) (sym (getD-past l i (pos 0) h))
+        getD-past (addAll (map (scaled k) es) l) i (pos 0) (omega (arith, add-length (map (scaled k) es) l)) ∙ none-added (pos 0) k ∙ ap (λ (z : ℤ). z +ℤ pos k *ℤ pos 0) (sym (getD-past l i (pos 0) h))
 
 -- ---- so many steps, and one step more before them
 one-more : (x c : ℤ) (k : ℕ) → (x +ℤ pos 1 *ℤ c) +ℤ pos k *ℤ c ≡ x +ℤ pos (suc k) *ℤ c
 one-more x c k = omega (ints, mul (pos 1) c, mul (pos k) c, mul (pos (suc k)) c, add x (pos 1 *ℤ c), add (x +ℤ pos 1 *ℤ c) (pos k *ℤ c))
 
-add-more : (k : ℕ) (es : List (ℕ × ℤ)) (l : List ℤ) → addAll (each (scaled k) es) (addAll (each (scaled 1) es) l) ≡ addAll (each (scaled (suc k)) es) l
+add-more : (k : ℕ) (es : List (ℕ × ℤ)) (l : List ℤ) → addAll (map (scaled k) es) (addAll (map (scaled 1) es) l) ≡ addAll (map (scaled (suc k)) es) l
 add-more k es l =
-    ext-getD (pos 0) _ _ (add-length (each (scaled k) es) (addAll (each (scaled 1) es) l) ∙ add-length (each (scaled 1) es) l ∙ sym (add-length (each (scaled (suc k)) es) l))
+    ext-getD (pos 0) _ _ (add-length (map (scaled k) es) (addAll (map (scaled 1) es) l) ∙ add-length (map (scaled 1) es) l ∙ sym (add-length (map (scaled (suc k)) es) l))
     (λ i h.
-    let long : length (addAll (each (scaled 1) es) l) ≡ length l = add-length (each (scaled 1) es) l in
-    let first : i < length (addAll (each (scaled 1) es) l) = omega (arith, add-length (each (scaled k) es) (addAll (each (scaled 1) es) l)) in
-    line-within k es (addAll (each (scaled 1) es) l) i first
+    let long : length (addAll (map (scaled 1) es) l) ≡ length l = add-length (map (scaled 1) es) l in
+    let first : i < length (addAll (map (scaled 1) es) l) = omega (arith, add-length (map (scaled k) es) (addAll (map (scaled 1) es) l)) in
+    line-within k es (addAll (map (scaled 1) es) l) i first
     ∙ ap (λ (z : ℤ). z +ℤ pos k *ℤ rate es i) (line-within 1 es l i (omega (arith, long)))
     ∙ one-more (integerAt l i) (rate es i) k
     ∙ sym (line-within (suc k) es l i (omega (arith, long))))
@@ -95,29 +94,29 @@ Plain c = PlainMeasure (c .measured)
 
 -- ---- between the first state and the last
 module _ (es : List (ℕ × ℤ)) (l : List ℤ) (j m : ℕ) (h : j ≤ m) where
-  at-between : (p : ℤ → Bool) → Convex p → (i : ℕ) → p (integerAt l i) ≡ true → p (integerAt (addAll (each (scaled m) es) l) i) ≡ true → p (integerAt (addAll (each (scaled j) es) l) i) ≡ true
+  at-between : (p : ℤ → Bool) → Convex p → (i : ℕ) → p (integerAt l i) ≡ true → p (integerAt (addAll (map (scaled m) es) l) i) ≡ true → p (integerAt (addAll (map (scaled j) es) l) i) ≡ true
   at-between p q i e f =
       ap p (line-at j es l i) ∙ on-line p q (integerAt l i) (rateIn es l i) j m h e (ap p (sym (line-at m es l i)) ∙ f)
 
-  values-between : valuesWithin figure l ≡ true → valuesWithin figure (addAll (each (scaled m) es) l) ≡ true → valuesWithin figure (addAll (each (scaled j) es) l) ≡ true
-  values-between e f = at-within figure (addAll (each (scaled j) es) l) (λ i. at-between (withinLimit figure) (convex-within figure) i (within-at figure l e i) (within-at figure (addAll (each (scaled m) es) l) f i))
+  values-between : valuesWithin figure l ≡ true → valuesWithin figure (addAll (map (scaled m) es) l) ≡ true → valuesWithin figure (addAll (map (scaled j) es) l) ≡ true
+  values-between e f = at-within figure (addAll (map (scaled j) es) l) (λ i. at-between (withinLimit figure) (convex-within figure) i (within-at figure l e i) (within-at figure (addAll (map (scaled m) es) l) f i))
 
   condition-between : (c : NumericCondition ℕ) (w : Measured ℕ) → PlainMeasure w
-      → related (c .relation) (measure w (integerAt l)) (c .constant) ≡ true → related (c .relation) (measure w (integerAt (addAll (each (scaled m) es) l))) (c .constant) ≡ true
-      → related (c .relation) (measure w (integerAt (addAll (each (scaled j) es) l))) (c .constant) ≡ true
+      → related (c .relation) (measure w (integerAt l)) (c .constant) ≡ true → related (c .relation) (measure w (integerAt (addAll (map (scaled m) es) l))) (c .constant) ≡ true
+      → related (c .relation) (measure w (integerAt (addAll (map (scaled j) es) l))) (c .constant) ≡ true
   unfolding PlainMeasure
   condition-between c (variable i) p e f = at-between (λ v. related (c .relation) v (c .constant)) (convex-related (c .relation) (c .constant)) i e f
   condition-between c (weightedSum ts) p e f = absurd p
 
-  conditions-between : (cs : List (NumericCondition ℕ)) → All Plain cs → conditionsHold cs (integerAt l) ≡ true → conditionsHold cs (integerAt (addAll (each (scaled m) es) l)) ≡ true
-      → conditionsHold cs (integerAt (addAll (each (scaled j) es) l)) ≡ true
+  conditions-between : (cs : List (NumericCondition ℕ)) → All Plain cs → conditionsHold cs (integerAt l) ≡ true → conditionsHold cs (integerAt (addAll (map (scaled m) es) l)) ≡ true
+      → conditionsHold cs (integerAt (addAll (map (scaled j) es) l)) ≡ true
   unfolding Plain
   conditions-between [] p e f = refl
   conditions-between (c ∷ cs) (p, ps) e f =
       let first = related (c .relation) (measure (c .measured) (integerAt l)) (c .constant) in
-      let last = related (c .relation) (measure (c .measured) (integerAt (addAll (each (scaled m) es) l))) (c .constant) in
-      ap₂ _&&_ (condition-between c (c .measured) p (and-left first (conditionsHold cs (integerAt l)) e) (and-left last (conditionsHold cs (integerAt (addAll (each (scaled m) es) l))) f))
-      (conditions-between cs ps (and-right first (conditionsHold cs (integerAt l)) e) (and-right last (conditionsHold cs (integerAt (addAll (each (scaled m) es) l))) f))
+      let last = related (c .relation) (measure (c .measured) (integerAt (addAll (map (scaled m) es) l))) (c .constant) in
+      ap₂ _&&_ (condition-between c (c .measured) p (and-left first (conditionsHold cs (integerAt l)) e) (and-left last (conditionsHold cs (integerAt (addAll (map (scaled m) es) l))) f))
+      (conditions-between cs ps (and-right first (conditionsHold cs (integerAt l)) e) (and-right last (conditionsHold cs (integerAt (addAll (map (scaled m) es) l))) f))
 
 -- ---- a state in which an action may go on
 module _ (a : RestrictedAction) where
@@ -126,7 +125,7 @@ module _ (a : RestrictedAction) where
     pub applies : appliesRestricted a x ≡ true
 
   applied-once : (x : State) → applyRestricted a x ≡ behind a 1 x
-  applied-once x = λ i. record { values = addAll (sym (each-once (a .additions)) i) (x .values); modes = setAll (a .modeEffects) (x .modes) }
+  applied-once x = λ i. record { values = addAll (sym (map-scaled-once (a .additions)) i) (x .values); modes = setAll (a .modeEffects) (x .modes) }
 
   behind-more : (x : State) (k : ℕ) → behind a k (behind a 1 x) ≡ behind a (suc k) x
   behind-more x k = λ i. record { values = add-more k (a .additions) (x .values) i; modes = set-again (a .modeEffects) (x .modes) i }

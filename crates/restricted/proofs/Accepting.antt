@@ -1,13 +1,12 @@
 -- From bytes to a step by itself: what the readers leave of an accepted file, and what the step then answers.
 -- Assumes nothing.
 use mathlib.Core.Path.{_≡_, refl, sym, ap, ap₂, _∙_, subst}
-use Prim.Native.Nat.{ℕ, _+_, _≤_, _<_}
-use native.Mathlib.Numerals.{add-one}
+use Prim.Native.Nat.{ℕ, _≤_, _<_}
 use native.Mathlib.Omega.{arith}
 use mathlib.Core.Bool.{Bool, true, false, cond, false≢true}
 use mathlib.Core.Option.{Option, none, some}
 use mathlib.Core.List.{List}
-use lib.ListN.{length, take, replicate, length-replicate}
+use lib.ListN.{length, take, replicate, length-replicate, length-map}
 use lib.IntN.{ℤ, pos}
 use borrow.Author.Tests.{lt-ltb, le-ltb}
 use Rattle.integers.specs.Numbers.{Bytes}
@@ -15,21 +14,21 @@ use Rattle.lists.specs.Answer.{Answer, given, refused, then}
 use Rattle.model.specs.Tasks.{RestrictedTask, State}
 use Rattle.model.specs.Limits.{restrictedLimits}
 use Rattle.model.specs.Reading.{Verdict as ModelVerdict, Accepted as accepted, Rejected as rejected, verdictOf, commandsOf}
-use Rattle.model.specs.Decoding.{readRestricted, restrictedActionOf, onVerdict, draftOf}
+use Rattle.model.specs.Decoding.{readRestricted, actionsOf, restrictedActionOf, onVerdict}
 use Rattle.model.specs.TaskOk.{RestrictedTaskOk}
-use Rattle.model.specs.ActionBytes.{edgeOf, actionPart, decodeAction}
+use Rattle.model.specs.ActionBytes.{actionPlace, decodeAction}
 use Rattle.model.specs.Steps.{stepRestricted}
 use Rattle.model.specs.Judging.{declaredPart, withRest, ifApplies, stepAlone, stepRestrictedAlone}
 use Rattle.model.proofs.AcceptedOk.{accepted-restricted-ok}
 use Rattle.model.proofs.AcceptedTrail.{Is}
 use Rattle.model.proofs.ActionsAndGoal.{verdict-counts-actions}
-use Rattle.model.proofs.ReadingLaws.{length-each}
 use Rattle.declarations.specs.declared.Declared.{Declared}
 use Rattle.declarations.specs.Stored.{RestrictedStored}
 use Rattle.declarations.specs.Holding.{RestrictedRoom, HoldsRestricted}
 use Rattle.declarations.proofs.Accepted.{restricted-held}
 use Rattle.actions.specs.declared.RestrictedAction.{RestrictedAction as DecodedRestricted}
-use Rattle.actions.specs.Places.{partOf}
+use Rattle.actions.specs.Places.{BytesOfAction, stepPlace}
+use Rattle.actions.proofs.Refusals.{given-of, step-refused}
 use Rattle.actions.specs.Views.{restrictedActionIs, fittingRestricted}
 use Rattle.restricted.specs.declared.State.{State as StateByValue}
 use Rattle.restricted.specs.declared.Stepped.{Stepped}
@@ -59,12 +58,12 @@ module _ (file : List ℕ) where
 
   pub actions-counted : Bytes file → {v m a : ℕ} → accepted v m a ≡ verdictOf restrictedLimits file → a ≡ length (taskIn file .actions)
   actions-counted bytes {v} {m} {a} e =
-      verdict-counts-actions restrictedLimits file bytes (subst Is e tt) v m a (sym e) ∙ sym (length-each restrictedActionOf (draftOf (commandsOf restrictedLimits file) .actions))
+      verdict-counts-actions restrictedLimits file bytes (subst Is e tt) v m a (sym e) ∙ sym (length-map (actionsOf (commandsOf restrictedLimits file)) restrictedActionOf)
 
 -- ---- a step by itself
 module _ (n m : ℕ) (x : State) (b : Bool) (z : State) (o : Option State) (e : (b, z) ≡ handedBack n m x o) where
-  step-refused : b ≡ false → refused 12 0 ≡ ifApplies o 0 (λ y. given (withRest n m x y))
-  step-refused f = go o e
+  step-not : b ≡ false → refused 12 0 ≡ ifApplies o 0 (λ y. given (withRest n m x y))
+  step-not f = go o e
     where
       go : (o : Option State) → (b, z) ≡ handedBack n m x o → refused 12 0 ≡ ifApplies o 0 (λ y. given (withRest n m x y))
       go none e = refl
@@ -77,44 +76,61 @@ module _ (n m : ℕ) (x : State) (b : Bool) (z : State) (o : Option State) (e : 
       go none e = absurd (false≢true (sym (ap (λ (p : Bool × State). p .0) e) ∙ t))
       go (some y) e = ap given (ap (λ (p : Bool × State). p .1) e)
 
-module _ (file : List ℕ) (bytes : Bytes file) (is : readRestricted file ≡ given (taskIn file)) (k : ℕ) (below : k < length (taskIn file .actions)) where
-  pub one-more : k < 16384
-  one-more = omega (arith, below, accepted-restricted-ok file (taskIn file) is .actionsFew)
+-- action k of a task
+abbrev taskStep : RestrictedTask → State → ℕ → Answer State
+taskStep t x k = stepAlone (length (t .starts)) (length (t .modes)) (length (t .actions)) (stepRestricted t) x k
 
-  -- the bytes of action k, by the edges around them
-  pub part-of-action : (start end : ℕ) → start ≡ edgeOf file k → end ≡ edgeOf file (k + 1) → partOf file start end ≡ actionPart file k
-  part-of-action start end s e = ap₂ (partOf file) s (e ∙ ap (edgeOf file) (add-one k))
+-- ---- the action that has these bytes is action k of an accepted file
+module _ (file : List ℕ) (bytes : Bytes file) (k : ℕ) {part : List ℕ} (of : BytesOfAction restrictedLimits file k part) where
+  abbrev t : RestrictedTask
+  t = taskIn file
+
+  is : readRestricted file ≡ given t
+  is = file-accepted file (given-of restrictedLimits file k of .accepted)
+
+  below : k < length (t .actions)
+  below = let g = given-of restrictedLimits file k of in omega (arith, g .below, actions-counted file bytes (g .accepted))
 
   module _ {r : Declared} {start : List ℤ} {sizes modes : List ℕ} (stored : RestrictedStored file (replicate 64 (pos 0)) (replicate 8 0) (replicate 8 0) r start sizes modes)
-      (a : DecodedRestricted) (decoded : restrictedActionIs a ≡ fittingRestricted (restrictedActionOf (decodeAction (actionPart file k)))) (x : StateByValue) (s : Stepped)
+      (a : DecodedRestricted) (decoded : restrictedActionIs a ≡ fittingRestricted (restrictedActionOf (decodeAction part))) (x : StateByValue) (s : Stepped)
       (e : steppedIs s ≡ stepped (record { variables = r .variables; modes = r .modes; sizes = sizes }) x a) where
-    H′ : HoldsRestricted (taskIn file) r start sizes modes
+    H′ : HoldsRestricted t r start sizes modes
     H′ = held file is stored
 
-    by-number : steppedIs s ≡ handedBack (length (taskIn file .starts)) (length (taskIn file .modes)) (wholeIs x) (stepRestricted (taskIn file) (declaredPart (length (taskIn file .starts)) (length (taskIn file .modes)) (wholeIs x)) k)
+    -- the step of task t in a state with n variables and m modes of its own
+    abbrev ofTask : ℕ → ℕ → Option State
+    ofTask n m = stepRestricted t (declaredPart n m (wholeIs x)) k
+
+    abbrev next : Option State
+    next = ofTask (length (t .starts)) (length (t .modes))
+
+    abbrev answered : Answer State
+    answered = ifApplies next 0 (λ y. given (withRest (length (t .starts)) (length (t .modes)) (wholeIs x) y))
+
+    by-number : steppedIs s ≡ handedBack (length (t .starts)) (length (t .modes)) (wholeIs x) next
     by-number =
-        e ∙ ap (handedBack (r .variables) (r .modes) (wholeIs x)) (decoded-steps file bytes is k below a decoded (take (r .modes) sizes) (H′ .sizesAre) (declaredPart (r .variables) (r .modes) (wholeIs x)))
-        ∙ ap₂ (λ (i j : ℕ). handedBack i j (wholeIs x) (stepRestricted (taskIn file) (declaredPart i j (wholeIs x)) k)) (H′ .variableCount) (H′ .modeCount)
+        let parted = rw (given-of restrictedLimits file k of .are) at decoded in
+        e
+        ∙ ap (handedBack (r .variables) (r .modes) (wholeIs x))
+        (decoded-steps file bytes is k below a parted (take (r .modes) sizes) (H′ .sizesAre) (declaredPart (r .variables) (r .modes) (wholeIs x)))
+        ∙ ap₂ (λ (i j : ℕ). handedBack i j (wholeIs x) (ofTask i j)) (H′ .variableCount) (H′ .modeCount)
 
-    alone : ifApplies (stepRestricted (taskIn file) (declaredPart (length (taskIn file .starts)) (length (taskIn file .modes)) (wholeIs x)) k) 0 (λ y. given (withRest (length (taskIn file .starts)) (length (taskIn file .modes)) (wholeIs x) y))
-        ≡ stepRestrictedAlone file (wholeIs x) k
+    alone : answered ≡ stepRestrictedAlone file (wholeIs x) k
     alone =
-        ap (λ (b : Bool). cond b (ifApplies (stepRestricted (taskIn file) (declaredPart (length (taskIn file .starts)) (length (taskIn file .modes)) (wholeIs x)) k) 0 (λ y. given (withRest (length (taskIn file .starts)) (length (taskIn file .modes)) (wholeIs x) y))) (refused 11 0))
-        (sym (lt-ltb k (length (taskIn file .actions)) below))
-        ∙ ap (λ (t : Answer RestrictedTask). then t (λ r. stepAlone (length (r .starts)) (length (r .modes)) (length (r .actions)) (stepRestricted r) (wholeIs x) k)) (sym is)
+        ap (λ (there : Bool). cond there answered (refused 11 0)) (sym (lt-ltb k (length (t .actions)) below))
+        ∙ ap (λ (o : Answer RestrictedTask). then o (λ u. taskStep u (wholeIs x) k)) (sym is)
 
-    pub alone-refused : s .applied ≡ false → refused 12 0 ≡ stepRestrictedAlone file (wholeIs x) k
-    alone-refused f = step-refused (length (taskIn file .starts)) (length (taskIn file .modes)) (wholeIs x) (s .applied) (wholeIs (s .state)) (stepRestricted (taskIn file) (declaredPart (length (taskIn file .starts)) (length (taskIn file .modes)) (wholeIs x)) k) by-number f ∙ alone
+    pub alone-not : s .applied ≡ false → refused 12 0 ≡ stepRestrictedAlone file (wholeIs x) k
+    alone-not f = step-not (length (t .starts)) (length (t .modes)) (wholeIs x) (s .applied) (wholeIs (s .state)) next by-number f ∙ alone
 
     pub alone-given : s .applied ≡ true → given (wholeIs (s .state)) ≡ stepRestrictedAlone file (wholeIs x) k
-    alone-given t = step-given (length (taskIn file .starts)) (length (taskIn file .modes)) (wholeIs x) (s .applied) (wholeIs (s .state)) (stepRestricted (taskIn file) (declaredPart (length (taskIn file .starts)) (length (taskIn file .modes)) (wholeIs x)) k) by-number t ∙ alone
+    alone-given f = step-given (length (t .starts)) (length (t .modes)) (wholeIs x) (s .applied) (wholeIs (s .state)) next by-number f ∙ alone
 
-module _ (file : List ℕ) (x : State) (k : ℕ) where
-  pub alone-rejected : {number place : ℕ} → rejected number place ≡ verdictOf restrictedLimits file → refused number place ≡ stepRestrictedAlone file x k
-  alone-rejected e = ap (λ (t : Answer RestrictedTask). then t (λ r. stepAlone (length (r .starts)) (length (r .modes)) (length (r .actions)) (stepRestricted r) x k)) (file-rejected file e)
-
-  pub alone-no-action : readRestricted file ≡ given (taskIn file) → length (taskIn file .actions) ≤ k → refused 11 0 ≡ stepRestrictedAlone file x k
-  alone-no-action is h =
-      ap (λ (b : Bool). cond b (ifApplies (stepRestricted (taskIn file) (declaredPart (length (taskIn file .starts)) (length (taskIn file .modes)) x) k) 0 (λ y. given (withRest (length (taskIn file .starts)) (length (taskIn file .modes)) x y))) (refused 11 0))
-      (sym (le-ltb k (length (taskIn file .actions)) h))
-      ∙ ap (λ (t : Answer RestrictedTask). then t (λ r. stepAlone (length (r .starts)) (length (r .modes)) (length (r .actions)) (stepRestricted r) x k)) (sym is)
+-- ---- there is no such action, or no such task
+module _ (file : List ℕ) (bytes : Bytes file) (x : State) (k : ℕ) where
+  pub alone-refused : {number place : ℕ} → actionPlace restrictedLimits file k ≡ refused number place
+      → stepRestrictedAlone file x k ≡ refused number (stepPlace number place)
+  alone-refused = step-refused restrictedLimits file k (taskIn file) (λ t. taskStep t x k) none
+    where
+      none : (v m a : ℕ) → accepted v m a ≡ verdictOf restrictedLimits file → a ≤ k → taskStep (taskIn file) x k ≡ refused 11 0
+      none v m a q l = rw (le-ltb k (length (taskIn file .actions)) (omega (arith, actions-counted file bytes q, l)))

@@ -11,18 +11,16 @@ ghost use mathlib.Core.Path.{_≡_};
 ghost use mathlib.Core.Bool.{true};
 ghost use Prim.Native.Nat.{min, _<_, _≤_};
 ghost use lib.ListN.{length, take};
-ghost use Rattle.integers.specs.Numbers.{Bytes};
 ghost use Rattle.integers.specs.Parts.{Within};
 ghost use Rattle.integers.specs.Relation.{withinLimit};
 ghost use Rattle.lists.specs.Loops.{every};
 ghost use Rattle.model.specs.Limits.{restrictedLimits};
-ghost use Rattle.lists.specs.Answer.{given, refused};
-ghost use Rattle.model.specs.Decoding.{readRestricted};
+ghost use Rattle.lists.specs.Answer.{refused};
 ghost use Rattle.model.specs.Judging.{declaredPart, stepRestrictedAlone};
 ghost use Rattle.model.specs.Steps.{integerAt, naturalAt, conditionsHold, modesHold, goalHolds, addAll, setAll, valuesWithin, modesBelowSizes, figure};
 ghost use Rattle.restricted.specs.Parts.{conditionsIn, modeConditionsIn, additionsIn, modeEffectsIn, additionKeysIn, amountsIn, effectKeysIn, withinAt, belowAt};
 ghost use Rattle.restricted.specs.Changes.{putSum, putMode, stateOf, Changed, CanAdd, CanStep, CanApply, Applied, Took};
-ghost use Rattle.restricted.specs.Alone.{stepAnswerIs, stepAnswerOf, taskIn};
+ghost use Rattle.restricted.specs.Alone.{stepAnswerIs, stepAnswerOf, StepTaken};
 ghost use Rattle.restricted.specs.Step.{wholeIs, actionIs, stepOf, steppedIs, stepped};
 
 // The most variables and modes that a restricted task declares.
@@ -475,19 +473,18 @@ impl State {
 }
 
 // The answer to a step that is refused: the state as it was.
-fn refuse_step(number: u8, state: State) -> StepAnswer
-    ensures { λ r. ⌜ stepAnswerIs r ≡ stepAnswerOf (wholeIs state) (refused number 0) ⌝ }
+fn refuse_step(number: u8, place: u64, state: State) -> StepAnswer
+    ensures { λ r. ⌜ stepAnswerIs r ≡ stepAnswerOf (wholeIs state) (refused number place) ⌝ }
 {
     StepAnswer {
-        verdict: StepVerdict::Refused(number, 0),
+        verdict: StepVerdict::Refused(number, place),
         state,
     }
 }
 
-// Action k of an accepted file, taken from a state.
-fn step_accepted(file: &[u8], state: State, k: usize) -> StepAnswer
-    requires { ⌜ Bytes (now file) × (readRestricted (now file) ≡ given (taskIn (now file))) × (k < length (taskIn (now file) .actions)) ⌝ }
-    ensures { λ r. ⌜ stepAnswerIs r ≡ stepAnswerOf (wholeIs state) (stepRestrictedAlone (now (file .entry)) (wholeIs state) k) ⌝ }
+// The action that has these bytes, of an accepted file, taken from a state.
+fn step_accepted(file: &[u8], bytes: &[u8], state: State) -> StepAnswer
+    ensures { λ r. ⌜ StepTaken (now (file .entry)) (now (bytes .entry)) (wholeIs state) r ⌝ }
 {
     let mut start = [0i64; VARIABLES];
     let mut sizes = [0u16; MODES];
@@ -498,12 +495,10 @@ fn step_accepted(file: &[u8], state: State, k: usize) -> StepAnswer
         modes: declared.modes,
         sizes,
     };
-    let from = actions::find_edge(file, k);
-    let to = actions::find_edge(file, k + 1);
-    let action = actions::decode_restricted(actions::part(file, from, to));
+    let action = actions::decode_restricted(bytes);
     let stepped = state.step(shape, action);
     if !stepped.applied {
-        return refuse_step(12, state);
+        return refuse_step(12, 0, state);
     }
     let next = stepped.state;
     StepAnswer {
@@ -517,17 +512,11 @@ fn step_accepted(file: &[u8], state: State, k: usize) -> StepAnswer
 pub fn step_alone(file: &[u8], state: State, k: usize) -> StepAnswer
     ensures { λ r. ⌜ stepAnswerIs r ≡ stepAnswerOf (wholeIs state) (stepRestrictedAlone (now (file .entry)) (wholeIs state) k) ⌝ }
 {
-    let checked = tasks::check_restricted(file);
-    match checked {
-        tasks::Verdict::Rejected(number, place) => StepAnswer {
-            verdict: StepVerdict::Refused(number, place),
-            state,
-        },
-        tasks::Verdict::Accepted(_, _, count) => {
-            if k < count as usize {
-                return step_accepted(file, state, k);
-            }
-            refuse_step(11, state)
-        }
+    let mut number: u8 = 0;
+    let mut place: u64 = 0;
+    let bytes = actions::restricted_action_bytes(file, k, &mut number, &mut place);
+    if number == 0 {
+        return step_accepted(file, bytes, state);
     }
+    refuse_step(number, actions::step_place(number, place), state)
 }

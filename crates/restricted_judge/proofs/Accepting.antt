@@ -7,7 +7,7 @@ use native.Mathlib.Omega.{arith}
 use mathlib.Core.Bool.{Bool, true, false, _&&_, cond}
 use mathlib.Core.List.{List, [], _∷_, _++_}
 use lib.Dec.{ltb}
-use lib.ListN.{length, getD, take, drop, replicate, length-replicate, take-append-drop}
+use lib.ListN.{length, getD, take, drop, replicate, length-replicate, take-append-drop, length-map}
 use lib.Seq.{take-take, length-take-le}
 use lib.IntN.{ℤ, pos, natAbs}
 use borrow.Author.Tests.{le-leb, lt-ltb}
@@ -21,14 +21,13 @@ use Rattle.lists.proofs.Writing.{length-splice}
 use Rattle.model.specs.Tasks.{NumericCondition, RestrictedTask, State}
 use Rattle.model.specs.Limits.{restrictedLimits}
 use Rattle.model.specs.Reading.{Accepted as accepted, Rejected as rejected, verdictOf}
-use Rattle.model.specs.Decoding.{readRestricted}
+use Rattle.model.specs.Decoding.{conditionsOf, modeConditionsOf, readRestricted}
 use Rattle.model.specs.TaskOk.{InRange, ModeOk, RestrictedTaskOk}
 use Rattle.model.specs.ActionBytes.{decodeAction}
 use Rattle.model.specs.Plans.{planNumbers, readPlan}
 use Rattle.model.specs.Steps.{valuesWithin, modesBelowSizes, figure, sizesOf, startModes, goalHolds, restrictedStart, restrictedGoalHolds, stepRestricted}
 use Rattle.model.specs.Judging.{judge, declaredPart, judgeRestrictedTask, judgeRestricted}
 use Rattle.model.proofs.AcceptedOk.{accepted-restricted-ok}
-use Rattle.model.proofs.ReadingLaws.{length-each}
 use Rattle.planbytes.specs.Counted.{countOf}
 use Rattle.planbytes.proofs.Steps.{steps-of, few-steps, no-steps, halves-long}
 use Rattle.declarations.specs.declared.Declared.{Declared}
@@ -42,7 +41,7 @@ use Rattle.actions.proofs.Accepted.{restricted-edges, places-at, restricted-goa
 use Rattle.restricted_judge.specs.declared.Walk.the-variants.{Through, Ended}
 use Rattle.restricted.specs.Changes.{stateOf, Beyond}
 use Rattle.restricted.specs.Alone.{taskIn}
-use Rattle.kept.specs.Placed.{Placed}
+use Rattle.kept.specs.PlacesKept.{PlacesKept}
 use Rattle.restricted_judge.specs.Judging.{judgementOf, AcceptedPlan, judgingFrom, declaredOf, Standing, Walked}
 use Rattle.restricted.proofs.Effects.{beyond-then}
 use Rattle.restricted.proofs.Accepting.{file-rejected, file-accepted, actions-counted, held}
@@ -108,7 +107,7 @@ module _ (file : List ℕ) (is : readRestricted file ≡ given (taskIn file)) {r
       (ap (valuesWithin figure) (beyond-starts .rest) ∙ zeros-within (length (taskIn file .starts)) 64))
 
   start-below : modesBelowSizes (sizesOf (taskIn file .modes)) modes ≡ true
-  start-below = below-longer (length (taskIn file .modes)) (sizesOf (taskIn file .modes)) modes (omega (arith, length-each (λ (m : ℕ × ℕ). m .0) (taskIn file .modes)))
+  start-below = below-longer (length (taskIn file .modes)) (sizesOf (taskIn file .modes)) modes (omega (arith, length-map (taskIn file .modes) (λ (m : ℕ × ℕ). m .0)))
       (ap (λ (x : State). modesBelowSizes (sizesOf (taskIn file .modes)) (x .modes)) start-is ∙ starts-below (taskIn file .modes) (ok .modesIn))
 
   pub start-standing : Standing (taskIn file) (stateOf start modes)
@@ -124,7 +123,7 @@ module _ {file plan : List ℕ} {count steps : ℕ} (input : AcceptedPlan file p
   pub few : count ≤ 16384
   few = omega (arith, accepted-restricted-ok file (taskIn file) (input .accepted) .actionsFew, input .countIs)
 
-  pub placed : (room : ℕ) → count < room → (places : List ℕ) → places ≡ splice (replicate room 0) 0 (edgesOf file) → Placed file places count
+  pub placed : (room : ℕ) → count < room → (places : List ℕ) → places ≡ splice (replicate room 0) 0 (edgesOf file) → PlacesKept file places count
   placed room h places e = record {
     bytes = input .bytes;
     accepted = input .accepted;
@@ -159,11 +158,11 @@ module _ {file plan : List ℕ} {count steps : ℕ} (input : AcceptedPlan file p
     decodes = subst (λ (s : List ℕ). GoalDecoded s goal) (part ∙ ap (goalPart file) (input .countIs)) decoded
 
     same-modes : take modeConditionRoom (goalModesIs goal) ≡ taskIn file .goalModes
-    same-modes = ap (take modeConditionRoom) (decodes .modeConditions) ∙ take-take modeConditionRoom modeConditionRoom (decodeAction (goalPart file (length (taskIn file .actions))) .modeConditions) (omega arith) ∙ sym (decodes .modeConditions)
+    same-modes = ap (take modeConditionRoom) (decodes .modeConditions) ∙ take-take modeConditionRoom modeConditionRoom (modeConditionsOf (decodeAction (goalPart file (length (taskIn file .actions))))) (omega arith) ∙ sym (decodes .modeConditions)
         ∙ restricted-goal-modes file (input .bytes) (taskIn file) (input .accepted) goal decodes
 
     same-conditions : take conditionRoom (goalConditionsIs goal) ≡ taskIn file .goalConditions
-    same-conditions = ap (take conditionRoom) (decodes .conditions) ∙ take-take conditionRoom conditionRoom (decodeAction (goalPart file (length (taskIn file .actions))) .conditions) (omega arith) ∙ sym (decodes .conditions)
+    same-conditions = ap (take conditionRoom) (decodes .conditions) ∙ take-take conditionRoom conditionRoom (conditionsOf (decodeAction (goalPart file (length (taskIn file .actions))))) (omega arith) ∙ sym (decodes .conditions)
         ∙ restricted-goal-conditions file (input .bytes) (taskIn file) (input .accepted) goal decodes
 
     met : goalHolds (take modeConditionRoom (goalModesIs goal)) (take conditionRoom (goalConditionsIs goal)) (declaredPart (r .variables) (r .modes) (stateOf values′ modes′)) ≡ restrictedGoalHolds (taskIn file) end

@@ -9,7 +9,7 @@ use native.Mathlib.Omega.{arith}
 use mathlib.Core.Bool.{cond}
 use mathlib.Core.Option.{none, some}
 use mathlib.Core.List.{List, _∷_}
-use lib.ListN.{length, getD, drop, getElem?}
+use lib.ListN.{length, getD, drop, getElem?, length-map}
 use lib.Seq.{drop-cons}
 use lib.IntN.{ℤ}
 use borrow.Author.Tests.{lt-ltb, le-ltb}
@@ -22,7 +22,6 @@ use Rattle.model.specs.Steps.{sizesOf, stepRestricted, restrictedGoalHolds}
 use Rattle.model.specs.Judging.{judge}
 use Rattle.model.proofs.AcceptedOk.{accepted-restricted-ok}
 use Rattle.model.proofs.Pairing.{bind-gives, some-injective}
-use Rattle.model.proofs.ReadingLaws.{length-each}
 use Rattle.model.proofs.StageWalk.{all-get}
 use Rattle.restricted.specs.Alone.{taskIn}
 use Rattle.restricted.proofs.Effects.{beyond-same, beyond-then}
@@ -32,7 +31,7 @@ use Rattle.restricted_rows.specs.Steps.{stepBy}
 use Rattle.restricted_rows.proofs.Usable.{usable}
 use Rattle.repeats.specs.Repeats.{stepsBy}
 use Rattle.repeats.specs.Runs.{Alike, CanRun, Led, Passed, Stuck}
-use Rattle.kept.specs.Placed.{Placed}
+use Rattle.kept.specs.PlacesKept.{PlacesKept}
 use Rattle.restricted_judge.specs.declared.Walk.the-variants.{Through, Ended}
 use Rattle.restricted_judge.specs.Judging.{AcceptedPlan, judgingFrom, declaredOf, Standing, Spared, Walked}
 use Rattle.restricted_judge.proofs.Whole.{stays, goes}
@@ -65,7 +64,7 @@ module _ (file plan places : List ℕ) (count steps : ℕ) (x₀ : State) where
   -- at step i
   pub record Walking (i : ℕ) (x : State) : Type 0 where
     pub input : AcceptedPlan file plan count steps
-    pub placed : Placed file places count
+    pub placed : PlacesKept file places count
     pub bound : i ≤ steps
     pub standing : Standing (taskIn file) x
     pub judged : judgingFrom (taskIn file) (planNumbers plan) i (declaredOf (taskIn file) x) ≡ judgingFrom (taskIn file) (planNumbers plan) 0 (declaredOf (taskIn file) x₀)
@@ -75,7 +74,7 @@ spared-then : {t : RestrictedTask} {x y z : State} → Spared t x y → Spared t
 spared-then a b = record { values = beyond-then (a .values) (b .values); modes = beyond-then (a .modes) (b .modes) }
 
 module _ {file plan places : List ℕ} {count steps : ℕ} {x₀ : State} where
-  pub walk-start : AcceptedPlan file plan count steps → Placed file places count → Standing (taskIn file) x₀ → Walking file plan places count steps x₀ 0 x₀
+  pub walk-start : AcceptedPlan file plan count steps → PlacesKept file places count → Standing (taskIn file) x₀ → Walking file plan places count steps x₀ 0 x₀
   walk-start a p s = record { input = a; placed = p; bound = omega arith; standing = s; judged = refl; spared = record { values = beyond-same; modes = beyond-same } }
 
   -- one step, and so many, by action k
@@ -156,7 +155,7 @@ module _ {file plan places : List ℕ} {count steps : ℕ} {x₀ : State} where
             ok = accepted-restricted-ok file (taskIn file) (W .input .accepted)
 
             sizesFew : length (sizesOf (taskIn file .modes)) ≤ 8
-            sizesFew = omega (arith, ok .modesFew, length-each (λ (p : ℕ × ℕ). p .0) (taskIn file .modes))
+            sizesFew = omega (arith, ok .modesFew, length-map (taskIn file .modes) (λ (p : ℕ × ℕ). p .0))
 
             action : RestrictedActionOk restrictedLimits (length (taskIn file .starts)) (sizesOf (taskIn file .modes)) (rowIs marks numbers)
             action =

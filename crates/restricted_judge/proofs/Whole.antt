@@ -8,7 +8,7 @@ use mathlib.Core.Bool.{Bool, true, false, _&&_, cond}
 use mathlib.Core.Option.{none, some, Option·none-ne-some}
 use mathlib.Core.List.{List, [], _∷_}
 use lib.Dec.{eqb, ltb}
-use lib.ListN.{length, getElem?, set, take, drop}
+use lib.ListN.{length, getElem?, set, take, drop, length-map}
 use lib.Seq.{getD-take, take-set-lt, drop-set-lt}
 use lib.IntN.{ℤ, pos, _+ℤ_}
 use borrow.Author.Tests.{lt-ltb}
@@ -22,7 +22,6 @@ use Rattle.model.specs.TaskOk.{ValuesIn, AmountOk, ConditionOk, RestrictedActio
 use Rattle.model.specs.Systems.{bind, provided}
 use Rattle.model.specs.Steps.{integerAt, naturalAt, measure, conditionsHold, modesHold, addAll, setAll, valuesWithin, modesBelowSizes, soundRestricted, appliesRestricted, applyRestricted, sizesOf, stepRestricted, figure}
 use Rattle.model.proofs.Pairing.{some-injective}
-use Rattle.model.proofs.ReadingLaws.{length-each}
 use Rattle.model.proofs.StageValues.{and-true}
 use Rattle.model.proofs.StageWalk.{all-get}
 use Rattle.restricted.specs.Changes.{putSum, putMode, Changed}
@@ -119,7 +118,7 @@ module _ (t : RestrictedTask) (ok : RestrictedTaskOk t) (k : ℕ) (a : Restricte
   m = length (t .modes)
 
   sizes-long : length sizes ≡ m
-  sizes-long = length-each (λ (p : ℕ × ℕ). p .0) (t .modes)
+  sizes-long = length-map (t .modes) (λ (p : ℕ × ℕ). p .0)
 
   A : RestrictedActionOk restrictedLimits n sizes a
   A = all-get (RestrictedActionOk restrictedLimits n sizes) (t .actions) k a (ok .actionsOk) is

@@ -19,7 +19,7 @@ ghost use Rattle.model.specs.Steps.{goalHolds};
 ghost use Rattle.actions.specs.Views.{conditionRoom, modeConditionRoom, goalConditionsIs, goalModesIs};
 ghost use Rattle.restricted.specs.Changes.{stateOf};
 ghost use Rattle.restricted.specs.Alone.{taskIn};
-ghost use Rattle.kept.specs.Placed.{Placed};
+ghost use Rattle.kept.specs.PlacesKept.{PlacesKept};
 ghost use Rattle.kept.specs.Slots.{Held};
 ghost use Rattle.restricted_judge.specs.Judging.{judgementIs, judgementOf, AcceptedPlan, Standing, Walked};
 
@@ -86,7 +86,7 @@ fn judge_runs(
     marks: &mut [[u16; MARKS]],
     numbers: &mut [[i64; NUMBERS]],
 ) -> Walk
-    requires { ⌜ AcceptedPlan (now file) (now plan) count steps × Placed (now file) (now places) count × Standing (taskIn (now file)) (stateOf (now values) (now modes)) ⌝ }
+    requires { ⌜ AcceptedPlan (now file) (now plan) count steps × PlacesKept (now file) (now places) count × Standing (taskIn (now file)) (stateOf (now values) (now modes)) ⌝ }
     requires { ⌜ (8 ≤ length (now tags)) × Held (now file) count (now tags) (now marks) (now numbers) ⌝ }
     ensures { λ r. ⌜ Walked (now (file .entry)) (now (plan .entry)) steps (stateOf (now (values .entry)) (now (modes .entry))) r (stateOf (now (values .exit)) (now (modes .exit))) ⌝ }
 {

@@ -4,19 +4,18 @@ use mathlib.Core.Path.{_≡_, refl, ap, ap₂, _∙_}
 use Prim.Native.Nat.{ℕ}
 use mathlib.Core.Bool.{Bool, true, false, cond}
 use mathlib.Core.Option.{none, some}
-use mathlib.Core.List.{List, [], _∷_}
+use mathlib.Core.List.{List, [], _∷_, map}
 use lib.IntN.{ℤ, pos, _*ℤ_}
 use Rattle.integers.proofs.Parts.{ints, mul}
 use Rattle.model.specs.Tasks.{RestrictedAction, State}
-use Rattle.model.specs.Decoding.{each}
 use Rattle.model.specs.Systems.{bind, provided}
 use Rattle.model.specs.Steps.{addAll, setAll, valuesWithin, appliesRestricted, figure}
 use Rattle.restricted.specs.Changes.{stateOf}
 use Rattle.restricted_rows.specs.Steps.{stepBy, scaled, summed}
 
-pub each-once : (es : List (ℕ × ℤ)) → each (scaled 1) es ≡ es
-each-once [] = refl
-each-once (e ∷ es) = ap₂ _∷_ (ap (λ (z : ℤ). (e .0, z)) once) (each-once es)
+pub map-scaled-once : (es : List (ℕ × ℤ)) → map (scaled 1) es ≡ es
+map-scaled-once [] = refl
+map-scaled-once (e ∷ es) = ap₂ _∷_ (ap (λ (z : ℤ). (e .0, z)) once) (map-scaled-once es)
   where
     once : pos 1 *ℤ e .1 ≡ e .1
     once = omega (ints, mul (pos 1) (e .1))
@@ -39,4 +38,4 @@ pub held : (a : RestrictedAction) (values : List ℤ) (modes : List ℕ) (r : Bo
 unfolding stepBy summed
 held a values modes r sums e s =
     rw e (beside r (valuesWithin figure (addAll (a .additions) values)) sums (addAll (a .additions) values) (setAll (a .modeEffects) modes)
-    (s ∙ ap (λ es. provided (valuesWithin figure (addAll es values)) (addAll es values)) (each-once (a .additions))))
+    (s ∙ ap (λ es. provided (valuesWithin figure (addAll es values)) (addAll es values)) (map-scaled-once (a .additions))))

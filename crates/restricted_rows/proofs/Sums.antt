@@ -8,7 +8,7 @@ use native.Mathlib.Numerals.{add-one}
 use native.Mathlib.Omega.{arith}
 use mathlib.Core.Bool.{Bool, true, false, _&&_, false≢true}
 use mathlib.Core.Option.{none, some}
-use mathlib.Core.List.{List, [], _∷_}
+use mathlib.Core.List.{List, [], _∷_, map}
 use lib.ListN.{drop, set}
 use lib.Seq.{drop-cons, getD-set-other}
 use lib.IntN.{ℤ, pos, natAbs, _+ℤ_, _*ℤ_}
@@ -23,7 +23,6 @@ use Rattle.integers.proofs.Products.{mul-abs}
 use Rattle.lists.specs.Each.{tabulate}
 use Rattle.lists.proofs.Each.{length-tabulate, getD-tabulate}
 use Rattle.lists.proofs.Loops.{and-left, and-right}
-use Rattle.model.specs.Decoding.{each}
 use Rattle.model.specs.Systems.{provided}
 use Rattle.model.specs.Steps.{addAll, valuesWithin, integerAt, naturalAt, figure}
 use Rattle.restricted.proofs.Tests.{within-at}
@@ -80,7 +79,7 @@ left-none zero (suc i) f h = refl
 left-none (suc n) zero f h = absurd (omega arith)
 left-none (suc n) (suc i) f h = left-none n i (λ k. f (suc k)) (omega arith)
 
-all-left : {A B : Type 0} (P : B → Type 0) (g : A → B) (n i : ℕ) (f : ℕ → A) → ((j : ℕ) → i ≤ j → j < n → P (g (f j))) → All P (each g (drop i (tabulate n f)))
+all-left : {A B : Type 0} (P : B → Type 0) (g : A → B) (n i : ℕ) (f : ℕ → A) → ((j : ℕ) → i ≤ j → j < n → P (g (f j))) → All P (map g (drop i (tabulate n f)))
 unfolding tabulate
 all-left P g zero zero f h = tt
 all-left P g zero (suc i) f h = tt
@@ -90,7 +89,7 @@ all-left P g (suc n) (suc i) f h = all-left P g n i (λ k. f (suc k)) (λ j l m.
 -- ---- the additions of rows, one after another: those not yet made, from the values so far, give what all of them give from the values before
 module _ (marks : List ℕ) (numbers : List ℤ) (times : ℕ) where
   abbrev left : ℕ → List (ℕ × ℤ)
-  left i = each (scaled times) (drop i (tabulate (naturalAt marks 99) (additionIn marks numbers)))
+  left i = map (scaled times) (drop i (tabulate (naturalAt marks 99) (additionIn marks numbers)))
 
   -- the sum that addition i makes, and the values with it
   abbrev pub sumAt : List ℤ → ℕ → ℤ
@@ -109,10 +108,10 @@ module _ {marks : List ℕ} {numbers : List ℤ} {times : ℕ} where
 
   module _ {start : List ℤ} {i : ℕ} {values : List ℤ} (s : Summing marks numbers times start i values) where
     same-next : i < naturalAt marks 99 → addAll (left marks numbers times (i + 1)) (withSum marks numbers times values i) ≡ sumsOf times (rowIs marks numbers) start
-    same-next l = sym (ap (λ (es : List (ℕ × ℤ)). addAll (each (scaled times) es) values) (left-more (naturalAt marks 99) i (additionIn marks numbers) l)) ∙ s .same
+    same-next l = sym (ap (λ (es : List (ℕ × ℤ)). addAll (map (scaled times) es) values) (left-more (naturalAt marks 99) i (additionIn marks numbers) l)) ∙ s .same
 
     same-end : naturalAt marks 99 ≤ i → values ≡ sumsOf times (rowIs marks numbers) start
-    same-end h = sym (ap (λ (es : List (ℕ × ℤ)). addAll (each (scaled times) es) values) (left-none (naturalAt marks 99) i (additionIn marks numbers) h)) ∙ s .same
+    same-end h = sym (ap (λ (es : List (ℕ × ℤ)). addAll (map (scaled times) es) values) (left-none (naturalAt marks 99) i (additionIn marks numbers) h)) ∙ s .same
 
     pub sum-next : i < naturalAt marks 99 → withinLimit figure (sumAt marks numbers times values i) ≡ true → Summing marks numbers times start (i + 1) (withSum marks numbers times values i)
     sum-next l e = record { same = same-next l; within = set-within figure values (naturalAt marks (100 + i)) (sumAt marks numbers times values i) (s .within) e }

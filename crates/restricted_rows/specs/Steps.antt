@@ -4,10 +4,9 @@ use mathlib.Core.Path.{_≡_}
 use Prim.Native.Nat.{ℕ}
 use mathlib.Core.Bool.{true, _&&_}
 use mathlib.Core.Option.{Option}
-use mathlib.Core.List.{List}
+use mathlib.Core.List.{List, map}
 use lib.IntN.{ℤ, pos, _*ℤ_}
 use Rattle.model.specs.Tasks.{RestrictedAction, State}
-use Rattle.model.specs.Decoding.{each}
 use Rattle.model.specs.Systems.{provided}
 use Rattle.model.specs.Steps.{addAll, setAll, valuesWithin, appliesRestricted, applyRestricted, figure}
 use Rattle.restricted_rows.specs.Row.{Usable}
@@ -22,7 +21,7 @@ abbrev pub scaled : ℕ → ℕ × ℤ → ℕ × ℤ
 scaled k e = (e .0, pos k *ℤ e .1)
 
 abbrev pub sumsOf : ℕ → RestrictedAction → List ℤ → List ℤ
-sumsOf k a values = addAll (each (scaled k) (a .additions)) values
+sumsOf k a values = addAll (map (scaled k) (a .additions)) values
 
 -- the sums, where none passes the figure
 unfoldable pub summed : ℕ → RestrictedAction → List ℤ → Option (List ℤ)

@@ -2,4 +2,5 @@ pub mod Modes
 pub mod Numbers
 pub mod Standing
 pub mod Start
+pub mod Tables
 pub mod Taking

@@ -42,7 +42,7 @@ padded (suc room) zero f v z h w =
 padded (suc room) (suc k) f v z h w = padded room k (λ i. f (suc i)) v (z +ℤ v (f 0 .0) *ℤ f 0 .1) (omega arith) (λ i l m. w (suc i) (omega arith) (omega arith))
 
 -- the sum of four terms
-module _ (marks : List ℕ) (numbers : List ℤ) (u : Usable marks numbers) (v : ℕ → ℤ) where
+module _ {n : ℕ} (marks : List ℕ) (numbers : List ℤ) (u : Usable n marks numbers) (v : ℕ → ℤ) where
   abbrev product : ℕ → ℤ
   product i = v (naturalAt marks (20 + i)) *ℤ integerAt numbers (17 + i)
 

@@ -1,17 +1,17 @@
 -- What a loop over the steps of a plan needs of rows: in a state within the bounds of its task a step can be taken, and it is the model's step; the state after lies within the bounds too.
 -- Assumes nothing.
 use mathlib.Core.Path.{_≡_, refl, sym, ap, ap₂, _∙_}
-use Prim.Native.Nat.{ℕ, _<_}
+use Prim.Native.Nat.{ℕ, _<_, _≤_}
 use native.Mathlib.Omega.{arith}
 use mathlib.Core.Bool.{Bool, true, false, cond, _&&_}
 use mathlib.Core.Option.{Option, none, some}
 use mathlib.Core.List.{List}
-use lib.ListN.{take}
-use lib.IntN.{ℤ}
+use lib.ListN.{length, take}
+use lib.IntN.{ℤ, natAbs}
 use Rattle.lists.proofs.Loops.{and-left, and-right}
 use Rattle.model.specs.Tasks.{Effect, SourceAction, SourceTask, State}
 use Rattle.model.specs.Systems.{bind, provided}
-use Rattle.model.specs.Steps.{integerAt, naturalAt, modesHold, conditionsHold, trySource, valuesWithinBounds, modesBelowSizes, soundSource, stepSource}
+use Rattle.model.specs.Steps.{integerAt, naturalAt, modesHold, conditionsHold, result, withinBounds, trySource, valuesWithinBounds, modesBelowSizes, soundSource, lowerBounds, upperBounds, stepSource, sourceGoalHolds}
 use Rattle.model.specs.Judging.{declaredPart}
 use Rattle.model.proofs.Pairing.{none-not-some, some-injective}
 use Rattle.source.specs.Parts.{effectFits, valuesBetween, modesBelow}
@@ -19,7 +19,8 @@ use Rattle.source.specs.Step.{state, stepOf, handedBack, Shaped, Tried, Kept}
 use Rattle.source.proofs.Sound.{values-sound, modes-sound}
 use Rattle.source.proofs.Steps.{values-near, step-of-task}
 use Rattle.source.proofs.Trying.{tried-keeps}
-use Rattle.rows.specs.Row.{valuesIn, modesIn, effectAt, Usable, Steady, Stepped}
+use Rattle.rows.specs.Row.{valuesIn, modesIn, effectAt, outcomeAt, staysIn, Usable, Reads, Stepped}
+use Rattle.rows.proofs.Taking as taking
 use Rattle.rows.specs.Ready.{marksOf, numbersOf, Ready, Standing}
 
 -- what a step leaves passes the test that it makes last
@@ -53,21 +54,15 @@ module _ {count : ℕ} {marks : List (List ℕ)} {numbers : List (List ℤ)} {n 
         sym (modes-sound m sizes modes (omega (arith, h .sizesLong, h .modesFew)) (omega (arith, h .modesLong, h .modesFew)))
         ∙ and-right (valuesWithinBounds (integerAt (take n lower)) (integerAt (take n upper)) (take n values)) (modesBelowSizes (take m sizes) (take m modes)) (S .sound)
 
-    pub steady : Steady n m values modes
-    steady =
-        let h = S .shaped in
-        let r = S .ready in
-        record {
-          variablesFew = h .variablesFew;
-          modesFew = h .modesFew;
-          valuesLong = h .valuesLong;
-          modesLong = h .modesLong;
-          near = values-near (S .task) (r .ok) (declaredPart n m (state values modes)) (rw (r .lowersAre, r .uppersAre, r .sizesAre) at (S .sound));
-        }
+    near : (i : ℕ) → natAbs (integerAt (take n values) i) ≤ 10000
+    near = let r = S .ready in values-near (S .task) (r .ok) (declaredPart n m (state values modes)) (rw (r .lowersAre, r .uppersAre, r .sizesAre) at (S .sound))
 
     module _ {k : ℕ} (l : k < count) where
-      pub usable : Usable (marksOf marks k) (numbersOf numbers k)
+      pub usable : Usable n (marksOf marks k) (numbersOf numbers k)
       usable = S .ready .rowsAre k l .row .usable
+
+      pub reads : Reads n values (marksOf marks k) (numbersOf numbers k)
+      reads = record { variablesFew = S .shaped .variablesFew; near = near; usable = usable }
 
       pub fits : effectFits (effectAt (marksOf marks k) (numbersOf numbers k)) (integerAt (take n values)) ≡ true
       fits =
@@ -84,6 +79,14 @@ module _ {count : ℕ} {marks : List (List ℕ)} {numbers : List (List ℤ)} {n 
           (R .modes modes ∙ ap (λ (b : Bool). b && modesHold (a .modeConditions) (naturalAt (take m modes))) modes-within)
           (R .values values ∙ ap (λ (b : Bool). b && conditionsHold (a .conditions) (integerAt (take n values))) values-within)
 
+    -- the goal is met
+    pub goal-met : (modesIn m (marksOf marks count) modes && valuesIn n (numbersOf numbers count) values) ≡ sourceGoalHolds (S .task) (declaredPart n m (state values modes))
+    goal-met =
+        let R = S .ready .goalRow in
+        ap₂ (λ (p q : Bool). p && q)
+        (R .modes modes ∙ ap (λ (b : Bool). b && modesHold (S .task .goalModes) (naturalAt (take m modes))) modes-within)
+        (R .values values ∙ ap (λ (b : Bool). b && conditionsHold (S .task .goalConditions) (integerAt (take n values))) values-within)
+
   -- ---- a step
   module _ {k : ℕ} (l : k < count) {values : List ℤ} {modes : List ℕ} (shaped : Shaped n m values modes sizes) {r : Bool} {values′ : List ℤ} {modes′ : List ℕ} (T : Stepped n m (marksOf marks k) (numbersOf numbers k) values modes r values′ modes′) where
     module _ (t : SourceTask) (ready : Ready t count marks numbers n lower upper m sizes) where
@@ -91,12 +94,20 @@ module _ {count : ℕ} {marks : List (List ℕ)} {numbers : List (List ℤ)} {n 
       action = ready .rowsAre k l .action
 
       tried : Tried n m lower upper sizes values modes action r values′ modes′
-      tried = T .tried lower upper sizes action (shaped .sizesLong) (ready .rowsAre k l .row)
+      tried = taking.tried shaped (ready .rowsAre k l .row) T
 
       pub step : stepSource t (declaredPart n m (state values modes)) k ≡ provided r (declaredPart n m (state values′ modes′))
       step =
           sym (step-of-task t (ready .ok) (declaredPart n m (state values modes)) k action (ready .rowsAre k l .found))
           ∙ rw (← ready .lowersAre, ← ready .uppersAre, ← ready .sizesAre) (tried .declares)
+
+      -- an action whose conditions hold and that does not apply has its result out of bounds
+      pub turned-back : (modesIn m (marksOf marks k) modes && valuesIn n (numbersOf numbers k) values) ≡ true → r ≡ false
+          → withinBounds (lowerBounds t) (upperBounds t) (result (action .effect) (integerAt (take n values))) ≡ false
+      turned-back h e =
+          rw (← ready .lowersAre, ← ready .uppersAre) (
+          sym (taking.bounds-are shaped (ready .rowsAre k l .row))
+          ∙ sym (ap (λ (b : Bool). b && staysIn (numbersOf numbers k) (outcomeAt n (marksOf marks k) (numbersOf numbers k) values)) h) ∙ sym (T .is) ∙ e)
 
       pub kept : Kept n m values modes values′ modes′
       kept = tried-keeps shaped tried
@@ -109,7 +120,7 @@ module _ {count : ℕ} {marks : List (List ℕ)} {numbers : List (List ℤ)} {n 
       unchanged e =
           ap (λ (p : Bool × State). p .1) (tried .meets ∙ ap (handedBack n m (state values modes)) (tried .declares ∙ ap (λ (b : Bool). provided b (declaredPart n m (state values′ modes′))) e))
 
-      sound-then : soundSource (integerAt (take n lower)) (integerAt (take n upper)) (take m sizes) (declaredPart n m (state values modes)) ≡ true
+      pub sound-then : soundSource (integerAt (take n lower)) (integerAt (take n upper)) (take m sizes) (declaredPart n m (state values modes)) ≡ true
           → soundSource (integerAt (take n lower)) (integerAt (take n upper)) (take m sizes) (declaredPart n m (state values′ modes′)) ≡ true
       sound-then s = go r refl
         where

@@ -3,7 +3,7 @@
 use mathlib.Core.Path.{_≡_, refl, sym, ap, ap₂, _∙_}
 use Prim.Native.Nat.{ℕ, zero, suc, _≤_}
 use native.Mathlib.Omega.{arith}
-use mathlib.Core.Bool.{Bool, true, false, _&&_, false≢true}
+use mathlib.Core.Bool.{Bool, true, false, cond, _&&_, false≢true}
 use mathlib.Core.Option.{Option, none, some}
 use mathlib.Core.List.{List, [], _∷_, _++_}
 use lib.ListN.{length, length-append, length-drop, length-set, take, drop}
@@ -15,11 +15,12 @@ use Rattle.model.specs.Tasks.{Effect, SourceAction}
 use Rattle.model.specs.Steps.{integerAt, naturalAt, modesHold, conditionsHold, withinBounds, result, putResult, setAll, modesBelowSizes}
 use Rattle.model.specs.Judging.{declaredPart}
 use Rattle.source.specs.Parts.{effectFits, valuesBetween, modesBelow}
-use Rattle.source.specs.Step.{state, stepOf, handedBack, settled, Tried}
+use Rattle.source.specs.Step.{state, stepOf, handedBack, settled, Shaped, Tried}
 use Rattle.source.proofs.Sound.{length-setAt, values-sound, modes-sound, settled-is}
 use Rattle.source.proofs.Steps.{after, asked, one-fails, all-pass, step-asks}
 use Rattle.source.proofs.Trying.{length-setAll}
-use Rattle.rows.specs.Row.{valuesIn, modesIn, modesAfter, kindAt, outcomeAt, staysIn, Steady, RowOf, Stepped}
+use Rattle.source.specs.Sizes.{VARIABLES}
+use Rattle.rows.specs.Row.{valuesIn, modesIn, modesAfter, kindAt, outcomeAt, staysIn, held, valuesAfter, Usable, Reads, RowOf, Stepped, Finished}
 use Rattle.rows.proofs.Numbers.{gives, outcome-none}
 
 -- four tests in the order of the rows and in that of the model
@@ -30,10 +31,33 @@ four-fail true true false c rest y e = refl
 four-fail true false p c rest y e = refl
 four-fail false m p c rest y e = refl
 
-module _ {n m : ℕ} {marks : List ℕ} {numbers : List ℤ} (values : List ℤ) (modes : List ℕ) (S : Steady n m values modes) where
-  module _ {lower upper : List ℤ} {sizes : List ℕ} {a : SourceAction} (long : length sizes ≡ 4) (R : RowOf n m lower upper sizes marks numbers a) where
+-- a state that passes the test of the rows has values of a source file
+pub read-when-held : {n : ℕ} (m : ℕ) {marks : List ℕ} {numbers : List ℤ} (values : List ℤ) (modes : List ℕ) → n ≤ VARIABLES → Usable n marks numbers
+    → held n m marks numbers values modes ≡ true → Reads n values marks numbers
+read-when-held {n} m {marks} {numbers} values modes l u h =
+    record { variablesFew = l; near = u .near values (and-right (modesIn m marks modes) (valuesIn n numbers values) h); usable = u }
+
+-- ---- what the ways through a step come to
+module _ {n m : ℕ} {marks : List ℕ} {numbers : List ℤ} {values : List ℤ} {modes : List ℕ} where
+  pub not-held : held n m marks numbers values modes ≡ false → Stepped n m marks numbers values modes false values modes
+  not-held e = record { is = rw e refl; valuesAre = rw e refl; modesAre = rw e refl }
+
+  pub stays : {values′ : List ℤ} → staysIn numbers (outcomeAt n marks numbers values) ≡ false → values′ ≡ values → Finished n m marks numbers values modes false values′ modes
+  stays f s = record { is = rw f refl; valuesAre = rw f s; modesAre = rw f refl }
+
+  pub goes : {values′ : List ℤ} {modes′ : List ℕ} → staysIn numbers (outcomeAt n marks numbers values) ≡ true
+      → values′ ≡ valuesAfter n marks numbers values → modes′ ≡ modesAfter m marks modes → Finished n m marks numbers values modes true values′ modes′
+  goes f s t = record { is = rw f refl; valuesAre = rw f s; modesAre = rw f t }
+
+  -- the test passed, and the rest was taken: the whole step
+  pub behind-the-test : held n m marks numbers values modes ≡ true → {r : Bool} {values′ : List ℤ} {modes′ : List ℕ}
+      → Finished n m marks numbers values modes r values′ modes′ → Stepped n m marks numbers values modes r values′ modes′
+  behind-the-test e F = record { is = rw e (F .is); valuesAre = rw e (F .valuesAre); modesAre = rw e (F .modesAre) }
+
+module _ {n m : ℕ} {marks : List ℕ} {numbers : List ℤ} {values : List ℤ} {modes : List ℕ} where
+  module _ {lower upper : List ℤ} {sizes : List ℕ} {a : SourceAction} (S : Shaped n m values modes sizes) (R : RowOf n m lower upper sizes marks numbers a) where
     -- the bounds in the row are those of the target
-    bounds-are : staysIn numbers (outcomeAt n marks numbers values) ≡ withinBounds (integerAt (take n lower)) (integerAt (take n upper)) (result (a .effect) (integerAt (take n values)))
+    pub bounds-are : staysIn numbers (outcomeAt n marks numbers values) ≡ withinBounds (integerAt (take n lower)) (integerAt (take n upper)) (result (a .effect) (integerAt (take n values)))
     bounds-are = go (kindAt marks) refl ∙ ap (λ (e : Effect). withinBounds (integerAt (take n lower)) (integerAt (take n upper)) (result e (integerAt (take n values)))) (R .effect)
       where
         go : (k : ℕ) → kindAt marks ≡ k → staysIn numbers (outcomeAt n marks numbers values) ≡ withinBounds (integerAt (take n lower)) (integerAt (take n upper)) (outcomeAt n marks numbers values)
@@ -70,23 +94,22 @@ module _ {n m : ℕ} {marks : List ℕ} {numbers : List ℤ} (values : List ℤ)
     below-after : modesBelowSizes (take m sizes) (setAll (a .modeEffects) (take m modes)) ≡ modesBelow m sizes (modesAfter m marks modes)
     below-after =
         ap (modesBelowSizes (take m sizes)) (sym front-modes)
-        ∙ modes-sound m sizes (modesAfter m marks modes) (omega (arith, long, S .modesFew)) (omega (arith, length-modes-after, S .modesFew))
+        ∙ modes-sound m sizes (modesAfter m marks modes) (omega (arith, S .sizesLong, S .modesFew)) (omega (arith, length-modes-after, S .modesFew))
 
     step-made : stepOf (take n lower) (take n upper) (take m sizes) (declaredPart n m (state values modes)) a ≡ asked made (after (declaredPart n m (state values modes)) a)
     step-made =
         step-asks (take n lower) (take n upper) (take m sizes) (declaredPart n m (state values modes)) a
-        ∙ rw (values-sound n lower upper values (omega (arith, S .valuesLong, S .variablesFew)), modes-sound m sizes modes (omega (arith, long, S .modesFew)) (omega (arith, S .modesLong, S .modesFew)), below-after, bounds-are) refl
+        ∙ rw (values-sound n lower upper values (omega (arith, S .valuesLong, S .variablesFew)), modes-sound m sizes modes (omega (arith, S .sizesLong, S .modesFew)) (omega (arith, S .modesLong, S .modesFew)), below-after, bounds-are) refl
 
     rows-are : (modesIn m marks modes && valuesIn n numbers values) ≡ ((modesBelow m sizes modes && modesHold (a .modeConditions) (naturalAt (take m modes))) && (valuesBetween n lower upper values && conditionsHold (a .conditions) (integerAt (take n values))))
     rows-are = ap₂ (λ (p q : Bool). p && q) (R .modes modes) (R .values values)
 
-    refusal : {values′ : List ℤ} → values′ ≡ values → asked made (after (declaredPart n m (state values modes)) a) ≡ none → Tried n m lower upper sizes values modes a false values′ modes
-    refusal s e =
-        rw s (record { meets = ap (handedBack n m (state values modes)) (sym (step-made ∙ e)); declares = step-made ∙ e; valuesLong = S .valuesLong; modesLong = S .modesLong })
+    refusal : {r : Bool} {values′ : List ℤ} {modes′ : List ℕ} → r ≡ false → values′ ≡ values → modes′ ≡ modes → asked made (after (declaredPart n m (state values modes)) a) ≡ none → Tried n m lower upper sizes values modes a r values′ modes′
+    refusal p s t e =
+        rw (p, s, t) (record { meets = ap (handedBack n m (state values modes)) (sym (step-made ∙ e)); declares = step-made ∙ e; valuesLong = S .valuesLong; modesLong = S .modesLong })
 
-    fails-before : (modesIn m marks modes && valuesIn n numbers values) ≡ false → Tried n m lower upper sizes values modes a false values modes
+    fails-before : (modesIn m marks modes && valuesIn n numbers values) ≡ false → asked made (after (declaredPart n m (state values modes)) a) ≡ none
     fails-before e =
-        refusal refl
         (four-fail (valuesBetween n lower upper values) (modesBelow m sizes modes) (modesHold (a .modeConditions) (naturalAt (take m modes))) (conditionsHold (a .conditions) (integerAt (take n values)))
         (effectFits (a .effect) (integerAt (take n values)) ∷ modesBelow m sizes (modesAfter m marks modes) ∷ staysIn numbers (outcomeAt n marks numbers values) ∷ [])
         (after (declaredPart n m (state values modes)) a) (sym rows-are ∙ e))
@@ -108,20 +131,20 @@ module _ {n m : ℕ} {marks : List ℕ} {numbers : List ℤ} (values : List ℤ)
           let b = before in
           all-pass made _ (b .0, (b .1 .0, (b .1 .1 .0, (b .1 .1 .1 .0, (R .fits values (b .0), (R .setsBelow modes (omega (arith, S .modesLong, S .modesFew)) (b .1 .0), (w, tt)))))))
 
-    takes : {values′ : List ℤ} {modes′ : List ℕ} → (modesIn m marks modes && valuesIn n numbers values) ≡ true → staysIn numbers (outcomeAt n marks numbers values) ≡ true
-        → values′ ≡ settled n (outcomeAt n marks numbers values) values → modes′ ≡ modesAfter m marks modes → Tried n m lower upper sizes values modes a true values′ modes′
-    takes {values′} {modes′} h w s t =
+    passes : {r : Bool} {values′ : List ℤ} {modes′ : List ℕ} → r ≡ true → (modesIn m marks modes && valuesIn n numbers values) ≡ true → staysIn numbers (outcomeAt n marks numbers values) ≡ true
+        → values′ ≡ settled n (outcomeAt n marks numbers values) values → modes′ ≡ modesAfter m marks modes → Tried n m lower upper sizes values modes a r values′ modes′
+    passes {r} {values′} {modes′} p h w s t =
         let o = result (a .effect) (integerAt (take n values)) in
         let u : values′ ≡ settled n o values = s ∙ ap (λ (e : Effect). settled n (result e (integerAt (take n values))) values) (R .effect) in
         let v = u ∙ settled-is n o values in
         let y = t ∙ sets in
         let some-is = step-made ∙ passed h w in
-        record {
+        rw p (record {
           meets = ap₂ (λ (vs : List ℤ) (ms : List ℕ). (true, state vs ms)) v y ∙ ap (handedBack n m (state values modes)) (sym some-is);
           declares = some-is ∙ ap₂ (λ (vs : List ℤ) (ms : List ℕ). some (state vs ms)) (sym (ap (take n) v ∙ take-at _ (drop n values) n (front-values o))) (sym (ap (take m) t ∙ front-modes));
           valuesLong = ap length u ∙ long-settled o;
           modesLong = ap length t ∙ length-modes-after;
-        }
+        })
       where
         long-settled : (o : Option (ℕ × ℤ)) → length (settled n o values) ≡ 8
         long-settled none = S .valuesLong
@@ -134,13 +157,12 @@ module _ {n m : ℕ} {marks : List ℕ} {numbers : List ℤ} (values : List ℤ)
         front-values : (o : Option (ℕ × ℤ)) → length (putResult o (take n values)) ≡ n
         front-values o = long-put o (take n values) ∙ length-take-le n values (omega (arith, S .valuesLong, S .variablesFew))
 
-  -- the rows do not hold; the effect's value is out of bounds; neither
-  pub not-held : (modesIn m marks modes && valuesIn n numbers values) ≡ false → Stepped n m marks numbers values modes false values modes
-  not-held e = record { tried = λ lower upper sizes a long R. fails-before long R e }
-
-  pub out-of-bounds : {values′ : List ℤ} → staysIn numbers (outcomeAt n marks numbers values) ≡ false → values′ ≡ values → Stepped n m marks numbers values modes false values′ modes
-  out-of-bounds e s = record { tried = λ lower upper sizes a long R. refusal long R s (one-fails (made long R) 6 _ e) }
-
-  pub taken : {values′ : List ℤ} {modes′ : List ℕ} → (modesIn m marks modes && valuesIn n numbers values) ≡ true → staysIn numbers (outcomeAt n marks numbers values) ≡ true
-      → values′ ≡ settled n (outcomeAt n marks numbers values) values → modes′ ≡ modesAfter m marks modes → Stepped n m marks numbers values modes true values′ modes′
-  taken h w s t = record { tried = λ lower upper sizes a long R. takes long R h w s t }
+    -- THE LAW, in every state
+    pub tried : {r : Bool} {values′ : List ℤ} {modes′ : List ℕ} → Stepped n m marks numbers values modes r values′ modes′ → Tried n m lower upper sizes values modes a r values′ modes′
+    tried {r} {values′} {modes′} T = go (modesIn m marks modes && valuesIn n numbers values) (staysIn numbers (outcomeAt n marks numbers values)) refl refl (T .is) (T .valuesAre) (T .modesAre)
+      where
+        go : (h w : Bool) → (modesIn m marks modes && valuesIn n numbers values) ≡ h → staysIn numbers (outcomeAt n marks numbers values) ≡ w
+            → r ≡ (h && w) → values′ ≡ cond (h && w) (valuesAfter n marks numbers values) values → modes′ ≡ cond (h && w) (modesAfter m marks modes) modes → Tried n m lower upper sizes values modes a r values′ modes′
+        go true true e f p s t = passes p e f s t
+        go true false e f p s t = refusal p s t (one-fails made 6 _ f)
+        go false w e f p s t = refusal p s t (fails-before e)

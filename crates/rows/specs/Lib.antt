@@ -1,2 +1,4 @@
+pub mod Layout
 pub mod Ready
 pub mod Row
+pub mod Table

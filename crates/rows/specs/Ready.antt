@@ -4,14 +4,14 @@ use mathlib.Core.Path.{_≡_}
 use Prim.Native.Nat.{ℕ, _<_, _≤_}
 use mathlib.Core.Bool.{Bool, true}
 use mathlib.Core.Option.{some}
-use mathlib.Core.List.{List, []}
+use mathlib.Core.List.{List, [], map}
 use lib.ListN.{length, getD, take, getElem?}
 use lib.IntN.{ℤ}
 use Rattle.lists.specs.Answer.{given}
-use Rattle.model.specs.Tasks.{SourceTask, SourceVariable, SourceAction, State}
+use Rattle.model.specs.Tasks.{SourceTask, SourceVariable, SourceAction, State, noEffect}
 use Rattle.model.specs.TaskOk.{SourceTaskOk}
 use Rattle.model.specs.Steps.{integerAt, stepSource, sizesOf, soundSource}
-use Rattle.model.specs.Decoding.{each, readSource}
+use Rattle.model.specs.Decoding.{readSource}
 use Rattle.model.specs.Judging.{judge, declaredPart}
 use Rattle.source.specs.declared.Progress.{Progress}
 use Rattle.source.specs.Step.{state, Shaped, Kept}
@@ -30,16 +30,21 @@ pub record RowAt (acts : List SourceAction) (n m : ℕ) (lower upper : List ℤ)
   pub found : getElem? acts k ≡ some action
   pub row : RowOf n m lower upper sizes (marksOf marks k) (numbersOf numbers k) action
 
+-- the goal as an action without effects
+abbrev pub goalAction : SourceTask → SourceAction
+goalAction t = record { modeConditions = t .goalModes; conditions = t .goalConditions; modeEffects = []; effect = noEffect }
+
 -- the arrays and the rows are those of a task that keeps to the rules on source files
 pub record Ready (t : SourceTask) (count : ℕ) (marks : List (List ℕ)) (numbers : List (List ℤ)) (n : ℕ) (lower upper : List ℤ) (m : ℕ) (sizes : List ℕ) : Type 0 where
   pub ok : SourceTaskOk t
   pub counted : count ≡ length (t .actions)
   pub rowsAre : (k : ℕ) → k < count → RowAt (t .actions) n m lower upper sizes marks numbers k
-  pub lowersAre : take n lower ≡ each (λ (b : SourceVariable). b .lower) (t .variables)
-  pub uppersAre : take n upper ≡ each (λ (b : SourceVariable). b .upper) (t .variables)
+  pub lowersAre : take n lower ≡ map (λ (b : SourceVariable). b .lower) (t .variables)
+  pub uppersAre : take n upper ≡ map (λ (b : SourceVariable). b .upper) (t .variables)
   pub sizesAre : take m sizes ≡ sizesOf (t .modes)
-  pub marksLong : length marks ≡ 32
-  pub numbersLong : length numbers ≡ 32
+  pub goalRow : RowOf n m lower upper sizes (marksOf marks count) (numbersOf numbers count) (goalAction t)
+  pub marksLong : length marks ≡ 33
+  pub numbersLong : length numbers ≡ 33
 
 -- they are those of some task, and its state lies within its bounds
 pub record Standing (count : ℕ) (marks : List (List ℕ)) (numbers : List (List ℤ)) (n : ℕ) (lower upper : List ℤ) (m : ℕ) (sizes : List ℕ) (values : List ℤ) (modes : List ℕ) : Type 0 where
@@ -51,10 +56,3 @@ pub record Standing (count : ℕ) (marks : List (List ℕ)) (numbers : List (Lis
 -- the rows of an accepted file's actions were made
 pub record Prepared (file : List ℕ) (count : ℕ) (n : ℕ) (lower upper : List ℤ) (m : ℕ) (sizes : List ℕ) (marks : List (List ℕ)) (numbers : List (List ℤ)) : Type 0 where
   pub ready : (t : SourceTask) → readSource file ≡ given t → Ready t count marks numbers n lower upper m sizes
-
--- the steps of a plan were taken: r, and the arrays after
-pub record Ran (p : List ℕ) (count : ℕ) (marks : List (List ℕ)) (numbers : List (List ℤ)) (n : ℕ) (lower upper : List ℤ) (m : ℕ) (sizes : List ℕ) (values : List ℤ) (modes : List ℕ) (r : Progress) (values′ : List ℤ) (modes′ : List ℕ) : Type 0 where
-  pub judges : (t : SourceTask) → Ready t count marks numbers n lower upper m sizes → (goal : State → Bool)
-      → judge (length (t .actions)) (stepSource t) goal 0 p (declaredPart n m (state values modes)) ≡ onProgress r (judge (length (t .actions)) (stepSource t) goal (length p) [] (declaredPart n m (state values′ modes′)))
-  pub shaped : Shaped n m values′ modes′ sizes
-  pub kept : Kept n m values modes values′ modes′

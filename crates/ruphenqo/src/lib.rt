@@ -11,9 +11,9 @@ ghost use Rattle.model.specs.Judging.{judgeSource, judgeRestricted, stepRestric
 ghost use Rattle.model.specs.Listing.{listing};
 ghost use Rattle.tasks.specs.Views.{verdictIs};
 ghost use Rattle.actions.specs.Places.{placedIs};
-ghost use Rattle.prices.specs.Answers.{pricedIs};
+ghost use Rattle.source_state.specs.Priced.{pricedIs};
 ghost use Rattle.restricted_judge.specs.Judging.{zeros};
-ghost use Rattle.source_judge.specs.Answers.{zeros as sourceZeros};
+ghost use Rattle.source_walk.specs.Answers.{zeros as sourceZeros};
 ghost use Rattle.ruphenqo.specs.Told.{Told, countsOf, itself, stateOf, endOver};
 
 fn tell_counts(verdict: tasks::Verdict, counts: &mut [u64; 3], place: &mut u64) -> u32
@@ -119,15 +119,15 @@ pub extern "C" fn ruphenqo_judge_source(
 ) -> u32
     ensures { λ r. ⌜ Told (judgeSource (now (task .entry)) (now (plan .entry))) (endOver sourceZeros) (now (steps .entry), stateOf (now (values .entry)) (now (modes .entry))) r (now (place .exit)) (now (steps .exit), stateOf (now (values .exit)) (now (modes .exit))) ⌝ }
 {
-    let judgement = source_judge::judge(task, plan);
+    let judgement = source_walk::judge(task, plan);
     let verdict = judgement.verdict;
     let state = judgement.state;
     match verdict {
-        source_judge::Verdict::Refused(number, at) => {
+        source_walk::Verdict::Refused(number, at) => {
             *place = at;
             number as u32
         }
-        source_judge::Verdict::Valid(count) => {
+        source_walk::Verdict::Valid(count) => {
             *place = 0;
             *steps = count;
             let end_values = state.values;
@@ -216,19 +216,19 @@ pub extern "C" fn ruphenqo_step_source(
 ) -> u32
     ensures { λ r. ⌜ Told (stepSourceAlone (now (task .entry)) (stateOf (now (values .entry)) (now (modes .entry))) k) itself (stateOf (now (values .entry)) (now (modes .entry))) r (now (place .exit)) (stateOf (now (values .exit)) (now (modes .exit))) ⌝ }
 {
-    let before = source::State {
+    let before = source_state::State {
         values: *values,
         modes: *modes,
     };
-    let answer = source::step_alone(task, before, k as usize);
+    let answer = source_state::step_alone(task, before, k as usize);
     let verdict = answer.verdict;
     let state = answer.state;
     match verdict {
-        source::StepVerdict::Refused(number, at) => {
+        source_state::StepVerdict::Refused(number, at) => {
             *place = at;
             number as u32
         }
-        source::StepVerdict::Applied => {
+        source_state::StepVerdict::Applied => {
             *place = 0;
             let after_values = state.values;
             let after_modes = state.modes;
@@ -239,15 +239,15 @@ pub extern "C" fn ruphenqo_step_source(
     }
 }
 
-fn tell_price(priced: prices::Priced, price: &mut u64, place: &mut u64) -> u32
+fn tell_price(priced: source_state::Priced, price: &mut u64, place: &mut u64) -> u32
     ensures { λ r. ⌜ Told (pricedIs priced) itself (now (price .entry)) r (now (place .exit)) (now (price .exit)) ⌝ }
 {
     match priced {
-        prices::Priced::Refused(number, at) => {
+        source_state::Priced::Refused(number, at) => {
             *place = at;
             number as u32
         }
-        prices::Priced::Price(sum) => {
+        source_state::Priced::Price(sum) => {
             *place = 0;
             *price = sum;
             0
@@ -267,11 +267,15 @@ pub extern "C" fn ruphenqo_price_step(
 ) -> u32
     ensures { λ r. ⌜ Told (priceStep (now (task .entry)) (stateOf (now (values .entry)) (now (modes .entry))) k) itself (now (price .entry)) r (now (place .exit)) (now (price .exit)) ⌝ }
 {
-    let before = source::State {
+    let before = source_state::State {
         values: *values,
         modes: *modes,
     };
-    tell_price(prices::price_step(task, before, k as usize), price, place)
+    tell_price(
+        source_state::price_step(task, before, k as usize),
+        price,
+        place,
+    )
 }
 
 // The price of a plan.
@@ -284,7 +288,7 @@ pub extern "C" fn ruphenqo_price_plan(
 ) -> u32
     ensures { λ r. ⌜ Told (pricePlan (now (task .entry)) (now (plan .entry))) itself (now (price .entry)) r (now (place .exit)) (now (price .exit)) ⌝ }
 {
-    tell_price(prices::price_plan(task, plan), price, place)
+    tell_price(source_walk::price_plan(task, plan), price, place)
 }
 
 fn tell_written(written: lists::Written, length: &mut u64, place: &mut u64) -> u32
@@ -329,7 +333,7 @@ pub extern "C" fn ruphenqo_expand(
     ensures { λ r. ⌜ Told (lent (now (out .entry)) (expandBytes (now (task .entry)) (now (plan .entry))) .0) itself (now (length .entry)) r (now (place .exit)) (now (length .exit)) ⌝ }
     ensures { λ _. ⌜ now (out .exit) ≡ lent (now (out .entry)) (expandBytes (now (task .entry)) (now (plan .entry))) .1 ⌝ }
 {
-    tell_written(plans::expand(task, plan, out), length, place)
+    tell_written(plan_expand::expand(task, plan, out), length, place)
 }
 
 // The listing of a source plan, written into lent output. A refused task or plan is a line of it: the only refusal is 8.
@@ -359,5 +363,5 @@ pub extern "C" fn ruphenqo_project(
     ensures { λ r. ⌜ Told (lent (now (out .entry)) (projectBytes (now (task .entry)) (now (plan .entry))) .0) itself (now (length .entry)) r (now (place .exit)) (now (length .exit)) ⌝ }
     ensures { λ _. ⌜ now (out .exit) ≡ lent (now (out .entry)) (projectBytes (now (task .entry)) (now (plan .entry))) .1 ⌝ }
 {
-    tell_written(projection::project(task, plan, out), length, place)
+    tell_written(plan_project::project(task, plan, out), length, place)
 }

@@ -1,4 +1,3 @@
-pub mod Alone
 pub mod Judging
 pub mod Numbers
 pub mod Rows

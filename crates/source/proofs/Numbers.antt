@@ -64,26 +64,6 @@ divisor c e =
 pub operand : (v : ℤ) → natAbs v ≤ 10_000 → Within 2000000000000000 v
 operand v h = record { within = omega arith }
 
--- ---- what is known of an effect that fits
-module _ (v : ℕ → ℤ) where
-  pub linear-constant : (t : ℕ) (w : ℤ) (ts : List (ℕ × ℤ)) → effectFits (linearEffect t w ts) v ≡ true → small w ≡ true
-  linear-constant t w ts e = and-right (small (v t)) (small w) (and-left (small (v t) && small w) (every (termFits v) ts) e)
-
-  pub linear-terms : (t : ℕ) (w : ℤ) (ts : List (ℕ × ℤ)) → effectFits (linearEffect t w ts) v ≡ true → every (termFits v) ts ≡ true
-  linear-terms t w ts e = and-right (small (v t) && small w) (every (termFits v) ts) e
-
-  pub linear-target : (t : ℕ) (w : ℤ) (ts : List (ℕ × ℤ)) → effectFits (linearEffect t w ts) v ≡ true → natAbs (v t) ≤ 10_000
-  linear-target t w ts e = first (v t) w (and-left (small (v t) && small w) (every (termFits v) ts) e)
-
-  pub division-target : (t y : ℕ) (c : ℤ) → effectFits (quotientEffect t y c) v ≡ true → natAbs (v t) ≤ 10_000
-  division-target t y c e = first (v t) (v y) (and-left (small (v t) && small (v y)) (divides c) e)
-
-  pub division-operand : (t y : ℕ) (c : ℤ) → effectFits (quotientEffect t y c) v ≡ true → natAbs (v y) ≤ 10_000
-  division-operand t y c e = second (v t) (v y) (and-left (small (v t) && small (v y)) (divides c) e)
-
-  pub division-by : (t y : ℕ) (c : ℤ) → effectFits (quotientEffect t y c) v ≡ true → Within 2000000000000000 c × (0 < natAbs c)
-  division-by t y c e = divisor c (and-right (small (v t) && small (v y)) (divides c) e)
-
 -- ---- the sizes of a quotient and a residue
 floor-small : (y : ℤ) (u : ℕ) → natAbs (floor y u) ≤ natAbs y
 floor-small (pos n) u = div-le-self n (suc u)
@@ -98,21 +78,3 @@ quotient-small y c = rw (mul-abs (floor y (unitLess c)) (sign c), sign-one c) (o
 
 pub residue-small : (y c : ℤ) → 0 < natAbs c → natAbs (residueOf y c) < natAbs c
 residue-small y c h = let e = euclid y c h in omega (ints, e .high, e .low, abs (residueOf y c))
-
-module _ (t y c : ℤ) (e : ((small t && small y) && divides c) ≡ true) where
-  pub priced-target : natAbs t ≤ 10_000
-  priced-target = first t y (and-left (small t && small y) (divides c) e)
-
-  pub priced-operand : natAbs y ≤ 10_000
-  priced-operand = second t y (and-left (small t && small y) (divides c) e)
-
-  pub priced-by : Within 2000000000000000 c × (0 < natAbs c)
-  priced-by = divisor c (and-right (small t && small y) (divides c) e)
-
-  pub priced-quotient : natAbs (quotientOf y c) ≤ 10_000
-  priced-quotient = omega (arith, quotient-small y c, priced-operand)
-
-  pub priced-residue : natAbs (residueOf y c) ≤ 10_000
-  priced-residue =
-      let h = small-is c (and-left (small c) (not (withinLimit 0 c)) (and-right (small t && small y) (divides c) e)) in
-      omega (arith, residue-small y c (priced-by .1), h)

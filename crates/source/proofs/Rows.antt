@@ -7,12 +7,11 @@ use Prim.Native.Nat.{ℕ, zero, suc, min, _+_, _≤_, _<_}
 use native.Mathlib.Numerals.{add-one}
 use native.Mathlib.Omega.{arith}
 use mathlib.Core.Bool.{Bool, true, false, _&&_}
-use mathlib.Core.List.{List, [], _∷_}
+use mathlib.Core.List.{List, [], _∷_, map}
 use lib.ListN.{length, length-take, getD, take, drop}
 use lib.Seq.{drop-cons, drop-length, getD-take}
 use Rattle.lists.specs.Each.{tabulate}
 use Rattle.lists.proofs.Each.{length-tabulate, getD-tabulate}
-use Rattle.model.specs.Decoding.{each}
 use Rattle.actions.specs.declared.Term.{Term}
 use Rattle.actions.specs.Views.{termIs}
 use lib.IntN.{ℤ}
@@ -24,29 +23,22 @@ pub record Row {A : Type 0} (xs : List A) (n : ℕ) (f : ℕ → A) : Type 0 whe
 pub row-tabulate : {A : Type 0} (n : ℕ) (f : ℕ → A) → Row (tabulate n f) n f
 row-tabulate n f = record { size = length-tabulate n f; at = λ i d h. getD-tabulate n f i d h }
 
--- so many as there is room for
-pub row-room : {A : Type 0} (room count n : ℕ) (f : ℕ → A) → n ≡ min room count → Row (take room (tabulate count f)) n f
-row-room room count n f e = record {
-  size = length-take room (tabulate count f) ∙ ap (min room) (length-tabulate count f) ∙ sym e;
-  at = λ i d h. getD-take room (tabulate count f) i d (omega arith) ∙ getD-tabulate count f i d (omega arith);
-}
-
-length-terms : (ts : List Term) → length (each termIs ts) ≡ length ts
+length-terms : (ts : List Term) → length (map termIs ts) ≡ length ts
 length-terms [] = refl
 length-terms (t ∷ ts) = ap suc (length-terms ts)
 
-getD-terms : (ts : List Term) (i : ℕ) (d : ℕ × ℤ) (e : Term) → i < length ts → getD (each termIs ts) i d ≡ termIs (getD ts i e)
+getD-terms : (ts : List Term) (i : ℕ) (d : ℕ × ℤ) (e : Term) → i < length ts → getD (map termIs ts) i d ≡ termIs (getD ts i e)
 getD-terms [] i d e h = absurd (omega arith)
 getD-terms (t ∷ ts) zero d e h = refl
 getD-terms (t ∷ ts) (suc i) d e h = getD-terms ts i d e (omega arith)
 
-pub row-terms : (room count n : ℕ) (ts : List Term) (e : Term) → length ts ≡ room → n ≡ min room count → Row (take room (each termIs (take count ts))) n (λ i. termIs (getD ts i e))
+pub row-terms : (room count n : ℕ) (ts : List Term) (e : Term) → length ts ≡ room → n ≡ min room count → Row (take room (map termIs (take count ts))) n (λ i. termIs (getD ts i e))
 row-terms room count n ts e l s =
-    let a : length (each termIs (take count ts)) ≡ min count (length ts) = length-terms (take count ts) ∙ length-take count ts in
+    let a : length (map termIs (take count ts)) ≡ min count (length ts) = length-terms (take count ts) ∙ length-take count ts in
     let b : length (take count ts) ≡ min count (length ts) = length-take count ts in
     record {
-      size = length-take room (each termIs (take count ts)) ∙ omega arith;
-      at = λ i d h. getD-take room (each termIs (take count ts)) i d (omega arith) ∙ getD-terms (take count ts) i d e (omega arith) ∙ ap termIs (getD-take count ts i e (omega arith));
+      size = length-take room (map termIs (take count ts)) ∙ omega arith;
+      at = λ i d h. getD-take room (map termIs (take count ts)) i d (omega arith) ∙ getD-terms (take count ts) i d e (omega arith) ∙ ap termIs (getD-take count ts i e (omega arith));
     }
 
 pub record Left {A B : Type 0} (xs : List A) (n : ℕ) (f : ℕ → A) (i : ℕ) (H : List A → B) (whole : B) : Type 0 where

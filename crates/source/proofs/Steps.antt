@@ -5,7 +5,7 @@ use Prim.Native.Nat.{ℕ, zero, suc, _≤_}
 use native.Mathlib.Omega.{arith}
 use mathlib.Core.Bool.{Bool, true, false, cond, not, false≢true, _&&_}
 use mathlib.Core.Option.{Option, none, some}
-use mathlib.Core.List.{List, [], _∷_}
+use mathlib.Core.List.{List, [], _∷_, map}
 use lib.ListN.{length, getD, take, getElem?}
 use Rattle.integers.specs.All.{All}
 use lib.IntN.{ℤ, natAbs}
@@ -15,7 +15,6 @@ use Rattle.integers.specs.Relation.{withinLimit}
 use Rattle.integers.proofs.Parts.{ints, abs}
 use Rattle.lists.proofs.Loops.{and-left, and-right}
 use Rattle.model.specs.Limits.{sourceLimits}
-use Rattle.model.specs.Decoding.{each}
 use Rattle.model.specs.TaskOk.{AmountOk, EffectOk, SourceActionOk, SourceVariableOk, SourceTaskOk}
 use Rattle.model.proofs.StageWalk.{all-get, all-map}
 use Rattle.lists.specs.Loops.{every}
@@ -89,16 +88,8 @@ module _ (lower upper : List ℤ) (sizes : List ℕ) (x : State) (a : SourceActi
       (effectFits (a .effect) (integerAt (x .values))) (withinBounds (integerAt lower) (integerAt upper) (result (a .effect) (integerAt (x .values))))
       (put-stays (integerAt lower) (integerAt upper) (result (a .effect) (integerAt (x .values))) (x .values))
 
--- an effect, as far as there is room
-pub effect-in : (e : DecodedEffect) (ts : List (ℕ × ℤ)) → fittingEffect (effectIs e ts) ≡ effectIs e (take termRoom ts)
-effect-in None ts = refl
-effect-in (Add t c) ts = refl
-effect-in (Linear t w) ts = refl
-effect-in (Quotient t o c) ts = refl
-effect-in (Residue t o c) ts = refl
-
 -- ---- a task that keeps to the rules on source files: a step by its action is the model's step by number
-pub within-all : (f : SourceVariable → ℤ) (vs : List SourceVariable) → All (λ (b : SourceVariable). natAbs (f b) ≤ 10_000) vs → (j : ℕ) → natAbs (integerAt (each f vs) j) ≤ 10_000
+pub within-all : (f : SourceVariable → ℤ) (vs : List SourceVariable) → All (λ (b : SourceVariable). natAbs (f b) ≤ 10_000) vs → (j : ℕ) → natAbs (integerAt (map f vs) j) ≤ 10_000
 within-all f [] h j = omega arith
 within-all f (b ∷ vs) (h, hs) zero = h
 within-all f (b ∷ vs) (h, hs) (suc j) = within-all f vs hs j
@@ -143,9 +134,6 @@ unsound none ok = refl
 unsound (some y) ok = refl
 
 module _ (t : SourceTask) (ok : SourceTaskOk t) where
-  lows : List ℤ
-  lows = each (λ (b : SourceVariable). b .lower) (t .variables)
-
   pub values-near : (x : State) → soundSource (lowerBounds t) (upperBounds t) (sizesOf (t .modes)) x ≡ true → (j : ℕ) → natAbs (integerAt (x .values) j) ≤ 10_000
   values-near x s =
       bounded (lowerBounds t) (upperBounds t)
@@ -161,7 +149,7 @@ module _ (t : SourceTask) (ok : SourceTaskOk t) where
 
   -- THE LAW
   pub step-of-task : (x : State) (k : ℕ) (a : SourceAction) → getElem? (t .actions) k ≡ some a
-      → stepOf (each (λ (b : SourceVariable). b .lower) (t .variables)) (each (λ (b : SourceVariable). b .upper) (t .variables)) (sizesOf (t .modes)) x a ≡ stepSource t x k
+      → stepOf (map (λ (b : SourceVariable). b .lower) (t .variables)) (map (λ (b : SourceVariable). b .upper) (t .variables)) (sizesOf (t .modes)) x a ≡ stepSource t x k
   unfolding stepOf
   step-of-task x k a e =
       let sound = soundSource (lowerBounds t) (upperBounds t) (sizesOf (t .modes)) in

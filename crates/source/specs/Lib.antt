@@ -1,4 +1,4 @@
-pub mod Alone
 pub mod Judged
 pub mod Parts
+pub mod Sizes
 pub mod Step

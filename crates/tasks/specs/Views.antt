@@ -35,16 +35,11 @@ limitsOf l = record {
 abbrev pub stateOf : Counts → List ℕ → List ℕ → List ℕ → ReadingState
 stateOf p sizes set seen = record {
   section = p .section;
-  variables = p .variables;
-  modes = p .modes;
-  actions = p .actions;
-  conditions = p .conditions;
-  modeConditions = p .«mode_conditions»;
-  numericEffects = p .«numeric_effects»;
   terms = p .terms;
-  sizes = sizes;
-  modesSet = set;
-  variablesSeen = seen;
+  actions = p .actions;
+  declared = record { variables = p .variables; modes = p .modes; sizes = sizes };
+  counts = record { conditions = p .conditions; modeConditions = p .«mode_conditions»; numericEffects = p .«numeric_effects» };
+  marks = record { modesSet = set; variablesSeen = seen };
 }
 
 abbrev pub progressOf : Progress → ModelProgress

@@ -3,9 +3,9 @@
 use mathlib.Core.Path.{_≡_, sym, ap}
 use Prim.Native.Nat.{ℕ, _+_, _≤_, _<_}
 use native.Mathlib.Omega.{arith}
-use mathlib.Core.List.{List}
+use mathlib.Core.List.{List, flatMap}
 use lib.ListN.{length}
-use Rattle.lists.specs.Each.{flat, tabulate}
+use Rattle.lists.specs.Each.{tabulate}
 use Rattle.lists.specs.Writing.{Room, Wrote}
 use Rattle.lists.proofs.Each.{length-tabulate, getD-tabulate, take-tabulate}
 use Rattle.lists.proofs.Loops.{there-all}
@@ -22,14 +22,14 @@ module _ {A : Type 0} {f : A → List ℕ} {g : ℕ → A} {n : ℕ} {old : List
 
   module _ {out : List ℕ} {place i : ℕ} where
     -- what the writer of element i requires
-    pub writing-room : Writing f g n old at out place i → i < n → Room old at (flat f (tabulate n g)) → Room out place (f (g i))
-    writing-room w h r = room-as (ap f (getD-tabulate n g i (g i) h)) (going-room (g i) (w .going) h (room-as (ap (flat f) (sym (take-tabulate n g))) r))
+    pub writing-room : Writing f g n old at out place i → i < n → Room old at (flatMap f (tabulate n g)) → Room out place (f (g i))
+    writing-room w h r = room-as (ap f (getD-tabulate n g i (g i) h)) (going-room (g i) (w .going) h (room-as (ap (flatMap f) (sym (take-tabulate n g))) r))
 
     pub writing-next : {after : List ℕ} {next : ℕ} → Writing f g n old at out place i → i < n → Wrote out place (f (g i)) after next → Writing f g n old at after next (i + 1)
     writing-next w h e = record { going = going-next (g i) (w .going) h (wrote-as (ap f (sym (getD-tabulate n g i (g i) h))) e) }
 
-    pub writing-end : Writing f g n old at out place i → n ≤ i → Wrote old at (flat f (tabulate n g)) out place
-    writing-end w h = wrote-as (ap (flat f) (take-tabulate n g)) (going-end (w .going) h)
+    pub writing-end : Writing f g n old at out place i → n ≤ i → Wrote old at (flatMap f (tabulate n g)) out place
+    writing-end w h = wrote-as (ap (flatMap f) (take-tabulate n g)) (going-end (w .going) h)
 
     pub writing-long : Writing f g n old at out place i → length out ≡ length old
     writing-long w = going-long (w .going)

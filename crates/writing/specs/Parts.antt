@@ -34,8 +34,8 @@ abbrev pub additionBytes : ℕ × ℤ → List ℕ
 additionBytes e = encode (Add (e .0) (bitsOf 4 (e .1)))
 
 -- the bytes of an action; and of a goal, up to the end of the file
-abbrev pub actionBytes : RestrictedAction → List ℕ
-actionBytes a = encodeAll (actionCommands a [])
+abbrev pub restrictedActionBytes : RestrictedAction → List ℕ
+restrictedActionBytes a = encodeAll (actionCommands a [])
 
 abbrev pub goalBytes : List (ℕ × ℕ) → List (NumericCondition ℕ) → List ℕ
 goalBytes ps cs = encodeAll (Goal ∷ modeConditionCommands ps (conditionCommands cs [])) ++ encode End

@@ -10,18 +10,17 @@ use actions::MODE_EFFECTS;
 use actions::RestrictedAction;
 use commands::Command;
 ghost use mathlib.Core.Path.{_≡_};
-ghost use mathlib.Core.List.{[], _∷_, _++_};
+ghost use mathlib.Core.List.{[], _∷_, _++_, flatMap};
 ghost use Prim.Native.Nat.{ℕ, _<_, _≤_};
 ghost use lib.ListN.{length, take};
 ghost use lib.IntN.{pos};
 ghost use Rattle.integers.specs.Relation.{relationNumber, relationOf};
-ghost use Rattle.lists.specs.Each.{flat};
 ghost use Rattle.lists.specs.Writing.{Room, Wrote};
 ghost use Rattle.commands.specs.Encoding.{encode};
 ghost use Rattle.commands.specs.declared.Command.the-variants.{Condition, ModeCondition, ModeEffect, Add};
 ghost use Rattle.actions.specs.Views.{conditionsIs, pairsIs, restrictedActionIs, goalConditionsIs, goalModesIs};
 ghost use Rattle.writing.specs.Parts.{startBytes, modeBytes, modeConditionBytes, conditionBytes, modeEffectBytes, additionBytes};
-ghost use Rattle.writing.specs.Parts.{actionBytes, goalBytes, Constants, Writable, GoalWritable};
+ghost use Rattle.writing.specs.Parts.{restrictedActionBytes, goalBytes, Constants, Writable, GoalWritable};
 
 // The most variables and modes that a source task declares.
 const STARTS: usize = 8;
@@ -86,8 +85,8 @@ fn put_mode_conditions<'a>(
     values: &'a [u16; MODE_CONDITIONS],
 ) -> usize
     requires { ⌜ count ≤ 16 ⌝ }
-    requires { ⌜ Room (now out) at (flat modeConditionBytes (pairsIs 0 count (now modes) (now values))) ⌝ }
-    ensures { λ r. ⌜ Wrote (now (out .entry)) at (flat modeConditionBytes (pairsIs 0 count (now (modes .entry)) (now (values .entry)))) (now (out .exit)) r ⌝ }
+    requires { ⌜ Room (now out) at (flatMap modeConditionBytes (pairsIs 0 count (now modes) (now values))) ⌝ }
+    ensures { λ r. ⌜ Wrote (now (out .entry)) at (flatMap modeConditionBytes (pairsIs 0 count (now (modes .entry)) (now (values .entry)))) (now (out .exit)) r ⌝ }
 {
     let mut place = at;
     let mut i: usize = 0;
@@ -121,8 +120,8 @@ fn put_conditions<'a>(
 ) -> usize
     requires { ⌜ count ≤ 24 ⌝ }
     requires { ⌜ Constants count (now constants) ⌝ }
-    requires { ⌜ Room (now out) at (flat conditionBytes (conditionsIs count (now variables) (now relations) (now constants))) ⌝ }
-    ensures { λ r. ⌜ Wrote (now (out .entry)) at (flat conditionBytes (conditionsIs count (now (variables .entry)) (now (relations .entry)) (now (constants .entry)))) (now (out .exit)) r ⌝ }
+    requires { ⌜ Room (now out) at (flatMap conditionBytes (conditionsIs count (now variables) (now relations) (now constants))) ⌝ }
+    ensures { λ r. ⌜ Wrote (now (out .entry)) at (flatMap conditionBytes (conditionsIs count (now (variables .entry)) (now (relations .entry)) (now (constants .entry)))) (now (out .exit)) r ⌝ }
 {
     let mut place = at;
     let mut i: usize = 0;
@@ -144,8 +143,8 @@ fn put_mode_effects<'a>(
     values: &'a [u16; MODE_EFFECTS],
 ) -> usize
     requires { ⌜ count ≤ 8 ⌝ }
-    requires { ⌜ Room (now out) at (flat modeEffectBytes (pairsIs 0 count (now modes) (now values))) ⌝ }
-    ensures { λ r. ⌜ Wrote (now (out .entry)) at (flat modeEffectBytes (pairsIs 0 count (now (modes .entry)) (now (values .entry)))) (now (out .exit)) r ⌝ }
+    requires { ⌜ Room (now out) at (flatMap modeEffectBytes (pairsIs 0 count (now modes) (now values))) ⌝ }
+    ensures { λ r. ⌜ Wrote (now (out .entry)) at (flatMap modeEffectBytes (pairsIs 0 count (now (modes .entry)) (now (values .entry)))) (now (out .exit)) r ⌝ }
 {
     let mut place = at;
     let mut i: usize = 0;
@@ -166,8 +165,8 @@ fn put_additions<'a>(
 ) -> usize
     requires { ⌜ count ≤ 16 ⌝ }
     requires { ⌜ Constants count (now amounts) ⌝ }
-    requires { ⌜ Room (now out) at (flat additionBytes (pairsIs (pos 0) count (now variables) (now amounts))) ⌝ }
-    ensures { λ r. ⌜ Wrote (now (out .entry)) at (flat additionBytes (pairsIs (pos 0) count (now (variables .entry)) (now (amounts .entry)))) (now (out .exit)) r ⌝ }
+    requires { ⌜ Room (now out) at (flatMap additionBytes (pairsIs (pos 0) count (now variables) (now amounts))) ⌝ }
+    ensures { λ r. ⌜ Wrote (now (out .entry)) at (flatMap additionBytes (pairsIs (pos 0) count (now (variables .entry)) (now (amounts .entry)))) (now (out .exit)) r ⌝ }
 {
     let mut place = at;
     let mut i: usize = 0;
@@ -182,8 +181,8 @@ fn put_additions<'a>(
 // An action.
 pub fn put_action(out: &mut [u8], at: usize, action: RestrictedAction) -> usize
     requires { ⌜ Writable action ⌝ }
-    requires { ⌜ Room (now out) at (actionBytes (restrictedActionIs action)) ⌝ }
-    ensures { λ r. ⌜ Wrote (now (out .entry)) at (actionBytes (restrictedActionIs action)) (now (out .exit)) r ⌝ }
+    requires { ⌜ Room (now out) at (restrictedActionBytes (restrictedActionIs action)) ⌝ }
+    ensures { λ r. ⌜ Wrote (now (out .entry)) at (restrictedActionBytes (restrictedActionIs action)) (now (out .exit)) r ⌝ }
 {
     let modes = put_command(out, at, Command::Action);
     let conditions = put_mode_conditions(
@@ -221,8 +220,8 @@ pub fn put_action(out: &mut [u8], at: usize, action: RestrictedAction) -> usize
 fn put_declared_starts(out: &mut [u8], at: usize, n: usize, starts: &[i64; STARTS]) -> usize
     requires { ⌜ (n ≤ 8) × (length (now starts) ≡ 8) ⌝ }
     requires { ⌜ Constants n (now starts) ⌝ }
-    requires { ⌜ Room (now out) at (flat startBytes (take n (now starts))) ⌝ }
-    ensures { λ r. ⌜ Wrote (now (out .entry)) at (flat startBytes (take n (now (starts .entry)))) (now (out .exit)) r ⌝ }
+    requires { ⌜ Room (now out) at (flatMap startBytes (take n (now starts))) ⌝ }
+    ensures { λ r. ⌜ Wrote (now (out .entry)) at (flatMap startBytes (take n (now (starts .entry)))) (now (out .exit)) r ⌝ }
 {
     let mut place = at;
     let mut i: usize = 0;
@@ -238,8 +237,8 @@ fn put_declared_starts(out: &mut [u8], at: usize, n: usize, starts: &[i64; START
 pub fn put_starts(out: &mut [u8], at: usize, n: usize, starts: &[i64; STARTS]) -> usize
     requires { ⌜ (n ≤ 8) × (length (now starts) ≡ 8) ⌝ }
     requires { ⌜ Constants n (now starts) ⌝ }
-    requires { ⌜ Room (now out) at (flat startBytes (take n (now starts) ++ (pos 0 ∷ pos 0 ∷ []))) ⌝ }
-    ensures { λ r. ⌜ Wrote (now (out .entry)) at (flat startBytes (take n (now (starts .entry)) ++ (pos 0 ∷ pos 0 ∷ []))) (now (out .exit)) r ⌝ }
+    requires { ⌜ Room (now out) at (flatMap startBytes (take n (now starts) ++ (pos 0 ∷ pos 0 ∷ []))) ⌝ }
+    ensures { λ r. ⌜ Wrote (now (out .entry)) at (flatMap startBytes (take n (now (starts .entry)) ++ (pos 0 ∷ pos 0 ∷ []))) (now (out .exit)) r ⌝ }
 {
     let first = put_declared_starts(out, at, n, starts);
     let second = put_command(out, first, Command::Start(0));
@@ -255,8 +254,8 @@ fn put_declared_modes<'a>(
     values: &'a [u16; MODES],
 ) -> usize
     requires { ⌜ n ≤ 4 ⌝ }
-    requires { ⌜ Room (now out) at (flat modeBytes (pairsIs 0 n (now sizes) (now values))) ⌝ }
-    ensures { λ r. ⌜ Wrote (now (out .entry)) at (flat modeBytes (pairsIs 0 n (now (sizes .entry)) (now (values .entry)))) (now (out .exit)) r ⌝ }
+    requires { ⌜ Room (now out) at (flatMap modeBytes (pairsIs 0 n (now sizes) (now values))) ⌝ }
+    ensures { λ r. ⌜ Wrote (now (out .entry)) at (flatMap modeBytes (pairsIs 0 n (now (sizes .entry)) (now (values .entry)))) (now (out .exit)) r ⌝ }
 {
     let mut place = at;
     let mut i: usize = 0;
@@ -277,8 +276,8 @@ pub fn put_modes<'a>(
     control: u16,
 ) -> usize
     requires { ⌜ n ≤ 4 ⌝ }
-    requires { ⌜ Room (now out) at (flat modeBytes (pairsIs 0 n (now sizes) (now values) ++ ((control, 0) ∷ []))) ⌝ }
-    ensures { λ r. ⌜ Wrote (now (out .entry)) at (flat modeBytes (pairsIs 0 n (now (sizes .entry)) (now (values .entry)) ++ ((control, 0) ∷ []))) (now (out .exit)) r ⌝ }
+    requires { ⌜ Room (now out) at (flatMap modeBytes (pairsIs 0 n (now sizes) (now values) ++ ((control, 0) ∷ []))) ⌝ }
+    ensures { λ r. ⌜ Wrote (now (out .entry)) at (flatMap modeBytes (pairsIs 0 n (now (sizes .entry)) (now (values .entry)) ++ ((control, 0) ∷ []))) (now (out .exit)) r ⌝ }
 {
     let last = put_declared_modes(out, at, n, sizes, values);
     put_command(out, last, Command::Mode(control, 0))

@@ -6,6 +6,7 @@ use Prim.Native.Nat.{_-_}
 use native.Mathlib.Omega.{arith}
 use lib.IntN.{pos}
 use lib.ListN.{length, take, drop}
+use Rattle.model.specs.Decoding.{additionsOf}
 use Rattle.model.specs.ActionBytes.{decodeAction}
 use Rattle.actions.specs.Views.{conditionRoom, modeConditionRoom, modeEffectRoom, additionRoom}
 use Rattle.actions.specs.Kept.{FillsConditions, FillsPairs}
@@ -20,7 +21,7 @@ Inv-loop bytes variables₀ relations₀ constants₀ modes₀ values₀ set-mod
     (FillsConditions conditionRoom variables₀ relations₀ constants₀ conditions variables relations constants)
     (FillsPairs 0 modeConditionRoom modes₀ values₀ mode-conditions modes values)
     (FillsPairs 0 modeEffectRoom set-modes₀ set-values₀ mode-effects set-modes set-values)
-    (AdditionsLeft (FillsPairs (pos 0) additionRoom added₀ amounts₀ additions added amounts) (decodeAction bytes .additions))
+    (AdditionsLeft (FillsPairs (pos 0) additionRoom added₀ amounts₀ additions added amounts) (additionsOf (decodeAction bytes)))
 
 abbrev μ-loop : tie.MeasureT-loop
 μ-loop bytes variables₀ relations₀ constants₀ modes₀ values₀ set-modes₀ set-values₀ added₀ amounts₀ conditions₀ mode-conditions₀ mode-effects₀ additions₀ at₀ variables relations constants modes values set-modes set-values added amounts conditions mode-conditions mode-effects additions at = length bytes - at

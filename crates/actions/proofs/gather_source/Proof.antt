@@ -5,6 +5,7 @@ use Prim.Native.Nat.{_-_, _≤_}
 use native.Mathlib.Omega.{arith}
 use lib.ListN.{length, take, drop}
 use Rattle.commands.specs.declared.Command.{Command}
+use Rattle.model.specs.Decoding.{effectOf}
 use Rattle.model.specs.ActionBytes.{decodeAction}
 use Rattle.actions.specs.Numeric.{effectWith, EffectTaken}
 use Rattle.actions.specs.Views.{conditionRoom, modeConditionRoom, modeEffectRoom, termRoom, fittingEffect}
@@ -20,7 +21,7 @@ Inv-loop bytes variables₀ relations₀ constants₀ modes₀ values₀ set-mod
     (FillsConditions conditionRoom variables₀ relations₀ constants₀ conditions variables relations constants)
     (FillsPairs 0 modeConditionRoom modes₀ values₀ mode-conditions modes values)
     (FillsPairs 0 modeEffectRoom set-modes₀ set-values₀ mode-effects set-modes set-values)
-    (λ numbers. (effectWith numeric (numbers .effect) (numbers .terms) ≡ fittingEffect (decodeAction bytes .effect)) × (numeric .«term_count» ≤ termRoom))
+    (λ numbers. (effectWith numeric (numbers .effect) (numbers .terms) ≡ fittingEffect (effectOf (decodeAction bytes))) × (numeric .«term_count» ≤ termRoom))
 
 abbrev μ-loop : tie.MeasureT-loop
 μ-loop bytes variables₀ relations₀ constants₀ modes₀ values₀ set-modes₀ set-values₀ conditions₀ mode-conditions₀ mode-effects₀ numeric₀ at₀ variables relations constants modes values set-modes set-values conditions mode-conditions mode-effects numeric at = length bytes - at

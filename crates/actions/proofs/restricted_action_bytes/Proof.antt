@@ -6,12 +6,12 @@ use Rattle.actions.proofs.restricted_action_bytes.Tie as tie
 place-restricted-action-requires : tie.Need-place-restricted-action-requires
 place-restricted-action-requires c κs = search needs
 
-placed-part-requires : tie.Need-placed-part-requires
-placed-part-requires c κs = search needs
+tell-part-requires : tie.Need-tell-part-requires
+tell-part-requires c κs = search needs
 
 returns : tie.Need-returns
-returns c = rw (← c .before .place-restricted-action .ensures) (c .placed-part .ensures)
+returns c = rw (← c .before .before .before .place-restricted-action .ensures) (c .tell-part .ensures)
 
 pub restricted-action-bytes-spec : {M : Type 1} → statement M
 restricted-action-bytes-spec =
-    tie.close (tie.spec place-restricted-action-requires placed-part-requires returns)
+    tie.close (tie.spec place-restricted-action-requires tell-part-requires returns)

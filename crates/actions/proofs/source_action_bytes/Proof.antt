@@ -6,12 +6,12 @@ use Rattle.actions.proofs.source_action_bytes.Tie as tie
 place-source-action-requires : tie.Need-place-source-action-requires
 place-source-action-requires c κs = search needs
 
-placed-part-requires : tie.Need-placed-part-requires
-placed-part-requires c κs = search needs
+tell-part-requires : tie.Need-tell-part-requires
+tell-part-requires c κs = search needs
 
 returns : tie.Need-returns
-returns c = rw (← c .before .place-source-action .ensures) (c .placed-part .ensures)
+returns c = rw (← c .before .before .before .place-source-action .ensures) (c .tell-part .ensures)
 
 pub source-action-bytes-spec : {M : Type 1} → statement M
 source-action-bytes-spec =
-    tie.close (tie.spec place-source-action-requires placed-part-requires returns)
+    tie.close (tie.spec place-source-action-requires tell-part-requires returns)

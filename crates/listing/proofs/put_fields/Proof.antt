@@ -1,9 +1,8 @@
 -- `listing::put_fields` meets its contract: the values, and the line's end. Assumes nothing.
 use Prim.Native.Nat.{ℕ}
-use mathlib.Core.List.{List, [], _∷_}
+use mathlib.Core.List.{List, [], _∷_, flatMap}
 use lib.ListN.{drop, take}
 use denote.Ref.{now}
-use Rattle.lists.specs.Each.{flat}
 use Rattle.lists.proofs.Writing.{Left, start, step, done, room, wrote-long}
 use Rattle.model.specs.Listing.{fieldsOf}
 use Rattle.listing.specs.Lines.{field}
@@ -15,10 +14,10 @@ use Rattle.listing.proofs.put_fields.Tie as tie
 abbrev Stage : tie.Start → List ℕ → ℕ → List (List ℕ) → Type 0
 Stage s after place parts = Left (now (s .args .out)) (s .args .at) (fieldsOf (take (s .args .n) (now (s .args .values)))) after place parts
 
-l₀ : (s : tie.Start) → Stage s (now (s .args .out)) (s .args .at) (flat field (take (s .args .n) (now (s .args .values))) ∷ (10 ∷ []) ∷ [])
+l₀ : (s : tie.Start) → Stage s (now (s .args .out)) (s .args .at) (flatMap field (take (s .args .n) (now (s .args .values))) ∷ (10 ∷ []) ∷ [])
 l₀ s = start _ _ (fields-are _)
 
-l₁ : (c : tie.After-put-values) → let s = c .before .before .before in Stage s (c .put-values .last .0) (c .put-values .result) (drop 1 (flat field (take (s .args .n) (now (s .args .values))) ∷ (10 ∷ []) ∷ []))
+l₁ : (c : tie.After-put-values) → let s = c .before .before .before in Stage s (c .put-values .last .0) (c .put-values .result) (drop 1 (flatMap field (take (s .args .n) (now (s .args .values))) ∷ (10 ∷ []) ∷ []))
 l₁ c = step (l₀ (c .before .before .before)) (c .put-values .ensures)
 
 put-values-requires : tie.Need-put-values-requires

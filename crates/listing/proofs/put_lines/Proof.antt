@@ -1,5 +1,5 @@
--- `listing::put_lines` meets its contract. The loop's invariant is `Writing`: the lines passed were written. Assumes nothing.
-use mathlib.Core.Path.{_∙_}
+-- `listing::put_lines` meets its contract. The loop's invariant is `Writing`: the lines left are still to be written. Assumes nothing.
+use mathlib.Core.Path.{_≡_, refl, _∙_}
 use Prim.Native.Nat.{_-_, _<_}
 use native.Mathlib.Omega.{arith}
 use lib.ListN.{length}
@@ -7,25 +7,32 @@ use denote.Ref.{now}
 use borrow.Author.Tests.{not-true, not-false}
 use Rattle.model.specs.Plans.{planNumbers}
 use Rattle.planbytes.proofs.Steps.{halves-long}
-use Rattle.rows.proofs.Standing.{steady, usable}
-use Rattle.source_judge.proofs.Running.{marks-there, numbers-there}
-use Rattle.listing.proofs.Lining.{stands-after, Writing, writing-begins, writing-long, writing-over, writing-no-action, writing-not-applied, writing-room, writing-next}
+use Rattle.source.specs.Step.{state}
+use Rattle.rows.specs.Table.{table}
+use Rattle.listing.proofs.Lining as lining
 use borrow.Author.Needs.{needs}
 use Rattle.listing.proofs.put_lines.Statement.{statement}
 use Rattle.listing.proofs.put_lines.Tie as tie
 
 abbrev Inv-loop : tie.InvT-loop
-Inv-loop out₀ at plan steps count marks numbers n m values₀ modes₀ place₀ i₀ out values modes place i = Writing (planNumbers plan) count marks numbers n m values₀ modes₀ out₀ at values modes i out place
+Inv-loop out₀ at plan steps count marks numbers n m values₀ modes₀ times₀ place₀ i₀ out values modes times place i =
+    lining.Writing (table count marks numbers n m) (planNumbers plan) (state values₀ modes₀) out₀ at values modes i out place × (length times ≡ 10)
 
 abbrev μ-loop : tie.MeasureT-loop
-μ-loop out₀ at plan steps count marks numbers n m values₀ modes₀ place₀ i₀ out values modes place i = steps - i
+μ-loop out₀ at plan steps count marks numbers n m values₀ modes₀ times₀ place₀ i₀ out values modes times place i = steps - i
 
 -- a turn takes a step of the plan
 inside : (h : tie.In-loop Inv-loop μ-loop) → h .before .loop .i < length (planNumbers (now (h .before .before .before .before .args .plan)))
 inside h = omega (arith, h .loop-test .taken, h .before .before .before .before .pre .0 .counted)
 
 loop-holds : tie.Need-loop-holds Inv-loop μ-loop
-loop-holds c = let s = c .before .before in writing-begins (planNumbers (now (s .args .plan))) (s .args .count) (now (s .args .marks)) (now (s .args .numbers)) (s .args .n) (s .args .m) (now (s .args .values)) (now (s .args .modes)) (now (s .args .out)) (s .args .at) (s .pre .0 .stands)
+loop-holds c =
+    let s = c .before .before in (
+      lining.writing-begins (table (s .args .count) (now (s .args .marks)) (now (s .args .numbers)) (s .args .n) (s .args .m))
+          (planNumbers (now (s .args .plan))) (now (s .args .values)) (now (s .args .modes)) (s .pre .0 .valuesLong) (s .pre .0 .modesLong)
+          (now (s .args .out)) (s .args .at),
+      refl,
+    )
 
 action-of-requires : tie.Need-action-of-requires Inv-loop μ-loop
 action-of-requires c κs = let s = c .before .before .before .before in omega (arith, halves-long (now (s .args .plan)), c .loop-test .taken, s .pre .0 .counted)
@@ -34,47 +41,65 @@ wide16-requires : tie.Need-wide16-requires Inv-loop μ-loop
 wide16-requires c κs = search needs
 
 same-length : tie.Need-same-length Inv-loop μ-loop
-same-length c = writing-long (c .before .before .before .before .loop .inv)
+same-length c = lining.writing-long (c .before .before .before .before .loop .inv .0)
 
 returns : tie.Need-returns Inv-loop μ-loop
-returns c = let w = c .before in writing-no-action (w .before .before .before .loop .inv) (w .wide16 .result) (w .wide16 .ensures ∙ w .before .action-of .ensures) (inside (w .before .before)) (c .if1 .taken)
+returns c =
+    let w = c .before in
+    lining.writing-no-action (w .before .before .before .loop .inv .0) (w .wide16 .result) (w .wide16 .ensures ∙ w .before .action-of .ensures)
+    (inside (w .before .before)) (c .if1 .taken)
 
-mul-take-turn : tie.Need-mul-take-turn Inv-loop μ-loop
-mul-take-turn c = search (needs, arith)
+mul-take-priced : tie.Need-mul-take-priced Inv-loop μ-loop
+mul-take-priced c = search (needs, arith)
 
-shared-slice-element-take-turn : tie.Need-shared-slice-element-take-turn Inv-loop μ-loop
-shared-slice-element-take-turn c = let e = c .before .before in marks-there (e .before .before .before .before .loop .inv .lined .stands) (e .if1 .left)
+shared-slice-element-take-priced : tie.Need-shared-slice-element-take-priced Inv-loop μ-loop
+shared-slice-element-take-priced c =
+    let e = c .before .before in
+    let u = e .before .before .before .before .before .before .before .pre .0 .usables in
+    omega (arith, u .actionsFew, u .marksLong, e .if1 .left)
 
-mul-take-turn-2 : tie.Need-mul-take-turn-2 Inv-loop μ-loop
-mul-take-turn-2 c = search (needs, arith)
+mul-take-priced-2 : tie.Need-mul-take-priced-2 Inv-loop μ-loop
+mul-take-priced-2 c = search (needs, arith)
 
-shared-slice-element-take-turn-2 : tie.Need-shared-slice-element-take-turn-2 Inv-loop μ-loop
-shared-slice-element-take-turn-2 c = let e = c .before .before .before in numbers-there (e .before .before .before .before .loop .inv .lined .stands) (e .if1 .left)
+shared-slice-element-take-priced-2 : tie.Need-shared-slice-element-take-priced-2 Inv-loop μ-loop
+shared-slice-element-take-priced-2 c =
+    let e = c .before .before .before in
+    let u = e .before .before .before .before .before .before .before .pre .0 .usables in
+    omega (arith, u .actionsFew, u .numbersLong, e .if1 .left)
 
-take-turn-requires : tie.Need-take-turn-requires Inv-loop μ-loop
-take-turn-requires c κs = let e = c .before .before .before .before in
-    let S = e .before .before .before .before .loop .inv .lined .stands .standing in
-    (steady S, usable S (e .if1 .left))
+take-priced-requires : tie.Need-take-priced-requires Inv-loop μ-loop
+take-priced-requires c κs =
+    let e = c .before .before .before .before .before in
+    let a = e .before .before .before .before in
+    let u = a .before .before .before .pre .0 .usables in
+    (u .variablesFew, u .modesFew, a .loop .inv .0 .reached .modesLong, a .loop .inv .1, u .usable (e .before .wide16 .result) (omega (arith, e .if1 .left)))
 
 same-length-2 : tie.Need-same-length-2 Inv-loop μ-loop
-same-length-2 c = writing-long (c .before .before .before .before .before .before .before .before .before .before .before .loop .inv)
+same-length-2 c = lining.writing-long (c .before .before .before .before .before .before .before .before .before .before .before .before .loop .inv .0)
 
 returns-2 : tie.Need-returns-2 Inv-loop μ-loop
 returns-2 c =
     let u = c .before .before in
-    let e = u .before .before .before .before .before in
+    let e = u .before .before .before .before .before .before in
     let w = e .before in
-    writing-not-applied (w .before .before .before .loop .inv) (w .wide16 .result) (w .wide16 .ensures ∙ w .before .action-of .ensures) (inside (w .before .before)) (e .if1 .left) (u .take-turn .ensures) (not-true _ (c .if2 .taken))
+    lining.writing-not-applied (w .before .before .before .loop .inv .0) (w .wide16 .result) (w .wide16 .ensures ∙ w .before .action-of .ensures)
+    (inside (w .before .before)) (e .if1 .left) (u .take-priced .ensures .0) (not-true _ (c .if2 .taken))
 
 put-step-line-requires : tie.Need-put-step-line-requires Inv-loop μ-loop
 put-step-line-requires c κs =
     let u = c .before .before .before .before in
-    let e = u .before .before .before .before .before in
+    let e = u .before .before .before .before .before .before in
     let w = e .before in
     let a = w .before .before .before in
     let s = a .before .before .before in
-    let h = stands-after (a .loop .inv .lined .stands) (e .if1 .left) (u .take-turn .ensures) .standing .shaped in
-    (h .variablesFew, h .valuesLong, writing-room (a .loop .inv) (w .wide16 .result) (w .wide16 .ensures ∙ w .before .action-of .ensures) (inside (w .before .before)) (e .if1 .left) (u .take-turn .ensures) (not-false _ (c .before .before .if2 .left)) (s .pre .0) (s .pre .1))
+    let k = w .wide16 .result in
+    let is = w .wide16 .ensures ∙ w .before .action-of .ensures in
+    let t = u .take-priced .ensures .0 in
+    let f = not-false _ (c .before .before .if2 .left) in (
+      s .pre .0 .usables .variablesFew,
+      lining.writing-reached (a .loop .inv .0) k is (inside (w .before .before)) (e .if1 .left) t f (s .pre .0 .usables) .valuesLong,
+      lining.writing-room (a .loop .inv .0) k is (inside (w .before .before)) (e .if1 .left) t f (s .pre .1),
+    )
 
 add-i : tie.Need-add-i Inv-loop μ-loop
 add-i c = search (needs, arith)
@@ -85,15 +110,21 @@ loop-less c = omega arith
 loop-again : tie.Need-loop-again Inv-loop μ-loop
 loop-again c =
     let u = c .before .before .before .before .before .before .before in
-    let e = u .before .before .before .before .before in
+    let e = u .before .before .before .before .before .before in
     let w = e .before in
-    writing-next (w .before .before .before .loop .inv) (w .wide16 .result) (w .wide16 .ensures ∙ w .before .action-of .ensures) (inside (w .before .before)) (e .if1 .left) (u .take-turn .ensures) (not-false _ (c .before .before .before .before .before .if2 .left)) (c .before .before .put-step-line .ensures)
+    let a = w .before .before .before in
+    let s = a .before .before .before in (
+      lining.writing-next (a .loop .inv .0) (w .wide16 .result) (w .wide16 .ensures ∙ w .before .action-of .ensures) (inside (w .before .before))
+          (e .if1 .left) (u .take-priced .ensures .0) (not-false _ (c .before .before .before .before .before .if2 .left)) (s .pre .0 .usables)
+          (c .before .before .put-step-line .ensures),
+      u .take-priced .ensures .1,
+    )
 
 same-length-3 : tie.Need-same-length-3 Inv-loop μ-loop
-same-length-3 c = writing-long (c .before .loop .inv)
+same-length-3 c = lining.writing-long (c .before .loop .inv .0)
 
 returns-3 : tie.Need-returns-3 Inv-loop μ-loop
-returns-3 c = let s = c .before .before .before .before in writing-over (c .before .loop .inv) (omega (arith, c .loop-test .left, s .pre .0 .counted))
+returns-3 c = let s = c .before .before .before .before in lining.writing-over (c .before .loop .inv .0) (omega (arith, c .loop-test .left, s .pre .0 .counted))
 
 pub put-lines-spec : {M : Type 1} → statement M
 put-lines-spec =
@@ -106,11 +137,11 @@ put-lines-spec =
     wide16-requires
     same-length
     returns
-    mul-take-turn
-    shared-slice-element-take-turn
-    mul-take-turn-2
-    shared-slice-element-take-turn-2
-    take-turn-requires
+    mul-take-priced
+    shared-slice-element-take-priced
+    mul-take-priced-2
+    shared-slice-element-take-priced-2
+    take-priced-requires
     same-length-2
     returns-2
     put-step-line-requires

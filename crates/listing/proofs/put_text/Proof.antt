@@ -2,12 +2,11 @@
 use mathlib.Core.Path.{_≡_, refl, sym, _∙_}
 use Prim.Native.Nat.{ℕ, _-_}
 use native.Mathlib.Omega.{arith}
-use mathlib.Core.List.{List}
+use mathlib.Core.List.{List, flatMap}
 use lib.ListN.{length, getD, take}
 use lib.Seq.{take-all}
-use Rattle.lists.specs.Each.{flat}
 use Rattle.lists.specs.Writing.{Room}
-use Rattle.lists.proofs.Each.{single, flat-single}
+use Rattle.lists.proofs.Each.{single, flatMap-single}
 use Rattle.lists.proofs.Loops.{there-all}
 use Rattle.lists.proofs.Writing.{room-as, wrote-as}
 use Rattle.lists.proofs.WritingLoops.{Going, going-start, going-room, going-next, going-end, going-long}
@@ -22,8 +21,8 @@ Inv-loop out₀ at text place₀ i₀ out place i = Going single (length text) t
 abbrev μ-loop : tie.MeasureT-loop
 μ-loop out₀ at text place₀ i₀ out place i = length text - i
 
-bytes-are : (xs : List ℕ) → flat single (take (length xs) xs) ≡ xs
-bytes-are xs = flat-single _ ∙ take-all (length xs) xs (omega arith)
+bytes-are : (xs : List ℕ) → flatMap single (take (length xs) xs) ≡ xs
+bytes-are xs = flatMap-single _ ∙ take-all (length xs) xs (omega arith)
 
 -- the byte that a turn writes has room
 fits : (c : tie.In-loop Inv-loop μ-loop) → Room (c .before .loop .out) (c .before .loop .place) (single (getD (now (c .before .before .args .text)) (c .before .loop .i) 0))

@@ -5,7 +5,7 @@ use native.Mathlib.Omega.{arith}
 use borrow.Author.Needs.{needs}
 use lib.ListN.{length, getD}
 use Rattle.lists.specs.Writing.{Room}
-use Rattle.lists.proofs.Each.{single, flat-single}
+use Rattle.lists.proofs.Each.{single, flatMap-single}
 use Rattle.lists.proofs.Loops.{there-all}
 use Rattle.lists.proofs.Writing.{room-as, wrote-as}
 use Rattle.lists.proofs.WritingLoops.{Going, going-start, going-room, going-next, going-end, going-long}
@@ -20,7 +20,7 @@ abbrev μ-loop : tie.MeasureT-loop
 
 -- the byte that a turn writes has room
 fits : (c : tie.In-loop Inv-loop μ-loop) → Room (c .before .loop .out) (c .before .loop .place) (single (getD (c .before .before .args .t3) (c .before .loop .i) 0))
-fits c = going-room 0 (c .before .loop .inv) (c .loop-test .taken) (room-as (sym (flat-single _)) (c .before .before .pre .1))
+fits c = going-room 0 (c .before .loop .inv) (c .loop-test .taken) (room-as (sym (flatMap-single _)) (c .before .before .pre .1))
 
 loop-holds : tie.Need-loop-holds Inv-loop μ-loop
 loop-holds c =
@@ -49,7 +49,7 @@ same-length : tie.Need-same-length Inv-loop μ-loop
 same-length c = going-long (c .before .loop .inv)
 
 returns : tie.Need-returns Inv-loop μ-loop
-returns c = wrote-as (flat-single _) (going-end (c .before .loop .inv) (c .loop-test .left))
+returns c = wrote-as (flatMap-single _) (going-end (c .before .loop .inv) (c .loop-test .left))
 
 pub put-bytes-spec : {M : Type 1} → statement M
 put-bytes-spec =

@@ -13,7 +13,7 @@ use Rattle.lists.proofs.Writing.{step, done, room, room-as, wrote-as}
 use Rattle.model.specs.Limits.{sourceLimits}
 use Rattle.model.specs.TaskOk.{EffectOk}
 use Rattle.actions.specs.Views.{effectIs}
-use Rattle.writing.specs.Parts.{actionBytes}
+use Rattle.writing.specs.Parts.{restrictedActionBytes}
 use Rattle.macros.specs.Shapes.{lowerOf, upperOf}
 use Rattle.macros.specs.Stages.{targetIs}
 use Rattle.macros.proofs.Stages.{room-of-terms, stages-with, stages-small}
@@ -31,7 +31,7 @@ opening-action-requires : tie.Need-opening-action-requires
 opening-action-requires c κs = (c .before .before .pre .0 .0, c .before .before .pre .0 .1)
 
 put-action-requires : tie.Need-put-action-requires
-put-action-requires c κs = (first-writable _ _ (c .opening-action .result) (c .before .before .before .pre .0 .3) (c .opening-action .ensures), room-as (ap actionBytes (sym (c .opening-action .ensures))) (room (c .before .before .before .pre .1) (macro-begun _ _ (c .before .before .before .args .shape) (c .before .before .before .args .from) (c .before .before .before .args .action))))
+put-action-requires c κs = (first-writable _ _ (c .opening-action .result) (c .before .before .before .pre .0 .3) (c .opening-action .ensures), room-as (ap restrictedActionBytes (sym (c .opening-action .ensures))) (room (c .before .before .before .pre .1) (macro-begun _ _ (c .before .before .before .args .shape) (c .before .before .before .args .from) (c .before .before .before .args .action))))
 
 lesser-requires : tie.Need-lesser-requires
 lesser-requires c κs = search needs
@@ -75,7 +75,7 @@ put-stages-requires c κs =
       ),
       (
         (c .before .before .before .stage-count .ensures .0 (lowerOf h) (upperOf h) ∙ ap length (sym with), c .before .before .before .stage-count .ensures .1, q .bounded .variablesFew, c .before .before .before .before .before .before .before .before .before .before .before .before .before .before .before .pre .0 .1, c .before .before .before .before .before .before .before .before .before .before .before .before .before .before .before .pre .0 .2),
-        room-as (ap (stagesBytes (h .variables) (h .modes) (c .before .before .before .before .before .before .before .before .before .before .before .before .before .before .before .args .from)) (sym with)) (room (c .before .before .before .before .before .before .before .before .before .before .before .before .before .before .before .pre .1) (step begun (wrote-as (ap actionBytes (c .before .before .before .before .before .before .before .before .before .before .before .before .opening-action .ensures)) (c .before .before .before .before .before .before .before .before .before .before .before .put-action .ensures)))),
+        room-as (ap (stagesBytes (h .variables) (h .modes) (c .before .before .before .before .before .before .before .before .before .before .before .before .before .before .before .args .from)) (sym with)) (room (c .before .before .before .before .before .before .before .before .before .before .before .before .before .before .before .pre .1) (step begun (wrote-as (ap restrictedActionBytes (c .before .before .before .before .before .before .before .before .before .before .before .before .opening-action .ensures)) (c .before .before .before .before .before .before .before .before .before .before .before .put-action .ensures)))),
       ),
     )
 
@@ -94,7 +94,7 @@ returns c =
     let u = toZ-ofZ up ∙ c .before .before .before .before .before .before .before .upper-of .ensures ∙ ap (upperOf h) (c .before .before .before .before .before .before .before .before .before .target-of .ensures) in
     let with = stages-with h a k _ _ same l u in
     let begun = macro-begun _ _ h (c .before .before .before .before .before .before .before .before .before .before .before .before .before .before .before .before .before .before .args .from) a in
-    done (step (step begun (wrote-as (ap actionBytes (c .before .before .before .before .before .before .before .before .before .before .before .before .before .before .before .opening-action .ensures)) (c .before .before .before .before .before .before .before .before .before .before .before .before .before .before .put-action .ensures))) (wrote-as (ap (stagesBytes (h .variables) (h .modes) (c .before .before .before .before .before .before .before .before .before .before .before .before .before .before .before .before .before .before .args .from)) with) (c .before .before .put-stages .ensures)))
+    done (step (step begun (wrote-as (ap restrictedActionBytes (c .before .before .before .before .before .before .before .before .before .before .before .before .before .before .before .opening-action .ensures)) (c .before .before .before .before .before .before .before .before .before .before .before .before .before .before .put-action .ensures))) (wrote-as (ap (stagesBytes (h .variables) (h .modes) (c .before .before .before .before .before .before .before .before .before .before .before .before .before .before .before .before .before .before .args .from)) with) (c .before .before .put-stages .ensures)))
 
 pub put-macro-spec : {M : Type 1} → statement M
 put-macro-spec =

@@ -6,7 +6,7 @@ use lib.ListN.{drop}
 use denote.Ref.{now}
 use Rattle.model.specs.Plans.{planNumbers}
 use Rattle.planbytes.specs.Agreeing.{Passed}
-use Rattle.planbytes.proofs.Agreeing.{number-at, passed-next, passed-stop, passed-end}
+use Rattle.planbytes.proofs.Agreeing.{step-at, passed-next, passed-stop, passed-end}
 use Rattle.planbytes.proofs.matches_ones.Statement.{statement}
 use Rattle.planbytes.proofs.matches_ones.Tie as tie
 
@@ -19,19 +19,19 @@ abbrev μ-loop : tie.MeasureT-loop
 loop-holds : tie.Need-loop-holds Inv-loop μ-loop
 loop-holds c = c .before .pre .1
 
-add-number-at : tie.Need-add-number-at Inv-loop μ-loop
-add-number-at c = omega arith
+add-step-at : tie.Need-add-step-at Inv-loop μ-loop
+add-step-at c = omega arith
 
-mul-number-at : tie.Need-mul-number-at Inv-loop μ-loop
-mul-number-at c = omega arith
+mul-step-at : tie.Need-mul-step-at Inv-loop μ-loop
+mul-step-at c = omega arith
 
-number-at-requires : tie.Need-number-at-requires Inv-loop μ-loop
-number-at-requires c κs = omega arith
+step-at-requires : tie.Need-step-at-requires Inv-loop μ-loop
+step-at-requires c κs = omega arith
 
 returns : tie.Need-returns Inv-loop μ-loop
 returns c =
     let s = c .before .before .before .before .before in
-    passed-stop (c .before .before .before .loop .inv) (c .before .before .loop-test .taken) (λ e. c .if1 .taken (e ∙ number-at (now (s .args .plan)) (s .args .at) (c .before .before .before .loop .i) (omega (arith, s .pre .0, c .before .before .loop-test .taken)) ∙ sym (c .before .number-at .ensures .0)))
+    passed-stop (c .before .before .before .loop .inv) (c .before .before .loop-test .taken) (λ e. c .if1 .taken (e ∙ step-at (now (s .args .plan)) (s .args .at) (c .before .before .before .loop .i) (omega (arith, s .pre .0, c .before .before .loop-test .taken)) ∙ sym (c .before .step-at .ensures .0)))
 
 add-i : tie.Need-add-i Inv-loop μ-loop
 add-i c = omega arith
@@ -42,7 +42,7 @@ loop-less c = omega arith
 loop-again : tie.Need-loop-again Inv-loop μ-loop
 loop-again c =
     let s = c .before .before .before .before .before in
-    passed-next (c .before .before .before .loop .inv) (c .before .before .loop-test .taken) (number-at (now (s .args .plan)) (s .args .at) (c .before .before .before .loop .i) (omega (arith, s .pre .0, c .before .before .loop-test .taken)) ∙ sym (c .before .number-at .ensures .0) ∙ sym (c .if1 .left))
+    passed-next (c .before .before .before .loop .inv) (c .before .before .loop-test .taken) (step-at (now (s .args .plan)) (s .args .at) (c .before .before .before .loop .i) (omega (arith, s .pre .0, c .before .before .loop-test .taken)) ∙ sym (c .before .step-at .ensures .0) ∙ sym (c .if1 .left))
 
 returns-2 : tie.Need-returns-2 Inv-loop μ-loop
 returns-2 c = passed-end (c .before .loop .inv) (c .loop-test .left)
@@ -54,9 +54,9 @@ matches-ones-spec =
     Inv-loop
     μ-loop
     loop-holds
-    add-number-at
-    mul-number-at
-    number-at-requires
+    add-step-at
+    mul-step-at
+    step-at-requires
     returns
     add-i
     loop-less

@@ -1,11 +1,13 @@
--- `prepared::prepare` meets its contract: each turn makes the rows of one action more. Assumes nothing.
-use mathlib.Core.Path.{refl}
+-- `prepared::prepare` meets its contract: each turn makes the rows of one action more; the goal's come last. Assumes nothing.
+use mathlib.Core.Path.{refl, sym, _∙_}
+use lib.ListN.{length-set}
+use Rattle.integers.specs.Numbers.{Bytes}
 use borrow.Author.Needs.{needs}
 use native.Mathlib.Omega.{arith}
 use Prim.Native.Nat.{_-_}
 use denote.Ref.{now}
 use Rattle.source.proofs.Judging.{bytes-of, few-actions}
-use Rattle.prepared.proofs.Preparing.{Made, action-fits, placed, begins, over, one-more}
+use Rattle.prepared.proofs.Preparing.{Made, action-fits, placed, begins, goal-fits, over, one-more}
 use Rattle.prepared.proofs.prepare.Statement.{statement}
 use Rattle.prepared.proofs.prepare.Tie as tie
 
@@ -36,8 +38,8 @@ put-row-requires c κs = let s = c .before .before .before .before .before .befo
     let bytes = bytes-of (now (s .args .file)) (λ i. omega (arith, c .before .before .before .before .before .before .before .before .before .shared-slice-known .given i)) in
     (refl, refl, action-fits (now (s .args .file)) bytes (s .args .count) (s .args .n) (now (s .args .lower)) (now (s .args .upper)) (s .args .m) (now (s .args .sizes)) (s .pre .0) (s .pre .1) (c .before .before .before .before .before .loop .k) (c .before .before .before .before .loop-test .taken) (c .before .before .decode-placed .result) (c .before .before .decode-placed .ensures))
 
-mul-t24 : tie.Need-mul-t24 Inv-loop μ-loop
-mul-t24 c = let s = c .before .before .before .before .before .before .before .before .before .before .before in
+mul-t27 : tie.Need-mul-t27 Inv-loop μ-loop
+mul-t27 c = let s = c .before .before .before .before .before .before .before .before .before .before .before in
     let bytes = bytes-of (now (s .args .file)) (λ i. omega (arith, c .before .before .before .before .before .before .before .before .before .before .shared-slice-known .given i)) in
     let f = few-actions (now (s .args .file)) (s .args .count) bytes (s .pre .0) in
     omega arith
@@ -48,8 +50,8 @@ slice-set-from-marks c = let s = c .before .before .before .before .before .befo
     let f = few-actions (now (s .args .file)) (s .args .count) bytes (s .pre .0) in
     omega arith
 
-mul-t24-2 : tie.Need-mul-t24-2 Inv-loop μ-loop
-mul-t24-2 c = let s = c .before .before .before .before .before .before .before .before .before .before .before in
+mul-t27-2 : tie.Need-mul-t27-2 Inv-loop μ-loop
+mul-t27-2 c = let s = c .before .before .before .before .before .before .before .before .before .before .before in
     let bytes = bytes-of (now (s .args .file)) (λ i. omega (arith, c .before .before .before .before .before .before .before .before .before .before .shared-slice-known .given i)) in
     let f = few-actions (now (s .args .file)) (s .args .count) bytes (s .pre .0) in
     omega arith
@@ -71,16 +73,54 @@ loop-again c = let s = c .before .before .before .before .before .before .before
     let bytes = bytes-of (now (s .args .file)) (λ i. omega (arith, c .before .before .before .before .before .before .before .before .before .before .shared-slice-known .given i)) in
     one-more (now (s .args .file)) bytes (s .args .count) (s .args .n) (now (s .args .lower)) (now (s .args .upper)) (s .args .m) (now (s .args .sizes)) (s .pre .0) (s .pre .1) (c .before .before .before .before .before .before .loop .k) (c .before .before .before .before .before .before .loop .marks) (c .before .before .before .before .before .before .loop .numbers) (c .before .before .before .before .before .before .loop .inv) (c .before .before .before .before .before .loop-test .taken) (c .before .before .before .decode-placed .result) (c .before .before .before .decode-placed .ensures) _ _ (c .put-row .ensures)
 
+-- the loop is over
+abbrev startOf : tie.After-loop Inv-loop μ-loop → tie.Start Inv-loop μ-loop
+startOf e = e .before .before .before .before .before .before
+
+bytesOf : (e : tie.After-loop Inv-loop μ-loop) → Bytes (now (startOf e .args .file))
+bytesOf e = bytes-of (now (startOf e .args .file)) (λ i. omega (arith, e .before .before .before .before .before .shared-slice-known .given i))
+
+goal-of-requires : tie.Need-goal-of-requires Inv-loop μ-loop
+goal-of-requires c κs = search needs
+
+put-row-requires-2 : tie.Need-put-row-requires-2 Inv-loop μ-loop
+put-row-requires-2 c κs = let e = c .before .before .before in
+    let s = startOf e in
+    (refl, refl, goal-fits (now (s .args .file)) (bytesOf e) (s .args .count) (s .args .n) (now (s .args .lower)) (now (s .args .upper)) (s .args .m) (now (s .args .sizes)) (s .pre .0) (s .pre .1) (c .before .before .goal-of .result) (c .before .before .goal-of .ensures))
+
+mul-t34 : tie.Need-mul-t34 Inv-loop μ-loop
+mul-t34 c = let e = c .before .before .before .before in
+    let f = few-actions (now (startOf e .args .file)) (startOf e .args .count) (bytesOf e) (startOf e .pre .0) in
+    omega arith
+
+slice-set-from-marks-2 : tie.Need-slice-set-from-marks-2 Inv-loop μ-loop
+slice-set-from-marks-2 c = let e = c .before .before .before .before in
+    let f = few-actions (now (startOf e .args .file)) (startOf e .args .count) (bytesOf e) (startOf e .pre .0) in
+    omega (arith, e .before .loop .inv .marksLong)
+
+mul-t34-2 : tie.Need-mul-t34-2 Inv-loop μ-loop
+mul-t34-2 c = let e = c .before .before .before .before in
+    let f = few-actions (now (startOf e .args .file)) (startOf e .args .count) (bytesOf e) (startOf e .pre .0) in
+    omega arith
+
+slice-set-from-numbers-2 : tie.Need-slice-set-from-numbers-2 Inv-loop μ-loop
+slice-set-from-numbers-2 c = let e = c .before .before .before .before in
+    let f = few-actions (now (startOf e .args .file)) (startOf e .args .count) (bytesOf e) (startOf e .pre .0) in
+    omega (arith, e .before .loop .inv .numbersLong)
+
 same-length : tie.Need-same-length Inv-loop μ-loop
-same-length c = search needs
+same-length c = let e = c .before .before .before .before in
+    length-set (e .before .loop .marks) (startOf e .args .count) _ ∙ e .before .loop .inv .marksLong ∙ sym (startOf e .pre .2)
 
 same-length-2 : tie.Need-same-length-2 Inv-loop μ-loop
-same-length-2 c = search needs
+same-length-2 c = let e = c .before .before .before .before in
+    length-set (e .before .loop .numbers) (startOf e .args .count) _ ∙ e .before .loop .inv .numbersLong ∙ sym (startOf e .pre .3)
 
 returns : tie.Need-returns Inv-loop μ-loop
-returns c = let s = c .before .before .before .before .before .before in
-    let bytes = bytes-of (now (s .args .file)) (λ i. omega (arith, c .before .before .before .before .before .shared-slice-known .given i)) in
-    over (now (s .args .file)) bytes (s .args .count) (s .args .n) (now (s .args .lower)) (now (s .args .upper)) (s .args .m) (now (s .args .sizes)) (s .pre .0) (s .pre .1) (c .before .loop .k) (c .before .loop .marks) (c .before .loop .numbers) (c .before .loop .inv) (c .loop-test .left)
+returns c = let e = c .before .before .before .before in
+    let s = startOf e in
+    let g = c .before .before .before .goal-of in
+    over (now (s .args .file)) (bytesOf e) (s .args .count) (s .args .n) (now (s .args .lower)) (now (s .args .upper)) (s .args .m) (now (s .args .sizes)) (s .pre .0) (s .pre .1) (g .result) (g .ensures) (e .before .loop .k) (e .before .loop .marks) (e .before .loop .numbers) (e .before .loop .inv) (e .loop-test .left) _ _ (c .put-row2 .ensures)
 
 pub prepare-spec : {M : Type 1} → statement M
 prepare-spec =
@@ -93,13 +133,19 @@ prepare-spec =
     loop-holds
     decode-placed-requires
     put-row-requires
-    mul-t24
+    mul-t27
     slice-set-from-marks
-    mul-t24-2
+    mul-t27-2
     slice-set-from-numbers
     add-k
     loop-less
     loop-again
+    goal-of-requires
+    put-row-requires-2
+    mul-t34
+    slice-set-from-marks-2
+    mul-t34-2
+    slice-set-from-numbers-2
     same-length
     same-length-2
     returns)

@@ -11,7 +11,7 @@ put-ranges-requires : tie.Need-put-ranges-requires
 put-ranges-requires c κs = let s = c .before .before .before .before .before in (ap length (s .pre .1) ∙ length-replicate 24 (pos 0), ranges-ask (s .pre .2))
 
 put-modes-requires : tie.Need-put-modes-requires
-put-modes-requires c κs = let s = c .before .before .before .before .before .before .before .before .before .before .before .before in (ap length (s .pre .0) ∙ length-replicate {A = ℕ} 32 0, s .pre .2 .sizesFit, conditions-ask (s .pre .2), effects-ask (s .pre .2))
+put-modes-requires c κs = let s = c .before .before .before .before .before .before .before .before .before .before .before .before in (ap length (s .pre .0) ∙ length-replicate {A = ℕ} 24 0, s .pre .2 .sizesFit, conditions-ask (s .pre .2), effects-ask (s .pre .2))
 
 put-effect-requires : tie.Need-put-effect-requires
 put-effect-requires c κs = let s = c .before .before .before .before .before .before .before .before .before .before .before .before .before .before .before .before in (s .pre .2 .few, blank (s .pre .0) (s .pre .1) (c .before .before .before .before .before .before .before .before .before .before .put-ranges .ensures) (c .before .before .before .put-modes .ensures), s .pre .2 .ok .effectOk)

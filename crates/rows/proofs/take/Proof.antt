@@ -1,36 +1,40 @@
--- `rows::take` meets its contract: the tests of the rows, then that of the value. Assumes nothing.
-use native.Mathlib.Omega.{arith}
-use mathlib.Core.Path.{sym, _∙_}
+-- `rows::take` meets its contract: the tests of the rows, then the rest of the step. Assumes nothing.
+use mathlib.Core.Path.{_≡_, refl, sym, _∙_}
+use mathlib.Core.Bool.{true}
 use denote.Ref.{now}
+use mir.Facts.{toZ-ofZ}
+use mir.Syntax.{w64}
+use mir.Val.{SFits}
 use borrow.Author.Tests.{not-true, not-false}
-use Rattle.source.proofs.Trying.{chosen-first, chosen-second}
-use Rattle.rows.proofs.Taking.{not-held, out-of-bounds, taken}
+use borrow.Author.Needs.{needs}
+use Rattle.lists.proofs.Loops.{and-right}
+use Rattle.rows.specs.Row.{modesIn, held}
+use Rattle.rows.proofs.Taking.{not-held, behind-the-test, read-when-held}
 use Rattle.rows.proofs.take.Statement.{statement}
 use Rattle.rows.proofs.take.Tie as tie
 
 holds-requires : tie.Need-holds-requires
-holds-requires c κs = let s = c .before .before in (s .pre .0 .variablesFew, s .pre .0 .modesFew)
+holds-requires c κs = search needs
 
 returns : tie.Need-returns
-returns c = let s = c .before .before .before .before in not-held (now (s .args .values)) (now (s .args .modes)) (s .pre .0) (sym (c .before .holds .ensures) ∙ not-true _ (c .if1 .taken))
+returns c = not-held (sym (c .before .holds .ensures) ∙ not-true _ (c .if1 .taken))
 
-settle-requires : tie.Need-settle-requires
-settle-requires c κs = let s = c .before .before .before .before .before in record { variablesFew = s .pre .0 .variablesFew; near = s .pre .0 .near; usable = s .pre .1 }
+-- the rows' test passed
+passed : (c : tie.Else1) → let s = c .before .before .before .before in held (s .args .n) (s .args .m) (now (s .args .marks)) (now (s .args .numbers)) (now (s .args .values)) (now (s .args .modes)) ≡ true
+passed c = sym (c .before .holds .ensures) ∙ not-false _ (c .if1 .left)
+
+result-of-requires : tie.Need-result-of-requires
+result-of-requires c κs = let s = c .before .before .before .before .before in read-when-held (s .args .m) (now (s .args .values)) (now (s .args .modes)) (s .pre .0) (s .pre .3) (passed (c .before))
+
+finish-requires : tie.Need-finish-requires
+finish-requires c κs =
+    let s = c .before .before .before .before .before .before .before .before in
+    let r : SFits w64 (c .before .before .result-of .result) = search needs in
+    (s .pre .0, s .pre .1, s .pre .2, s .pre .3 .keeps, rw (toZ-ofZ r) (c .before .before .result-of .ensures))
 
 returns-2 : tie.Need-returns-2
-returns-2 c = let s = c .before .before .before .before .before .before .before in
-    let w = sym (c .before .settle .ensures .0) ∙ not-true _ (c .if2 .taken) in
-    out-of-bounds (now (s .args .values)) (now (s .args .modes)) (s .pre .0) w (chosen-second _ _ _ (c .before .settle .ensures .1) w)
-
-set-modes-requires : tie.Need-set-modes-requires
-set-modes-requires c κs = let s = c .before .before .before .before .before .before .before .before in (s .pre .0 .modesFew, omega (arith, s .pre .0 .modesLong, s .pre .0 .modesFew), s .pre .1 .keeps)
-
-returns-3 : tie.Need-returns-3
-returns-3 c = let s = c .before .before .before .before .before .before .before .before .before in
-    let w = sym (c .before .before .before .settle .ensures .0) ∙ not-false _ (c .before .before .if2 .left) in
-    taken (now (s .args .values)) (now (s .args .modes)) (s .pre .0) (sym (c .before .before .before .before .before .before .holds .ensures) ∙ not-false _ (c .before .before .before .before .before .if1 .left)) w (chosen-first _ _ _ (c .before .before .before .settle .ensures .1) w) (c .set-modes .ensures)
+returns-2 c =
+    behind-the-test (passed (c .before .before .before .before .before)) (c .finish .ensures)
 
 pub take-spec : {M : Type 1} → statement M
-take-spec =
-    tie.close
-    (tie.spec holds-requires returns settle-requires returns-2 set-modes-requires returns-3)
+take-spec = tie.close (tie.spec holds-requires returns result-of-requires finish-requires returns-2)

@@ -6,7 +6,7 @@ use Rattle.ruphenqo.proofs.ruphenqo_expand.Statement.{statement}
 use Rattle.ruphenqo.proofs.ruphenqo_expand.Tie as tie
 use Rattle.ruphenqo.proofs.ruphenqo_expand.Reads as reads
 use Rattle.ruphenqo.proofs.ruphenqo_expand.Lts as lts
-use Rattle.plans.proofs.expand.Reads as expand-reads
+use Rattle.plan_expand.proofs.expand.Reads as expand-reads
 use Rattle.ruphenqo.proofs.tell_written.Reads as tell-written-reads
 
 expand-requires : tie.Need-expand-requires

@@ -1,13 +1,13 @@
 -- `ruphenqo::ruphenqo_judge_source` meets its contract, case by case of the verdict. Assumes nothing.
 use mathlib.Core.Path.{refl, ap}
-use Rattle.source_judge.specs.Answers.{verdictIs, judgementOf, zeros}
+use Rattle.source_walk.specs.Answers.{verdictIs, judgementOf, zeros}
 use Rattle.ruphenqo.proofs.Telling.{told-judged-refusal, told-judged-valid}
 use borrow.Author.Needs.{needs}
 use Rattle.ruphenqo.proofs.ruphenqo_judge_source.Statement.{statement}
 use Rattle.ruphenqo.proofs.ruphenqo_judge_source.Tie as tie
 use Rattle.ruphenqo.proofs.ruphenqo_judge_source.Reads as reads
 use Rattle.ruphenqo.proofs.ruphenqo_judge_source.Lts as lts
-use Rattle.source_judge.proofs.judge.Reads as judge-reads
+use Rattle.source_walk.proofs.judge.Reads as judge-reads
 
 judge-requires : tie.Need-judge-requires
 judge-requires c κs = search needs

@@ -5,7 +5,7 @@ use Rattle.ruphenqo.proofs.ruphenqo_price_plan.Statement.{statement}
 use Rattle.ruphenqo.proofs.ruphenqo_price_plan.Tie as tie
 use Rattle.ruphenqo.proofs.ruphenqo_price_plan.Reads as reads
 use Rattle.ruphenqo.proofs.ruphenqo_price_plan.Lts as lts
-use Rattle.prices.proofs.price_plan.Reads as price-plan-reads
+use Rattle.source_walk.proofs.price_plan.Reads as price-plan-reads
 use Rattle.ruphenqo.proofs.tell_price.Reads as tell-price-reads
 
 price-plan-requires : tie.Need-price-plan-requires

@@ -5,7 +5,7 @@ use Rattle.ruphenqo.proofs.ruphenqo_price_step.Statement.{statement}
 use Rattle.ruphenqo.proofs.ruphenqo_price_step.Tie as tie
 use Rattle.ruphenqo.proofs.ruphenqo_price_step.Reads as reads
 use Rattle.ruphenqo.proofs.ruphenqo_price_step.Lts as lts
-use Rattle.prices.proofs.price_step.Reads as price-step-reads
+use Rattle.source_state.proofs.price_step.Reads as price-step-reads
 use Rattle.ruphenqo.proofs.tell_price.Reads as tell-price-reads
 
 price-step-requires : tie.Need-price-step-requires

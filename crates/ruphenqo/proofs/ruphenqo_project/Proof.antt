@@ -6,7 +6,7 @@ use Rattle.ruphenqo.proofs.ruphenqo_project.Statement.{statement}
 use Rattle.ruphenqo.proofs.ruphenqo_project.Tie as tie
 use Rattle.ruphenqo.proofs.ruphenqo_project.Reads as reads
 use Rattle.ruphenqo.proofs.ruphenqo_project.Lts as lts
-use Rattle.projection.proofs.project.Reads as project-reads
+use Rattle.plan_project.proofs.project.Reads as project-reads
 use Rattle.ruphenqo.proofs.tell_written.Reads as tell-written-reads
 
 project-requires : tie.Need-project-requires

@@ -1,7 +1,7 @@
 -- `ruphenqo::ruphenqo_step_source` meets its contract, case by case of the verdict. Assumes nothing.
 use mathlib.Core.Path.{refl, sym, ap, _∙_}
-use Rattle.source.specs.Alone.{verdictOver}
-use Rattle.source.specs.Step.{wholeIs}
+use Rattle.source_state.specs.Alone.{verdictOver}
+use Rattle.source_state.specs.Step.{wholeIs}
 use Rattle.ruphenqo.specs.Told.{itself}
 use Rattle.ruphenqo.proofs.Telling.{told-refusal, told-result}
 use borrow.Author.Needs.{needs}
@@ -9,7 +9,7 @@ use Rattle.ruphenqo.proofs.ruphenqo_step_source.Statement.{statement}
 use Rattle.ruphenqo.proofs.ruphenqo_step_source.Tie as tie
 use Rattle.ruphenqo.proofs.ruphenqo_step_source.Reads as reads
 use Rattle.ruphenqo.proofs.ruphenqo_step_source.Lts as lts
-use Rattle.source.proofs.step_alone.Reads as step-alone-reads
+use Rattle.source_state.proofs.step_alone.Reads as step-alone-reads
 
 step-alone-requires : tie.Need-step-alone-requires
 step-alone-requires c κs = search needs

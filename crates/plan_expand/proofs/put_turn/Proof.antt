@@ -1,0 +1,58 @@
+-- `plan_expand::put_turn` meets its contract: the strokes of the step, its numbers written, and the rest of the step. Assumes nothing.
+use mathlib.Core.Path.{_≡_, sym, ap, _∙_}
+use mathlib.Core.List.{List}
+use lib.IntN.{ℤ}
+use denote.Ref.{now}
+use mir.Facts.{toZ-ofZ}
+use mir.Syntax.{w64}
+use mir.Val.{SFits}
+use Rattle.lists.proofs.Writing.{wrote-as, room-as}
+use Rattle.model.specs.Plans.{planBytes}
+use Rattle.rows.specs.Row.{Reads}
+use Rattle.rows.proofs.Taking.{read-when-held}
+use Rattle.plan_strokes.specs.Strokes.{stepNumbers}
+use Rattle.plan_expand.proofs.Writing.{turn-taken}
+use borrow.Author.Needs.{needs}
+use Rattle.plan_expand.proofs.put_turn.Statement.{statement}
+use Rattle.plan_expand.proofs.put_turn.Tie as tie
+
+reads : (s : tie.Start) → Reads (s .args .n) (now (s .args .values)) (now (s .args .marks)) (now (s .args .numbers))
+reads s = read-when-held (s .args .m) (now (s .args .values)) (now (s .args .modes)) (s .pre .0 .1) (s .pre .0 .5) (s .pre .1 .0)
+
+put-strokes-requires : tie.Need-put-strokes-requires
+put-strokes-requires c κs = let s = c .before .before .before in (s .pre .0 .4, reads s)
+
+put-step-requires : tie.Need-put-step-requires
+put-step-requires c κs =
+    let s = c .before .before .before .before .before .before in
+    let l = c .before .before .put-strokes .ensures in
+    ((s .pre .0 .0, l .few, l .long), room-as (ap (λ (zs : List ℤ). planBytes (stepNumbers (s .args .opening) zs)) (sym (l .is))) (s .pre .1 .1))
+
+result-from-requires : tie.Need-result-from-requires
+result-from-requires c κs = (reads (c .before .before .before .before .before .before .before .before .before .before .before), c .before .before .before .before .before .before .before .put-strokes .ensures)
+
+finish-requires : tie.Need-finish-requires
+finish-requires c κs =
+    let s = c .before .before .before .before .before .before .before .before .before .before .before .before .before .before in
+    let r : SFits w64 (c .before .before .result-from .result) = search needs in
+    (s .pre .0 .1, s .pre .0 .2, s .pre .0 .3, s .pre .0 .5 .keeps, rw (toZ-ofZ r) (c .before .before .result-from .ensures))
+
+same-length : tie.Need-same-length
+same-length c = search needs
+
+returns : tie.Need-returns
+returns c =
+    let s = c .before .before .before .before .before .before .before .before .before .before .before .before .before .before .before in
+    let l = c .before .before .before .before .before .before .before .before .before .before .before .put-strokes .ensures in
+    (wrote-as (ap (λ (zs : List ℤ). planBytes (stepNumbers (s .args .opening) zs)) (l .is)) (c .before .before .before .before .before .before .before .before .put-step .ensures), (turn-taken (c .finish .ensures), l .long))
+
+pub put-turn-spec : {M : Type 1} → statement M
+put-turn-spec =
+    tie.close
+    (tie.spec
+    put-strokes-requires
+    put-step-requires
+    result-from-requires
+    finish-requires
+    same-length
+    returns)

@@ -1,0 +1,9 @@
+pub mod Advancing
+pub mod Agreeing
+pub mod Filling
+pub mod Going
+pub mod Numbers
+pub mod Opening
+pub mod Projecting
+pub mod Putting
+pub mod Turn

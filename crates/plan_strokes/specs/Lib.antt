@@ -1,0 +1,3 @@
+pub mod Made
+pub mod Opening
+pub mod Strokes

@@ -1,3 +1,0 @@
-pub mod Expanding
-pub mod Lengths
-pub mod Singles

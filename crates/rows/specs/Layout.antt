@@ -1,0 +1,68 @@
+-- Where the numbers of an action's two rows stand. The names are those of the code.
+--     marks     of mode i: its least value at i, its most at TOP + i, 1 at KEEP + i where it stays and 0 where it is set, at PUT + i
+--               what it is set to (0 where it stays); of the effect: its kind, its target, its operand, the count of its terms, their variables
+--     numbers   of variable i: its least value at i, its most at MOST + i; of the effect: its constant, the weights of its terms (0 where
+--               there is none), the bounds of its target
+-- Assumes nothing.
+use Prim.Native.Nat.{ℕ}
+
+-- ---- how long the two rows are
+abbrev pub MARKS : ℕ
+MARKS = 24
+
+abbrev pub NUMBERS : ℕ
+NUMBERS = 24
+
+-- ---- in the marks
+abbrev pub TOP : ℕ
+TOP = 4
+
+abbrev pub KEEP : ℕ
+KEEP = 8
+
+abbrev pub PUT : ℕ
+PUT = 12
+
+abbrev pub KIND : ℕ
+KIND = 16
+
+abbrev pub TARGET : ℕ
+TARGET = 17
+
+abbrev pub OPERAND : ℕ
+OPERAND = 18
+
+abbrev pub COUNT : ℕ
+COUNT = 19
+
+abbrev pub TERM : ℕ
+TERM = 20
+
+-- ---- in the numbers
+abbrev pub MOST : ℕ
+MOST = 8
+
+abbrev pub CONSTANT : ℕ
+CONSTANT = 16
+
+abbrev pub WEIGHT : ℕ
+WEIGHT = 17
+
+abbrev pub LOWER : ℕ
+LOWER = 21
+
+abbrev pub UPPER : ℕ
+UPPER = 22
+
+-- ---- the kinds of effect; any number past these is a residue
+abbrev pub NONE : ℕ
+NONE = 0
+
+abbrev pub ADD : ℕ
+ADD = 1
+
+abbrev pub LINEAR : ℕ
+LINEAR = 2
+
+abbrev pub QUOTIENT : ℕ
+QUOTIENT = 3

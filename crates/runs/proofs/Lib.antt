@@ -1,5 +1,0 @@
-pub mod Making
-pub mod Matching
-pub mod Sizes
-pub mod Walks
-pub mod Writing

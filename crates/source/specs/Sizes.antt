@@ -1,0 +1,12 @@
+-- How many variables and modes the arrays of a source state have room for, and how many actions a source task has at most. The names are those of the code.
+-- Assumes nothing.
+use Prim.Native.Nat.{ℕ}
+
+abbrev pub VARIABLES : ℕ
+VARIABLES = 8
+
+abbrev pub MODES : ℕ
+MODES = 4
+
+abbrev pub ACTIONS : ℕ
+ACTIONS = 32

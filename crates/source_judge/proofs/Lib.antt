@@ -1,3 +1,0 @@
-pub mod Judging
-pub mod Opening
-pub mod Running

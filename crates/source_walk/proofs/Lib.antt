@@ -1,0 +1,5 @@
+pub mod Judging
+pub mod Loop
+pub mod Opening
+pub mod Turns
+pub mod Walking
