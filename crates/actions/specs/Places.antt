@@ -58,9 +58,13 @@ pub record BytesOfSome (l : Limits) (file bytes : List ℕ) : Type 0 where
 abbrev pub stepPlace : ℕ → ℕ → ℕ
 stepPlace number place = cond (eqb number 11) 0 place
 
--- the goal of a file with so many actions stands from its G, behind them, up to its Z, which is the last byte
+-- the goal of a file stands from its G up to its Z, which is the last byte
+abbrev pub goalFrom : List ℕ → ℕ → List ℕ
+goalFrom file place = partOf file place (length file - 1)
+
+-- in a file with so many actions its G is behind them
 abbrev pub goalPart : List ℕ → ℕ → List ℕ
-goalPart file actions = partOf file (edgeOf file actions) (length file - 1)
+goalPart file actions = goalFrom file (edgeOf file actions)
 
 -- the offset behind the first command of a run of bytes, or 0 where there is none
 abbrev pub bodyStart : List ℕ → ℕ

@@ -17,7 +17,7 @@ ghost use Rattle.model.specs.Decoding.{conditionsOf, modeConditionsOf, modeEffe
 ghost use Rattle.model.specs.ActionBytes.{edgeOf, ofVerdict, actionPlace, decodeAction};
 ghost use Rattle.model.specs.Limits.{sourceLimits, restrictedLimits};
 ghost use Rattle.tasks.specs.Views.{verdictIs};
-ghost use Rattle.actions.specs.Places.{edgesOf, Found, bodyStart, partOf, placedIs, bytesTold, stepPlace, goalPart};
+ghost use Rattle.actions.specs.Places.{edgesOf, Found, bodyStart, partOf, placedIs, bytesTold, stepPlace, goalFrom, goalPart};
 ghost use Rattle.actions.specs.Kept.{KeepsConditions, KeepsPairs, FillsConditions, FillsPairs};
 ghost use Rattle.actions.specs.Numeric.{nothing, withEffect, withTerm, effectWith, EffectTaken};
 ghost use Rattle.actions.specs.Views.{conditionRoom, modeConditionRoom, modeEffectRoom, additionRoom, termRoom};
@@ -265,15 +265,21 @@ pub fn step_place(number: u8, place: u64) -> u64
     place
 }
 
-// The bytes of the goal of an accepted file that has so many actions, from its G up to its Z.
-pub fn goal_bytes(file: &[u8], actions: usize) -> &[u8]
-    ensures { λ r. ⌜ now r ≡ goalPart (now (file .entry)) actions ⌝ }
+// The bytes of the goal of an accepted file, from its G, which stands at this place, up to its Z.
+pub fn goal_from(file: &[u8], place: usize) -> &[u8]
+    ensures { λ r. ⌜ now r ≡ goalFrom (now (file .entry)) place ⌝ }
 {
     if file.len() == 0 {
         return &file[..0];
     }
-    let start = find_edge(file, actions);
-    part(file, start, file.len() - 1)
+    part(file, place, file.len() - 1)
+}
+
+// The bytes of the goal of an accepted file that has so many actions.
+pub fn goal_bytes(file: &[u8], actions: usize) -> &[u8]
+    ensures { λ r. ⌜ now r ≡ goalPart (now (file .entry)) actions ⌝ }
+{
+    goal_from(file, find_edge(file, actions))
 }
 
 // A C at the front of what remains, stored behind the first `count` conditions where there is room; and the count after it. A C that is cut

@@ -21,7 +21,7 @@ use Rattle.model.specs.Reading.{verdictOf}
 use Rattle.model.specs.TaskOk.{ModeOk, SourceActionOk, SourceVariableOk}
 use Rattle.model.specs.Steps.{integerAt, naturalAt, sizesOf}
 use Rattle.model.specs.Decoding.{sourceActionOf, readSource}
-use Rattle.model.specs.ActionBytes.{actionPart, decodeAction}
+use Rattle.model.specs.ActionBytes.{edgeOf, actionPart, decodeAction}
 use Rattle.model.proofs.AcceptedOk.{accepted-source-ok}
 use Rattle.model.proofs.StageWalk.{all-get, all-map}
 use Rattle.actions.specs.declared.SourceAction.{SourceAction as DecodedSource}
@@ -106,6 +106,17 @@ module _ (file : List ℕ) (bytes : Bytes file) (count n : ℕ) (lower upper : L
         start = places-at file (replicate 33 0) (omega arith) k (omega arith);
         end = places-at file (replicate 33 0) (omega arith) (k + 1) (omega arith);
       }
+
+  -- and of its goal
+  pub goal-placed : naturalAt (splice (replicate 33 0) 0 (edgesOf file)) count ≡ edgeOf file count
+  goal-placed =
+      let t = task-of file count in
+      let is = accepted-task file count accepted in
+      let c = counted-task file count bytes accepted t is in
+      let e = source-edges file bytes t is in
+      let f = few-actions file count bytes accepted in
+      let r = length-replicate {A = ℕ} 33 0 in
+      places-at file (replicate 33 0) (omega arith) count (omega arith)
 
   -- ---- its rows
   pub begins : (marks : List (List ℕ)) (numbers : List (List ℤ)) → length marks ≡ 33 → length numbers ≡ 33 → Made file count n lower upper m sizes 0 marks numbers

@@ -31,14 +31,16 @@ ghost use Rattle.model.specs.Tasks.{linearEffect};
 ghost use Rattle.model.specs.Limits.{sourceLimits};
 ghost use Rattle.model.specs.Reading.{verdictOf};
 ghost use Rattle.model.specs.Decoding.{sourceActionOf};
-ghost use Rattle.model.specs.ActionBytes.{actionPart, decodeAction};
+ghost use Rattle.model.specs.ActionBytes.{edgeOf, actionPart, decodeAction};
 ghost use Rattle.model.specs.TaskOk.{EffectOk};
+ghost use Rattle.model.specs.Steps.{naturalAt};
 ghost use Rattle.actions.specs.Places.{goalPart};
 ghost use Rattle.actions.specs.Views.{sourceActionIs, fittingSource, effectIs, termsIs};
 ghost use Rattle.source.specs.Sizes.{VARIABLES, ACTIONS};
 ghost use Rattle.source.specs.Judged.{AcceptedWith};
 ghost use Rattle.rows.specs.Row.{RowOf};
 ghost use Rattle.rows.specs.Ready.{Prepared};
+ghost use Rattle.rows.specs.Table.{ROWS};
 ghost use Rattle.rows.specs.Layout.{MARKS, NUMBERS};
 ghost use Rattle.prepared.specs.Made.{termAt, TermsPut, HeadPut, Blank, EffectPut, RowFits, PlacedAt, Declares};
 
@@ -225,10 +227,11 @@ fn decode_placed(file: &[u8], places: &[usize; PLACES], k: usize) -> SourceActio
 }
 
 // The goal of an accepted file with so many actions, as an action: it has no effects.
-fn goal_of(file: &[u8], count: usize) -> SourceAction
+fn decode_goal(file: &[u8], places: &[usize; PLACES], count: usize) -> SourceAction
+    requires { ⌜ (count ≤ ACTIONS) × (naturalAt (now places) count ≡ edgeOf (now file) count) ⌝ }
     ensures { λ r. ⌜ sourceActionIs r ≡ fittingSource (sourceActionOf (decodeAction (goalPart (now (file .entry)) count))) ⌝ }
 {
-    actions::decode_source(actions::goal_bytes(file, count))
+    actions::decode_source(actions::goal_from(file, places[count]))
 }
 
 // The rows of the actions of an accepted file, of which there are `count`, by what it declares; behind them that of its goal.
@@ -243,7 +246,7 @@ pub fn prepare(
     marks: &mut [[u16; MARKS]],
     numbers: &mut [[i64; NUMBERS]],
 )
-    requires { ⌜ AcceptedWith (verdictOf sourceLimits (now file)) count × Declares (now file) n (now lower) (now upper) m (now sizes) × (length (now marks) ≡ 33) × (length (now numbers) ≡ 33) ⌝ }
+    requires { ⌜ AcceptedWith (verdictOf sourceLimits (now file)) count × Declares (now file) n (now lower) (now upper) m (now sizes) × (length (now marks) ≡ ROWS) × (length (now numbers) ≡ ROWS) ⌝ }
     ensures { λ _. ⌜ Prepared (now (file .entry)) count n (now (lower .entry)) (now (upper .entry)) m (now (sizes .entry)) (now (marks .exit)) (now (numbers .exit)) ⌝ }
 {
     let mut places = [0usize; PLACES];
@@ -258,7 +261,7 @@ pub fn prepare(
         numbers[k] = line;
         k += 1;
     }
-    let goal = goal_of(file, count);
+    let goal = decode_goal(file, &places, count);
     let mut last = [0u16; MARKS];
     let mut most = [0i64; NUMBERS];
     put_row(&mut last, &mut most, n, lower, upper, m, sizes, goal);

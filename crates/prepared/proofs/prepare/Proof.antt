@@ -7,7 +7,7 @@ use native.Mathlib.Omega.{arith}
 use Prim.Native.Nat.{_-_}
 use denote.Ref.{now}
 use Rattle.source.proofs.Judging.{bytes-of, few-actions}
-use Rattle.prepared.proofs.Preparing.{Made, action-fits, placed, begins, goal-fits, over, one-more}
+use Rattle.prepared.proofs.Preparing.{Made, action-fits, placed, goal-placed, begins, goal-fits, over, one-more}
 use Rattle.prepared.proofs.prepare.Statement.{statement}
 use Rattle.prepared.proofs.prepare.Tie as tie
 
@@ -80,46 +80,50 @@ startOf e = e .before .before .before .before .before .before
 bytesOf : (e : tie.After-loop Inv-loop μ-loop) → Bytes (now (startOf e .args .file))
 bytesOf e = bytes-of (now (startOf e .args .file)) (λ i. omega (arith, e .before .before .before .before .before .shared-slice-known .given i))
 
-goal-of-requires : tie.Need-goal-of-requires Inv-loop μ-loop
-goal-of-requires c κs = search needs
+decode-goal-requires : tie.Need-decode-goal-requires Inv-loop μ-loop
+decode-goal-requires c κs = let e = c .before in
+    let s = startOf e in (
+      few-actions (now (s .args .file)) (s .args .count) (bytesOf e) (s .pre .0),
+      rw (e .before .before .before .action-places .ensures) (goal-placed (now (s .args .file)) (bytesOf e) (s .args .count) (s .args .n) (now (s .args .lower)) (now (s .args .upper)) (s .args .m) (now (s .args .sizes)) (s .pre .0) (s .pre .1)),
+    )
 
 put-row-requires-2 : tie.Need-put-row-requires-2 Inv-loop μ-loop
-put-row-requires-2 c κs = let e = c .before .before .before in
+put-row-requires-2 c κs = let e = c .before .before .before .before in
     let s = startOf e in
-    (refl, refl, goal-fits (now (s .args .file)) (bytesOf e) (s .args .count) (s .args .n) (now (s .args .lower)) (now (s .args .upper)) (s .args .m) (now (s .args .sizes)) (s .pre .0) (s .pre .1) (c .before .before .goal-of .result) (c .before .before .goal-of .ensures))
+    (refl, refl, goal-fits (now (s .args .file)) (bytesOf e) (s .args .count) (s .args .n) (now (s .args .lower)) (now (s .args .upper)) (s .args .m) (now (s .args .sizes)) (s .pre .0) (s .pre .1) (c .before .before .decode-goal .result) (c .before .before .decode-goal .ensures))
 
-mul-t34 : tie.Need-mul-t34 Inv-loop μ-loop
-mul-t34 c = let e = c .before .before .before .before in
+mul-t35 : tie.Need-mul-t35 Inv-loop μ-loop
+mul-t35 c = let e = c .before .before .before .before .before in
     let f = few-actions (now (startOf e .args .file)) (startOf e .args .count) (bytesOf e) (startOf e .pre .0) in
     omega arith
 
 slice-set-from-marks-2 : tie.Need-slice-set-from-marks-2 Inv-loop μ-loop
-slice-set-from-marks-2 c = let e = c .before .before .before .before in
+slice-set-from-marks-2 c = let e = c .before .before .before .before .before in
     let f = few-actions (now (startOf e .args .file)) (startOf e .args .count) (bytesOf e) (startOf e .pre .0) in
     omega (arith, e .before .loop .inv .marksLong)
 
-mul-t34-2 : tie.Need-mul-t34-2 Inv-loop μ-loop
-mul-t34-2 c = let e = c .before .before .before .before in
+mul-t35-2 : tie.Need-mul-t35-2 Inv-loop μ-loop
+mul-t35-2 c = let e = c .before .before .before .before .before in
     let f = few-actions (now (startOf e .args .file)) (startOf e .args .count) (bytesOf e) (startOf e .pre .0) in
     omega arith
 
 slice-set-from-numbers-2 : tie.Need-slice-set-from-numbers-2 Inv-loop μ-loop
-slice-set-from-numbers-2 c = let e = c .before .before .before .before in
+slice-set-from-numbers-2 c = let e = c .before .before .before .before .before in
     let f = few-actions (now (startOf e .args .file)) (startOf e .args .count) (bytesOf e) (startOf e .pre .0) in
     omega (arith, e .before .loop .inv .numbersLong)
 
 same-length : tie.Need-same-length Inv-loop μ-loop
-same-length c = let e = c .before .before .before .before in
+same-length c = let e = c .before .before .before .before .before in
     length-set (e .before .loop .marks) (startOf e .args .count) _ ∙ e .before .loop .inv .marksLong ∙ sym (startOf e .pre .2)
 
 same-length-2 : tie.Need-same-length-2 Inv-loop μ-loop
-same-length-2 c = let e = c .before .before .before .before in
+same-length-2 c = let e = c .before .before .before .before .before in
     length-set (e .before .loop .numbers) (startOf e .args .count) _ ∙ e .before .loop .inv .numbersLong ∙ sym (startOf e .pre .3)
 
 returns : tie.Need-returns Inv-loop μ-loop
-returns c = let e = c .before .before .before .before in
+returns c = let e = c .before .before .before .before .before in
     let s = startOf e in
-    let g = c .before .before .before .goal-of in
+    let g = c .before .before .before .decode-goal in
     over (now (s .args .file)) (bytesOf e) (s .args .count) (s .args .n) (now (s .args .lower)) (now (s .args .upper)) (s .args .m) (now (s .args .sizes)) (s .pre .0) (s .pre .1) (g .result) (g .ensures) (e .before .loop .k) (e .before .loop .marks) (e .before .loop .numbers) (e .before .loop .inv) (e .loop-test .left) _ _ (c .put-row2 .ensures)
 
 pub prepare-spec : {M : Type 1} → statement M
@@ -140,11 +144,11 @@ prepare-spec =
     add-k
     loop-less
     loop-again
-    goal-of-requires
+    decode-goal-requires
     put-row-requires-2
-    mul-t34
+    mul-t35
     slice-set-from-marks-2
-    mul-t34-2
+    mul-t35-2
     slice-set-from-numbers-2
     same-length
     same-length-2
