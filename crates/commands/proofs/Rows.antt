@@ -1,27 +1,16 @@
--- The table: the code's constant is the definition's, and what holds of each row, computed over all of them.
+-- The table: what holds of each row, computed over all of them.
 -- Assumes nothing.
 use mathlib.Core.Bool.{Bool, true, false, cond}
-use mathlib.Core.List.{List, [], _∷_, map}
+use mathlib.Core.List.{List, [], _∷_}
 use mathlib.Core.Path.{_≡_, refl, sym, ap, _∙_}
 use Prim.Native.Nat.{ℕ, zero, suc, _+_, _≤_, _<_}
-use native.Mathlib.Nat.{zero-add, le-of-suc-le-suc, not-suc-le-zero}
+use native.Mathlib.Nat.{zero-add}
 use native.Mathlib.Omega.{arith}
 use lib.Dec.{eqb}
-use lib.ListN.{length, getD, List·getD-map}
+use lib.ListN.{length, getD}
 use borrow.Author.Tests.{lt-ltb, ne-eqb, eqb-true}
 use Rattle.commands.specs.Table.{Row, row, table, rows, rowAt, rowOf, seek, sizeOfRow, sizeOfByte}
-use Rattle.commands.specs.Rows.{written}
 use Rattle.commands.proofs.Every.{each-at}
-
--- within a list it makes no difference what is read past its end
-within : {A : Type 0} (xs : List A) (d e : A) (i : ℕ) → i < length xs → getD xs i d ≡ getD xs i e
-within [] d e i h = absurd (not-suc-le-zero h)
-within (x ∷ xs) d e zero h = refl
-within (x ∷ xs) d e (suc i) h = within xs d e i (le-of-suc-le-suc h)
-
--- the code's table is the definition's: antt computes the one into the other, once for all rows
-pub row-written : (i : ℕ) → i < rows → getD (map written table) i [] ≡ written (rowAt i)
-row-written i h = within (map written table) [] (written (row 0 [])) i h ∙ List·getD-map written table i (row 0 [])
 
 -- the sum of widths
 abbrev pub total : List ℕ → ℕ

@@ -3,6 +3,7 @@
 use Prim.Native.Nat.{ℕ, _^_, _<_}
 use mathlib.Core.List.{List, [], _∷_, _++_}
 use lib.Dec.{T, ltb}
+use lib.ListN.{getD}
 use Rattle.integers.specs.Numbers.{bytesOf}
 use Rattle.commands.specs.Table.{rows, rowAt}
 use Rattle.commands.specs.declared.Command.{Command}
@@ -54,6 +55,10 @@ atWidths (w ∷ ws) (v ∷ vs) = bytesOf w v ++ atWidths ws vs
 
 abbrev pub encode : Command → List ℕ
 encode c = byteOf c ∷ atWidths (rowAt (rowNumber c) .widths) (operands c)
+
+-- the bytes of a command by its row as the code has it: the row's byte, then each of three numbers at its width, none where the width is 0
+abbrev pub rowBytes : ℕ → List ℕ → ℕ → ℕ → ℕ → List ℕ
+rowBytes byte widths x y z = atWidths (1 ∷ getD widths 0 0 ∷ getD widths 1 0 ∷ getD widths 2 0 ∷ []) (byte ∷ x ∷ y ∷ z ∷ [])
 
 -- the bytes of commands, one behind another
 abbrev pub encodeAll : List Command → List ℕ

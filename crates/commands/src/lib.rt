@@ -2,16 +2,16 @@
 // command means, nor of where in a file it may stand.
 
 ghost use mathlib.Core.Path.{_≡_};
-ghost use mathlib.Core.List.{[], _∷_};
+ghost use mathlib.Core.List.{map};
 ghost use Prim.Native.Nat.{_+_, _<_, _≤_};
-ghost use lib.ListN.{length, getD, take};
-ghost use Rattle.integers.specs.Numbers.{bytesOf};
-ghost use Rattle.lists.specs.Writing.{splice};
+ghost use lib.ListN.{length, getD};
+ghost use Rattle.lists.specs.Writing.{Room, Wrote};
 ghost use Rattle.commands.specs.Table.{letterV, letterU, letterM, letterC, letterP, letterE, plusSign, letterL, letterT, letterQ, letterR};
-ghost use Rattle.commands.specs.Table.{rows, rowAt, sizeOfByte};
+ghost use Rattle.commands.specs.Table.{table, sizeOfByte};
 ghost use Rattle.commands.specs.Rows.{written, Narrow, sizeOfWidths, Read};
 ghost use Rattle.commands.specs.Reading.{commandAt};
-ghost use Rattle.commands.specs.Encoding.{atWidths, encode};
+ghost use Rattle.commands.specs.Encoding.{encode, rowBytes};
+ghost use Rattle.commands.specs.declared.Command.the-variants.{Start, Mode, Condition, ModeCondition, ModeEffect, Add, End};
 
 // A command with its operands as the file has them: one case a command byte of either kind of file, plus the refusal.
 // A constant is the bits of a two's complement number; `integers::signed` reads it.
@@ -122,19 +122,30 @@ const GOAL_WIDTHS: [u8; 3] = [TABLE[GOAL][2], TABLE[GOAL][3], TABLE[GOAL][4]];
 
 const END_WIDTHS: [u8; 3] = [TABLE[END][2], TABLE[END][3], TABLE[END][4]];
 
-fn row_at(i: usize) -> [u8; 5]
-    requires { ⌜ i < rows ⌝ }
-    ensures { λ r. ⌜ r ≡ written (rowAt i) ⌝ }
-{
-    TABLE[i]
-}
+// The byte of each command that a restricted file has, likewise.
+const START_BYTE: u8 = TABLE[START][0];
 
-fn row_byte(i: usize) -> u8
-    requires { ⌜ i < rows ⌝ }
-    ensures { λ r. ⌜ r ≡ rowAt i .byte ⌝ }
+const MODE_BYTE: u8 = TABLE[MODE][0];
+
+pub const ACTION_BYTE: u8 = TABLE[ACTION][0];
+
+const CONDITION_BYTE: u8 = TABLE[CONDITION][0];
+
+const MODE_CONDITION_BYTE: u8 = TABLE[MODE_CONDITION][0];
+
+const MODE_EFFECT_BYTE: u8 = TABLE[MODE_EFFECT][0];
+
+const ADD_BYTE: u8 = TABLE[ADD][0];
+
+pub const GOAL_BYTE: u8 = TABLE[GOAL][0];
+
+const END_BYTE: u8 = TABLE[END][0];
+
+// The table is the definition's, checked here over all rows at once; reading and writing take what they need of it as constants.
+fn whole_table() -> [[u8; 5]; 14]
+    ensures { λ r. ⌜ r ≡ map written table ⌝ }
 {
-    let row = row_at(i);
-    row[0]
+    TABLE
 }
 
 // The length of a command in bytes, its own byte with it.
@@ -354,121 +365,96 @@ pub fn size_of(byte: u8) -> usize
     }
 }
 
-// The bytes of one command: the first `length` of `bytes`.
-pub struct Coded {
-    pub bytes: [u8; 16],
-    pub length: usize,
+// A command by its row: the row's byte, then each operand at its width, none where the width is 0.
+fn put_by_row(out: &mut [u8], at: usize, byte: u8, widths: [u8; 3], x: u32, y: u32, z: u32) -> usize
+    requires { ⌜ Room (now out) at (rowBytes byte widths x y z) ⌝ }
+    ensures { λ r. ⌜ Wrote (now (out .entry)) at (rowBytes byte widths x y z) (now (out .exit)) r ⌝ }
+{
+    let first = lists::put_number(out, at, byte as u32, 1);
+    let second = lists::put_number(out, first, x, widths[0] as usize);
+    let third = lists::put_number(out, second, y, widths[1] as usize);
+    lists::put_number(out, third, z, widths[2] as usize)
 }
 
-// The bytes with a number of one, two or four bytes stored from a place on.
-fn with_byte(mut bytes: [u8; 16], at: usize, n: u8) -> [u8; 16]
-    requires { ⌜ at < 16 ⌝ }
-    ensures { λ r. ⌜ r ≡ splice bytes at (bytesOf 1 n) ⌝ }
+// One writer a kind of command that a restricted file has, by the operands: it stores the command's bytes from a place on and gives the
+// place behind them.
+pub fn put_start(out: &mut [u8], at: usize, bits: u32) -> usize
+    requires { ⌜ Room (now out) at (encode (Start bits)) ⌝ }
+    ensures { λ r. ⌜ Wrote (now (out .entry)) at (encode (Start bits)) (now (out .exit)) r ⌝ }
 {
-    bytes[at] = n;
-    bytes
+    put_by_row(out, at, START_BYTE, START_WIDTHS, bits, 0, 0)
 }
 
-fn with_half(mut bytes: [u8; 16], at: usize, n: u16) -> [u8; 16]
-    requires { ⌜ at + 1 < 16 ⌝ }
-    ensures { λ r. ⌜ r ≡ splice bytes at (bytesOf 2 n) ⌝ }
+pub fn put_mode(out: &mut [u8], at: usize, size: u16, value: u16) -> usize
+    requires { ⌜ Room (now out) at (encode (Mode size value)) ⌝ }
+    ensures { λ r. ⌜ Wrote (now (out .entry)) at (encode (Mode size value)) (now (out .exit)) r ⌝ }
 {
-    bytes[at] = (n % 256) as u8;
-    let second = at + 1;
-    bytes[second] = (n / 256 % 256) as u8;
-    bytes
+    put_by_row(
+        out,
+        at,
+        MODE_BYTE,
+        MODE_WIDTHS,
+        size as u32,
+        value as u32,
+        0,
+    )
 }
 
-fn with_word(mut bytes: [u8; 16], at: usize, n: u32) -> [u8; 16]
-    requires { ⌜ at + 3 < 16 ⌝ }
-    ensures { λ r. ⌜ r ≡ splice bytes at (bytesOf 4 n) ⌝ }
+pub fn put_condition(out: &mut [u8], at: usize, variable: u8, relation: u8, bits: u32) -> usize
+    requires { ⌜ Room (now out) at (encode (Condition variable relation bits)) ⌝ }
+    ensures { λ r. ⌜ Wrote (now (out .entry)) at (encode (Condition variable relation bits)) (now (out .exit)) r ⌝ }
 {
-    bytes[at] = (n % 256) as u8;
-    let second = at + 1;
-    let upper = n / 256;
-    bytes[second] = (upper % 256) as u8;
-    let third = second + 1;
-    let top = upper / 256;
-    bytes[third] = (top % 256) as u8;
-    let fourth = third + 1;
-    bytes[fourth] = (top / 256 % 256) as u8;
-    bytes
+    put_by_row(
+        out,
+        at,
+        CONDITION_BYTE,
+        CONDITION_WIDTHS,
+        variable as u32,
+        relation as u32,
+        bits,
+    )
 }
 
-// A command byte and its operands, one function for each choice of widths.
-fn coded_alone(byte: u8) -> Coded
-    ensures { λ r. ⌜ (take (r .length) (r .bytes) ≡ atWidths (1 ∷ []) (byte ∷ [])) × (r .length ≤ 16) ⌝ }
+pub fn put_mode_condition(out: &mut [u8], at: usize, mode: u8, value: u16) -> usize
+    requires { ⌜ Room (now out) at (encode (ModeCondition mode value)) ⌝ }
+    ensures { λ r. ⌜ Wrote (now (out .entry)) at (encode (ModeCondition mode value)) (now (out .exit)) r ⌝ }
 {
-    let bytes = with_byte([0; 16], 0, byte);
-    Coded { bytes, length: 1 }
+    put_by_row(
+        out,
+        at,
+        MODE_CONDITION_BYTE,
+        MODE_CONDITION_WIDTHS,
+        mode as u32,
+        value as u32,
+        0,
+    )
 }
 
-fn coded_word(byte: u8, x: u32) -> Coded
-    ensures { λ r. ⌜ (take (r .length) (r .bytes) ≡ atWidths (1 ∷ 4 ∷ []) (byte ∷ x ∷ [])) × (r .length ≤ 16) ⌝ }
+pub fn put_mode_effect(out: &mut [u8], at: usize, mode: u8, value: u16) -> usize
+    requires { ⌜ Room (now out) at (encode (ModeEffect mode value)) ⌝ }
+    ensures { λ r. ⌜ Wrote (now (out .entry)) at (encode (ModeEffect mode value)) (now (out .exit)) r ⌝ }
 {
-    let bytes = with_word(with_byte([0; 16], 0, byte), 1, x);
-    Coded { bytes, length: 5 }
+    put_by_row(
+        out,
+        at,
+        MODE_EFFECT_BYTE,
+        MODE_EFFECT_WIDTHS,
+        mode as u32,
+        value as u32,
+        0,
+    )
 }
 
-fn coded_words(byte: u8, x: u32, y: u32, z: u32) -> Coded
-    ensures { λ r. ⌜ (take (r .length) (r .bytes) ≡ atWidths (1 ∷ 4 ∷ 4 ∷ 4 ∷ []) (byte ∷ x ∷ y ∷ z ∷ [])) × (r .length ≤ 16) ⌝ }
+pub fn put_add(out: &mut [u8], at: usize, variable: u8, bits: u32) -> usize
+    requires { ⌜ Room (now out) at (encode (Add variable bits)) ⌝ }
+    ensures { λ r. ⌜ Wrote (now (out .entry)) at (encode (Add variable bits)) (now (out .exit)) r ⌝ }
 {
-    let front = with_word(with_byte([0; 16], 0, byte), 1, x);
-    let bytes = with_word(with_word(front, 5, y), 9, z);
-    Coded { bytes, length: 13 }
+    put_by_row(out, at, ADD_BYTE, ADD_WIDTHS, variable as u32, bits, 0)
 }
 
-fn coded_halves(byte: u8, x: u16, y: u16) -> Coded
-    ensures { λ r. ⌜ (take (r .length) (r .bytes) ≡ atWidths (1 ∷ 2 ∷ 2 ∷ []) (byte ∷ x ∷ y ∷ [])) × (r .length ≤ 16) ⌝ }
+pub fn put_end(out: &mut [u8], at: usize) -> usize
+    requires { ⌜ Room (now out) at (encode End) ⌝ }
+    ensures { λ r. ⌜ Wrote (now (out .entry)) at (encode End) (now (out .exit)) r ⌝ }
 {
-    let front = with_byte([0; 16], 0, byte);
-    let bytes = with_half(with_half(front, 1, x), 3, y);
-    Coded { bytes, length: 5 }
-}
-
-fn coded_byte_half(byte: u8, x: u8, y: u16) -> Coded
-    ensures { λ r. ⌜ (take (r .length) (r .bytes) ≡ atWidths (1 ∷ 1 ∷ 2 ∷ []) (byte ∷ x ∷ y ∷ [])) × (r .length ≤ 16) ⌝ }
-{
-    let front = with_byte([0; 16], 0, byte);
-    let bytes = with_half(with_byte(front, 1, x), 2, y);
-    Coded { bytes, length: 4 }
-}
-
-fn coded_byte_word(byte: u8, x: u8, y: u32) -> Coded
-    ensures { λ r. ⌜ (take (r .length) (r .bytes) ≡ atWidths (1 ∷ 1 ∷ 4 ∷ []) (byte ∷ x ∷ y ∷ [])) × (r .length ≤ 16) ⌝ }
-{
-    let front = with_byte([0; 16], 0, byte);
-    let bytes = with_word(with_byte(front, 1, x), 2, y);
-    Coded { bytes, length: 6 }
-}
-
-fn coded_bytes_word(byte: u8, x: u8, y: u8, z: u32) -> Coded
-    ensures { λ r. ⌜ (take (r .length) (r .bytes) ≡ atWidths (1 ∷ 1 ∷ 1 ∷ 4 ∷ []) (byte ∷ x ∷ y ∷ z ∷ [])) × (r .length ≤ 16) ⌝ }
-{
-    let front = with_byte(with_byte([0; 16], 0, byte), 1, x);
-    let bytes = with_word(with_byte(front, 2, y), 3, z);
-    Coded { bytes, length: 7 }
-}
-
-// The bytes of a command. A refusal is no command, and has the byte 0.
-pub fn code_of(c: Command) -> Coded
-    ensures { λ r. ⌜ (take (r .length) (r .bytes) ≡ encode c) × (r .length ≤ 16) ⌝ }
-{
-    match c {
-        Command::Variable(x, y, z) => coded_words(row_byte(VARIABLE), x, y, z),
-        Command::Start(x) => coded_word(row_byte(START), x),
-        Command::Mode(x, y) => coded_halves(row_byte(MODE), x, y),
-        Command::Action => coded_alone(row_byte(ACTION)),
-        Command::Condition(x, y, z) => coded_bytes_word(row_byte(CONDITION), x, y, z),
-        Command::ModeCondition(x, y) => coded_byte_half(row_byte(MODE_CONDITION), x, y),
-        Command::ModeEffect(x, y) => coded_byte_half(row_byte(MODE_EFFECT), x, y),
-        Command::Add(x, y) => coded_byte_word(row_byte(ADD), x, y),
-        Command::Linear(x, y) => coded_byte_word(row_byte(LINEAR), x, y),
-        Command::Term(x, y) => coded_byte_word(row_byte(TERM), x, y),
-        Command::Quotient(x, y, z) => coded_bytes_word(row_byte(QUOTIENT), x, y, z),
-        Command::Residue(x, y, z) => coded_bytes_word(row_byte(RESIDUE), x, y, z),
-        Command::Goal => coded_alone(row_byte(GOAL)),
-        Command::End => coded_alone(row_byte(END)),
-        Command::Refused(_) => coded_alone(0),
-    }
+    put_by_row(out, at, END_BYTE, END_WIDTHS, 0, 0, 0)
 }

@@ -1,14 +1,16 @@
 -- The laws of a line's parts.
 -- Assumes nothing.
 use mathlib.Core.Path.{_≡_, refl, sym, ap, _∙_}
-use Prim.Native.Nat.{ℕ, _+_}
+use Prim.Native.Nat.{ℕ, _+_, _^_, _≤_, _<_}
 use native.Mathlib.Omega.{arith}
 use mathlib.Core.List.{List, [], _∷_, _++_, append-assoc, flatMap}
 use lib.ListN.{length, length-append}
 use lib.IntN.{ℤ, pos}
+use Rattle.lists.specs.Writing.{capacity, Room}
 use Rattle.lists.proofs.Each.{flatMap-nil, flatMap-cons}
 use Rattle.model.specs.Listing.{decimal, decimalSigned, fieldsOf, goalLine, refusedLine}
-use Rattle.listing.specs.Lines.{field, lineOf}
+use Rattle.listing_text.proofs.Digits.{at-most}
+use Rattle.listing.specs.Lines.{field, lineOf, RoomFor, forMost, forThese}
 
 pub natural : (n : ℕ) → decimalSigned (pos n) ≡ decimal n
 unfolding decimalSigned
@@ -39,3 +41,20 @@ goal-long total = omega (arith, field-long total (10 ∷ []))
 
 pub refused-long : (number place : ℕ) → length (refusedLine number place) ≡ length (decimal number) + length (decimal place) + 10
 refused-long number place = omega (arith, field-long number (fieldsOf (pos place ∷ [])), field-long place (10 ∷ []))
+
+-- ---- room for a part of what is written
+
+-- the part ends within the most bytes, or it has room where all have
+pub room-either : {old : List ℕ} {at most : ℕ} {all out : List ℕ} {place : ℕ} {xs : List ℕ} → place + length xs ≤ at + most → length out ≡ length old
+    → (Room old at all → Room out place xs) → RoomFor old at most all → Room out place xs
+room-either h l f (forMost m) = record { fits = omega (arith, h, m, ap capacity l) }
+room-either h l f (forThese r) = f r
+
+pub room-for-either : {old : List ℕ} {at most : ℕ} {all out : List ℕ} {place fewer : ℕ} {xs : List ℕ} → place + fewer ≤ at + most → length out ≡ length old
+    → (Room old at all → Room out place xs) → RoomFor old at most all → RoomFor out place fewer xs
+room-for-either h l f (forMost m) = forMost (omega (arith, h, m, ap capacity l))
+room-for-either h l f (forThese r) = forThese (f r)
+
+-- a space and a number of 64 bits
+pub count-most : (n : ℕ) → n < 2 ^ 64 → length (field (pos n)) ≤ 21
+count-most n h = omega (arith, ap length (natural n), at-most 19 n (omega arith))

@@ -1,31 +1,32 @@
--- The loops over the steps of a plan: the lines of what is left, step by step.
+-- The loop over the steps of a plan: the lines of what is left, step by step.
 -- Assumes nothing.
 use mathlib.Core.Path.{_≡_, refl, sym, ap, _∙_}
-use Prim.Native.Nat.{ℕ, suc, _+_, _*_, _≤_, _<_}
+use Prim.Native.Nat.{ℕ, suc, _+_, _-_, _*_, _≤_, _<_}
 use native.Mathlib.Omega.{arith}
 use native.Mathlib.Numerals.{add-one}
 use mathlib.Core.Bool.{true, false}
 use mathlib.Core.Option.{Option, none, some}
 use mathlib.Core.List.{List, [], _∷_, _++_, append-nil, append-assoc}
 use lib.ListN.{length, length-append, getD, take, drop, drop-of-length-le}
-use lib.Seq.{drop-cons}
+use lib.Seq.{drop-cons, getD-take, length-take-le}
 use lib.IntN.{ℤ}
 use borrow.Author.Tests.{lt-ltb, le-ltb}
-use Rattle.lists.specs.Writing.{Room, Wrote}
+use Rattle.lists.specs.Writing.{Wrote}
 use Rattle.lists.proofs.Writing.{Left, start, step, done, recast, long, room}
 use Rattle.model.specs.Tasks.{State}
 use Rattle.model.specs.Listing.{stepLine}
-use Rattle.source.specs.Step.{state, settled}
-use Rattle.source.proofs.Sound.{length-setAt}
-use Rattle.rows.specs.Row.{outcomeAt, valuesAfter, modesAfter}
-use Rattle.rows.specs.Ready.{marksOf, numbersOf}
-use Rattle.rows.specs.Table.{Table, takesBy, priceBy, Usables}
+use Rattle.source_step.specs.Step.{state, settled}
+use Rattle.source_step.proofs.Sound.{length-setAt}
+use Rattle.source_step.specs.Row.{outcomeAt, valuesAfter, modesAfter}
+use Rattle.source_step.specs.Ready.{marksOf, numbersOf}
+use Rattle.source_step.specs.Table.{Table, takesBy, priceBy, Usables}
 use Rattle.plan_strokes.specs.declared.Turn.{Turn}
 use Rattle.plan_strokes.specs.Made.{Turned}
 use Rattle.source_walk.proofs.Loop.{long-after}
 use Rattle.source_walk.proofs.Turns.{at-its-price}
-use Rattle.listing.specs.Lines.{lineOf}
-use Rattle.listing.specs.Listed.{linesBy}
+use Rattle.listing.specs.Lines.{lineOf, LINE, RoomFor}
+use Rattle.listing.specs.Listed.{Listable, linesBy, linesTo, LinedTo}
+use Rattle.listing.proofs.Lines.{room-for-either}
 
 -- the arrays are whole, at step i of a plan
 pub record Reached (p : List ℕ) (values : List ℤ) (modes : List ℕ) (i : ℕ) : Type 0 where
@@ -90,101 +91,119 @@ module _ (T : Table) (p : List ℕ) (values : List ℤ) (modes : List ℕ) (i : 
           modesLong = ap length modesAre ∙ long-after (T .modes) (marksOf (T .marks) k) modes (u .modesFew) (r .modesLong);
         }
 
-module _ (T : Table) (p : List ℕ) (x₀ : State) where
-  -- the loop that counts: the sum, and the lines left
-  pub record Counting (values : List ℤ) (modes : List ℕ) (i sum : ℕ) : Type 0 where
-    pub reached : Reached p values modes i
-    pub counts : sum + length (leftBy T p i values modes) ≡ length (linesBy T 0 p x₀)
-    pub few : sum ≤ 231 * i
-
-  -- the loop that writes: the lines left are still to be written
+-- ---- the loop that writes: the lines left until the last step asked for are still to be written, and behind them come those of all other steps
+module _ (T : Table) (p : List ℕ) (from until : ℕ) (x₀ : State) where
   pub record Writing (old : List ℕ) (at : ℕ) (values : List ℤ) (modes : List ℕ) (i : ℕ) (out : List ℕ) (place : ℕ) : Type 0 where
-    pub reached : Reached p values modes i
-    pub left : Left old at (linesBy T 0 p x₀) out place (leftBy T p i values modes ∷ [])
+    pub reached : Reached (take until p) values modes i
+    pub begun : from ≤ i
+    pub lines : Left old at (linesTo T from until p x₀) out place (leftBy T (take until p) i values modes ∷ [])
+    pub few : place ≤ at + LINE * (i - from)
+    pub left : (z : List ℕ) → leftBy T p i values modes ≡ leftBy T (take until p) i values modes ++ z → linesBy T from (drop from p) x₀ ≡ linesTo T from until p x₀ ++ z
 
-  abbrev pub Counted : ℕ → Type 0
-  Counted sum = (sum ≡ length (linesBy T 0 p x₀)) × (sum ≤ 231_000_000)
+module _ (T : Table) (p : List ℕ) (from until : ℕ) (values : List ℤ) (modes : List ℕ) (l : Listable T p from until values modes) where
+  long-part : length (take until p) ≡ until
+  long-part = length-take-le until p (l .inPlan)
 
-module _ (T : Table) (p : List ℕ) (values : List ℤ) (modes : List ℕ) (v : length values ≡ 8) (m : length modes ≡ 4) where
-  begun : Reached p values modes 0
-  begun = record { bound = omega arith; valuesLong = v; modesLong = m }
+  pub writing-begins : (old : List ℕ) (at : ℕ) → Writing T p from until (state values modes) old at values modes from old at
+  writing-begins old at = record {
+    reached = record { bound = omega (arith, long-part, l .ordered); valuesLong = l .valuesLong; modesLong = l .modesLong };
+    begun = omega arith;
+    lines = start old at (sym (append-nil (linesTo T from until p (state values modes))));
+    few = omega arith;
+    left = λ z e. e;
+  }
 
-  pub counting-begins : Counting T p (state values modes) values modes 0 0
-  counting-begins = record { reached = begun; counts = omega arith; few = omega arith }
+module _ {T : Table} {p : List ℕ} {from until : ℕ} {values₀ : List ℤ} {modes₀ : List ℕ} (L : Listable T p from until values₀ modes₀)
+    {values : List ℤ} {modes : List ℕ} {i : ℕ} {old : List ℕ} {at : ℕ} {out : List ℕ} {place : ℕ}
+    (g : Writing T p from until (state values₀ modes₀) old at values modes i out place) where
+  abbrev q : List ℕ
+  q = take until p
 
-  pub writing-begins : (old : List ℕ) (at : ℕ) → Writing T p (state values modes) old at values modes 0 old at
-  writing-begins old at = record { reached = begun; left = start old at (sym (append-nil (linesBy T 0 p (state values modes)))) }
+  pub writing-long : length out ≡ length old
+  writing-long = long (g .lines)
 
-module _ {T : Table} {p : List ℕ} {x₀ : State} {values : List ℤ} {modes : List ℕ} {i : ℕ} where
-  -- ---- the loop that counts
-  module _ {sum : ℕ} (g : Counting T p x₀ values modes i sum) (most : length p ≤ 1_000_000) where
-    none-left : leftBy T p i values modes ≡ [] → Counted T p x₀ sum
-    none-left e = let b = g .reached .bound in (omega (arith, g .counts, ap length e), omega (arith, g .few))
+  -- the lines are written: none is left of those asked for, and these are left of all
+  written : (next : ℕ) → until ≤ next → next ≤ length p → {values′ : List ℤ} {modes′ : List ℕ} → length values′ ≡ 8 → length modes′ ≡ 4
+      → leftBy T q i values modes ≡ [] → leftBy T p i values modes ≡ leftBy T p next values′ modes′
+      → LinedTo T p from until values₀ modes₀ old at out (record { place = place; next = next }) values′ modes′
+  written next h m {values′} {modes′} v w e f = record {
+    wrote = done (recast (ap (λ (l : List ℕ). l ++ []) e) (g .lines));
+    few = omega (arith, g .few, g .reached .bound, long-part T p from until values₀ modes₀ L);
+    further = h;
+    inPlan = m;
+    left = g .left (leftBy T p next values′ modes′) (f ∙ ap (λ (l : List ℕ). l ++ leftBy T p next values′ modes′) (sym e));
+    valuesLong = v;
+    modesLong = w;
+  }
 
-    pub counting-over : length p ≤ i → Counted T p x₀ sum
-    counting-over h = none-left (lines-over T p values modes i h)
+  pub writing-over : until ≤ i → LinedTo T p from until values₀ modes₀ old at out (record { place = place; next = until }) values modes
+  writing-over h =
+      let e : i ≡ until = omega (arith, g .reached .bound, long-part T p from until values₀ modes₀ L) in
+      written until (omega arith) (L .inPlan) (g .reached .valuesLong) (g .reached .modesLong)
+      (lines-over T q values modes i (omega (arith, long-part T p from until values₀ modes₀ L)))
+      (ap (λ (j : ℕ). leftBy T p j values modes) e)
 
-    module _ (k : ℕ) (e : k ≡ getD p i 0) (h : i < length p) where
-      pub counting-no-action : T .count ≤ k → Counted T p x₀ sum
-      counting-no-action l = none-left (lines-no-action T p values modes i k e h l)
+  -- no line is left, since the walk stops
+  stopped : (next : ℕ) → next ≡ length p → {values′ : List ℤ} {modes′ : List ℕ} → length values′ ≡ 8 → length modes′ ≡ 4 → leftBy T q i values modes ≡ [] → leftBy T p i values modes ≡ []
+      → LinedTo T p from until values₀ modes₀ old at out (record { place = place; next = next }) values′ modes′
+  stopped next m {values′} {modes′} v w e f =
+      written next (omega (arith, m, L .inPlan)) (omega arith) v w e (f ∙ sym (lines-over T p values′ modes′ next (omega arith)))
 
-      module _ (l : k < T .count) {turn : Turn} {values′ : List ℤ} {modes′ : List ℕ}
-          (t : Turned (T .variables) (T .modes) (marksOf (T .marks) k) (numbersOf (T .numbers) k) values modes turn values′ modes′) where
-        pub counting-not-applied : turn .applied ≡ false → Counted T p x₀ sum
-        counting-not-applied f = none-left (lines-not-applied T p values modes i k e h l t f)
+  module _ (k : ℕ) (e : k ≡ getD p i 0) (h : i < until) where
+    in-part : i < length q
+    in-part = omega (arith, long-part T p from until values₀ modes₀ L)
 
-        module _ (f : turn .applied ≡ true) (u : Usables T) where
-          pub counting-reached : Reached p values′ modes′ (i + 1)
-          counting-reached = reached-next T p values modes i k e h l t f u (g .reached)
+    in-plan : i < length p
+    in-plan = omega (arith, L .inPlan)
 
-          pub counting-next : {more : ℕ} → (more ≡ length (lineOf i k (turn .price) (take (T .variables) values′))) × (more ≤ 231)
-              → Counting T p x₀ values′ modes′ (i + 1) (sum + more)
-          counting-next {more} c =
-              let line = lineOf i k (turn .price) (take (T .variables) values′) in
-              let s = ap length (lines-next T p values modes i k e h l t f) in
-              record {
-                reached = counting-reached;
-                counts = omega (arith, g .counts, s, c .0, length-append line (leftBy T p (i + 1) values′ modes′));
-                few = omega (arith, g .few, c .1);
-              }
+    part-is : k ≡ getD q i 0
+    part-is = e ∙ sym (getD-take until p i 0 h)
 
-  -- ---- the loop that writes
-  module _ {old : List ℕ} {at : ℕ} {out : List ℕ} {place : ℕ} (g : Writing T p x₀ old at values modes i out place) where
-    pub writing-long : length out ≡ length old
-    writing-long = long (g .left)
+    pub writing-no-action : T .count ≤ k → (next : ℕ) → next ≡ length p → LinedTo T p from until values₀ modes₀ old at out (record { place = place; next = next }) values modes
+    writing-no-action l next m =
+        stopped next m (g .reached .valuesLong) (g .reached .modesLong)
+        (lines-no-action T q values modes i k part-is in-part l) (lines-no-action T p values modes i k e in-plan l)
 
-    all-written : leftBy T p i values modes ≡ [] → Wrote old at (linesBy T 0 p x₀) out place
-    all-written e = done (recast (ap (λ (l : List ℕ). l ++ []) e) (g .left))
+    module _ (l : k < T .count) {turn : Turn} {values′ : List ℤ} {modes′ : List ℕ}
+        (t : Turned (T .variables) (T .modes) (marksOf (T .marks) k) (numbersOf (T .numbers) k) values modes turn values′ modes′) where
+      pub writing-not-applied : turn .applied ≡ false → (next : ℕ) → next ≡ length p
+          → LinedTo T p from until values₀ modes₀ old at out (record { place = place; next = next }) values′ modes′
+      writing-not-applied f next m =
+          let off : takesBy T (state values modes) k ≡ false = sym (t .stepped .is) ∙ f in
+          let same-values : values′ ≡ values = t .stepped .valuesAre ∙ rw off refl in
+          let same-modes : modes′ ≡ modes = t .stepped .modesAre ∙ rw off refl in
+          stopped next m
+          (ap length same-values ∙ g .reached .valuesLong)
+          (ap length same-modes ∙ g .reached .modesLong)
+          (lines-not-applied T q values modes i k part-is in-part l t f) (lines-not-applied T p values modes i k e in-plan l t f)
 
-    pub writing-over : length p ≤ i → Wrote old at (linesBy T 0 p x₀) out place
-    writing-over h = all-written (lines-over T p values modes i h)
+      module _ (f : turn .applied ≡ true) where
+        abbrev line : List ℕ
+        line = lineOf i k (turn .price) (take (T .variables) values′)
 
-    module _ (k : ℕ) (e : k ≡ getD p i 0) (h : i < length p) where
-      pub writing-no-action : T .count ≤ k → Wrote old at (linesBy T 0 p x₀) out place
-      writing-no-action l = all-written (lines-no-action T p values modes i k e h l)
+        -- the line of the step comes next
+        parted : Left old at (linesTo T from until p (state values₀ modes₀)) out place (line ∷ leftBy T q (i + 1) values′ modes′ ∷ [])
+        parted =
+            let rest = leftBy T q (i + 1) values′ modes′ in
+            recast (ap (λ (z : List ℕ). z ++ []) (lines-next T q values modes i k part-is in-part l t f) ∙ append-assoc line rest []) (g .lines)
 
-      module _ (l : k < T .count) {turn : Turn} {values′ : List ℤ} {modes′ : List ℕ}
-          (t : Turned (T .variables) (T .modes) (marksOf (T .marks) k) (numbersOf (T .numbers) k) values modes turn values′ modes′) where
-        pub writing-not-applied : turn .applied ≡ false → Wrote old at (linesBy T 0 p x₀) out place
-        writing-not-applied f = all-written (lines-not-applied T p values modes i k e h l t f)
+        pub writing-reached : Reached (take until p) values′ modes′ (i + 1)
+        writing-reached = reached-next T q values modes i k part-is in-part l t f (L .usables) (g .reached)
 
-        module _ (f : turn .applied ≡ true) where
-          abbrev line : List ℕ
-          line = lineOf i k (turn .price) (take (T .variables) values′)
+        pub writing-room : RoomFor old at (LINE * (until - from)) (linesTo T from until p (state values₀ modes₀))
+            → RoomFor out place LINE (lineOf i k (turn .price) (take (T .variables) values′))
+        writing-room r = room-for-either (omega (arith, g .few, g .begun)) writing-long (λ w. room w parted) r
 
-          -- the line of the step comes next
-          parted : Left old at (linesBy T 0 p x₀) out place (line ∷ leftBy T p (i + 1) values′ modes′ ∷ [])
-          parted =
-              let rest = leftBy T p (i + 1) values′ modes′ in
-              recast (ap (λ (z : List ℕ). z ++ []) (lines-next T p values modes i k e h l t f) ∙ append-assoc line rest []) (g .left)
-
-          pub writing-room : Room old at (linesBy T 0 p x₀) → Room out place (lineOf i k (turn .price) (take (T .variables) values′))
-          writing-room r = room r parted
-
-          module _ (u : Usables T) where
-            pub writing-reached : Reached p values′ modes′ (i + 1)
-            writing-reached = reached-next T p values modes i k e h l t f u (g .reached)
-
-            pub writing-next : {after : List ℕ} {next : ℕ} → Wrote out place (lineOf i k (turn .price) (take (T .variables) values′)) after next
-                → Writing T p x₀ old at values′ modes′ (i + 1) after next
-            writing-next w = record { reached = writing-reached; left = step parted w }
+        pub writing-next : {after : List ℕ} {next : ℕ} → Wrote out place (lineOf i k (turn .price) (take (T .variables) values′)) after next → next ≤ place + LINE
+            → Writing T p from until (state values₀ modes₀) old at values′ modes′ (i + 1) after next
+        writing-next w m = record {
+          reached = writing-reached;
+          begun = omega (arith, g .begun);
+          lines = step parted w;
+          few = omega (arith, g .few, g .begun, m);
+          left = λ z u. g .left z
+              (lines-next T p values modes i k e in-plan l t f
+              ∙ ap (λ (y : List ℕ). line ++ y) u
+              ∙ sym (append-assoc line (leftBy T q (i + 1) values′ modes′) z)
+              ∙ ap (λ (y : List ℕ). y ++ z) (sym (lines-next T q values modes i k part-is in-part l t f)));
+        }

@@ -19,9 +19,9 @@ use Rattle.model.specs.Plans.{planNumbers}
 use Rattle.model.specs.Steps.{sourceStart, stepSource}
 use Rattle.model.specs.Judging.{judgeSourceTask, priceTask}
 use Rattle.model.specs.Listing.{stepLine, stepLines, goalLine, refusedLine, textOf, listing}
-use Rattle.source.specs.Step.{state}
-use Rattle.rows.specs.Table.{Table, declaredBy, takesBy, afterBy, priceBy, RowsOf, Inside}
-use Rattle.rows.proofs.Tables.{price-agrees, step-agrees, inside-after}
+use Rattle.source_step.specs.Step.{state}
+use Rattle.source_step.specs.Table.{Table, declaredBy, takesBy, afterBy, priceBy, RowsOf, Inside}
+use Rattle.source_step.proofs.Tables.{price-agrees, step-agrees, inside-after}
 use Rattle.source_walk.specs.declared.Task.{Task}
 use Rattle.source_walk.specs.declared.Verdict.{Verdict}
 use Rattle.source_walk.specs.declared.Verdict.the-variants.{Valid, Refused}

@@ -1,24 +1,29 @@
 -- The lines of a plan's steps, each taken by the rows of a task, and what is listed of the plan from a state on.
 -- Assumes nothing.
 use mathlib.Core.Path.{_≡_}
-use Prim.Native.Nat.{ℕ, suc, _≤_}
+use Prim.Native.Nat.{ℕ, suc, _+_, _-_, _*_, _≤_}
 use mathlib.Core.Bool.{true, cond}
 use mathlib.Core.List.{List, [], _∷_, _++_}
 use lib.Dec.{ltb}
-use lib.ListN.{length}
+use lib.ListN.{length, take, drop}
 use lib.IntN.{ℤ}
+use Rattle.lists.specs.Writing.{Wrote}
 use Rattle.model.specs.Tasks.{State}
 use Rattle.model.specs.Listing.{header, stepLine, goalLine, refusedLine}
-use Rattle.rows.specs.Table.{Table, declaredBy, takesBy, afterBy, priceBy, Usables}
+use Rattle.source_step.specs.Step.{state}
+use Rattle.source_step.specs.Table.{Table, declaredBy, takesBy, afterBy, priceBy, Usables}
 use Rattle.source_walk.specs.declared.Verdict.{Verdict}
 use Rattle.source_walk.specs.declared.Verdict.the-variants.{Valid, Refused}
 use Rattle.source_walk.specs.Walk.{Judging, judgeBy}
+use Rattle.listing.specs.Lines.{LINE}
+use Rattle.listing.specs.declared.Lined.{Lined}
 
--- required: steps can be taken by the rows, the plan is no longer than a plan may be, and the arrays are whole
-pub record Listable (T : Table) (p : List ℕ) (steps : ℕ) (values : List ℤ) (modes : List ℕ) : Type 0 where
+-- required: steps can be taken by the rows, those asked for are in the plan, which is no longer than a plan may be, and the arrays are whole
+pub record Listable (T : Table) (p : List ℕ) (from until : ℕ) (values : List ℤ) (modes : List ℕ) : Type 0 where
   pub usables : Usables T
-  pub counted : steps ≡ length p
-  pub few : steps ≤ 1_000_000
+  pub ordered : from ≤ until
+  pub inPlan : until ≤ length p
+  pub few : until ≤ 1_000_000
   pub valuesLong : length values ≡ 8
   pub modesLong : length modes ≡ 4
 
@@ -42,3 +47,18 @@ module _ (T : Table) where
 
   abbrev pub listedBy : List ℕ → State → List ℕ
   listedBy p x = let j : Judging = judgeBy T true p x in listedWith (linesBy 0 p x) (j .verdict) (j .price)
+
+  -- the lines of the steps from one on and until another
+  abbrev pub linesTo : ℕ → ℕ → List ℕ → State → List ℕ
+  linesTo from until p x = linesBy from (drop from (take until p)) x
+
+-- ensured: those lines were written, and what is left of all lines are those from the next step on, in the state after
+pub record LinedTo (T : Table) (p : List ℕ) (from until : ℕ) (values : List ℤ) (modes : List ℕ) (old : List ℕ) (at : ℕ) (after : List ℕ) (r : Lined)
+    (values′ : List ℤ) (modes′ : List ℕ) : Type 0 where
+  pub wrote : Wrote old at (linesTo T from until p (state values modes)) after (r .place)
+  pub few : r .place ≤ at + LINE * (until - from)
+  pub further : until ≤ r .next
+  pub inPlan : r .next ≤ length p
+  pub left : linesBy T from (drop from p) (state values modes) ≡ linesTo T from until p (state values modes) ++ linesBy T (r .next) (drop (r .next) p) (state values′ modes′)
+  pub valuesLong : length values′ ≡ 8
+  pub modesLong : length modes′ ≡ 4

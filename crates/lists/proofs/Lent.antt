@@ -4,17 +4,18 @@
 use mathlib.Core.Path.{_≡_, refl, ap, _∙_}
 use Prim.Native.Nat.{ℕ, _≤_, _<_}
 use mathlib.Core.Bool.{Bool, true, false, cond}
-use mathlib.Core.List.{List, _++_}
+use native.Mathlib.Omega.{arith}
+use mathlib.Core.List.{List, [], _++_}
 use lib.Dec.{leb}
 use lib.ListN.{length, take, drop}
 use lib.Seq.{take-append-seam, drop-append-seam}
 use borrow.Author.Tests.{le-leb, lt-leb}
 use Rattle.lists.specs.Answer.{Answer, given, refused, lent}
-use Rattle.lists.specs.Writing.{Wrote}
+use Rattle.lists.specs.Writing.{Room, Wrote}
 use Rattle.lists.specs.Written.{Lent}
 use Rattle.lists.specs.declared.Written.{Written}
 use Rattle.lists.specs.declared.Written.the-variants.{Bytes, Refused}
-use Rattle.lists.proofs.Writing.{splice-front}
+use Rattle.lists.proofs.Writing.{splice-front, splice-none, room-by}
 
 -- ---- what `lent` comes to
 
@@ -74,3 +75,22 @@ module _ {old : List ℕ} {answer : Answer (List ℕ)} where
     beyond {after} {r} l =
         ap (λ (z : Answer ℕ × List ℕ). drop (length bytes) (z .1)) (l .meets)
         ∙ rw result (lent-beyond old bytes)
+
+-- ---- a call that counts bytes, as many as its result has, on the first 0 bytes of the output, and then writes the result
+
+module _ (old : List ℕ) {answer : Answer (List ℕ)} {bytes others none : List ℕ} {n : ℕ} (result : answer ≡ given bytes) (same : length others ≡ length bytes)
+    (count : Wrote [] 0 others none n) where
+  as-it-was : none ++ old ≡ old
+  as-it-was = ap (λ (z : List ℕ). z ++ old) (count .bytes ∙ splice-none others [] 0 refl)
+
+  counted : n ≡ length bytes
+  counted = omega (arith, count .place, same)
+
+  pub counted-short : length (none ++ old) < n → Lent old answer (none ++ old) (Refused 8 n)
+  counted-short h = rw as-it-was (too-short result counted (rw as-it-was at h))
+
+  pub counted-room : n ≤ length (none ++ old) → Room (none ++ old) 0 bytes
+  counted-room h = room-by (omega (arith, h, counted))
+
+  pub counted-written : n ≤ length (none ++ old) → {after : List ℕ} {next : ℕ} → Wrote (none ++ old) 0 bytes after next → Lent old answer after (Bytes n)
+  counted-written h w = written result counted (rw as-it-was at h) (rw as-it-was at w)

@@ -11,6 +11,19 @@ use Rattle.integers.specs.Numbers.{Bytes, bytesOf}
 use Rattle.integers.proofs.Numbers.{length-bytes}
 use Rattle.lists.specs.Numbers.{numbersBytes, halves}
 
+-- ---- one number
+
+-- its bytes are the least and those of a smaller number
+pub bytes-more : (width n : ℕ) → 0 < width → bytesOf width n ≡ n % 256 ∷ bytesOf (width - 1) (n / 256)
+bytes-more zero n h = absurd (omega (arith, h))
+bytes-more (suc width) n h =
+    let e : width ≡ suc width - 1 = omega arith in
+    ap (λ (m : ℕ). n % 256 ∷ bytesOf m (n / 256)) e
+
+pub bytes-none : (width n : ℕ) → width ≤ 0 → bytesOf width n ≡ []
+bytes-none zero n h = refl
+bytes-none (suc width) n h = absurd (omega (arith, h))
+
 -- ---- numbers of any width
 
 pub length-numbers : (width : ℕ) (ks : List ℕ) → length (numbersBytes width ks) ≡ width * length ks

@@ -3,14 +3,14 @@
 -- In the middle of a writer stands `Left`: what it has still to write, as a list of parts, and from where.
 -- Assumes nothing.
 use mathlib.Core.Path.{_≡_, refl, sym, ap, _∙_, subst}
-use Prim.Native.Nat.{ℕ, suc, _+_, _≤_}
+use Prim.Native.Nat.{ℕ, zero, suc, _+_, _≤_, _<_}
 use native.Mathlib.Nat.{add-zero, zero-add}
 use native.Mathlib.Numerals.{add-one}
 use native.Mathlib.Omega.{arith}
 use mathlib.Core.List.{List, [], _∷_, _++_}
 use lib.ListN.{length, take, drop, set, length-set, length-append}
 use lib.Seq.{sets, sets-eq}
-use Rattle.lists.specs.Writing.{splice, Room, Wrote}
+use Rattle.lists.specs.Writing.{splice, capacity, Room, Wrote}
 
 -- ---- what a splice is
 
@@ -37,6 +37,48 @@ splice-front xs out h =
     let fits : 0 + length xs ≤ length out = omega arith in
     splice-eq xs out 0 fits ∙ ap (λ (k : ℕ). xs ++ drop k out) (zero-add (length xs))
 
+-- nothing is stored into output of length 0
+pub splice-none : (xs out : List ℕ) (at : ℕ) → length out ≡ 0 → splice out at xs ≡ out
+splice-none [] out at e = refl
+splice-none (x ∷ xs) [] at e = splice-none xs [] (at + 1) e
+splice-none (x ∷ xs) (y ∷ out) at e = absurd (omega (arith, e))
+
+-- ---- how far a writer goes
+
+capacity-some : (n : ℕ) → 0 < n → capacity n ≡ n
+capacity-some zero h = absurd (omega (arith, h))
+capacity-some (suc n) h = refl
+
+capacity-none : (n : ℕ) → n ≡ 0 → capacity n ≡ 4294967296
+capacity-none zero h = refl
+capacity-none (suc n) h = absurd (omega (arith, h))
+
+capacity-long : (n : ℕ) → n ≤ capacity n
+capacity-long zero = omega arith
+capacity-long (suc n) = omega arith
+
+-- a place within is a number of 64 bits, as the length is
+capacity-wide : (n : ℕ) → n < 18446744073709551616 → capacity n < 18446744073709551616
+capacity-wide zero h = omega arith
+capacity-wide (suc n) h = h
+
+-- bytes that fit have room
+pub room-by : {out : List ℕ} {at : ℕ} {xs : List ℕ} → at + length xs ≤ length out → Room out at xs
+room-by {out} h = record { fits = omega (arith, capacity-long (length out), h) }
+
+-- and so have bytes that are only counted
+pub room-count : {out : List ℕ} {at : ℕ} {xs : List ℕ} → length out ≡ 0 → at + length xs ≤ 4294967296 → Room out at xs
+room-count {out} e h = record { fits = omega (arith, capacity-none (length out) e, h) }
+
+module _ {out : List ℕ} {at : ℕ} {xs : List ℕ} (r : Room out at xs) where
+  -- the bytes fit into output that is there
+  pub room-some : 0 < length out → at + length xs ≤ length out
+  room-some h = omega (arith, r .fits, capacity-some (length out) h)
+
+  -- the place behind them is a number of 64 bits
+  pub room-wide : length out < 18446744073709551616 → at + length xs < 18446744073709551616
+  room-wide h = omega (arith, r .fits, capacity-wide (length out) h)
+
 -- ---- one writer
 
 pub wrote-long : {out : List ℕ} {at : ℕ} {xs after : List ℕ} {next : ℕ} → Wrote out at xs after next → length after ≡ length out
@@ -45,6 +87,10 @@ wrote-long {out} {at} {xs} w = ap length (w .bytes) ∙ length-splice xs out at
 -- the same bytes, said in another way
 pub wrote-as : {out : List ℕ} {at : ℕ} {xs ys after : List ℕ} {next : ℕ} → xs ≡ ys → Wrote out at xs after next → Wrote out at ys after next
 wrote-as {out} {at} {after = after} {next} e w = subst (λ z. Wrote out at z after next) e w
+
+-- counting stores nothing
+pub wrote-none : {out : List ℕ} {at : ℕ} {xs : List ℕ} {next : ℕ} → length out ≡ 0 → next ≡ at + length xs → Wrote out at xs out next
+wrote-none {out} {at} {xs} e p = record { place = p; bytes = sym (splice-none xs out at e) }
 
 pub room-as : {out : List ℕ} {at : ℕ} {xs ys : List ℕ} → xs ≡ ys → Room out at xs → Room out at ys
 room-as {out} {at} e r = subst (Room out at) e r
@@ -90,4 +136,4 @@ module _ {old : List ℕ} {at : ℕ} {all out : List ℕ} {place : ℕ} where
 
   -- what the writer of the first part requires
   pub room : {xs : List ℕ} {parts : List (List ℕ)} → Room old at all → Left old at all out place (xs ∷ parts) → Room out place xs
-  room {xs} {parts} r h = record { fits = omega (arith, r .fits, h .ends, long h, length-append xs (joined parts)) }
+  room {xs} {parts} r h = record { fits = omega (arith, r .fits, h .ends, ap capacity (long h), length-append xs (joined parts)) }

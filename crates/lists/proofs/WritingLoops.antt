@@ -1,11 +1,10 @@
--- Loops that write the bytes of the first k elements of a list, f of each, and loops that count those bytes.
+-- Loops that write the bytes of the first k elements of a list, f of each.
 -- Assumes nothing.
 use mathlib.Core.Path.{_≡_, ap, sym, _∙_}
-use native.Mathlib.Nat.{zero-add}
 use Prim.Native.Nat.{ℕ, _+_, _≤_, _<_, zero-le}
 use native.Mathlib.Omega.{arith}
 use mathlib.Core.List.{List, [], _∷_, _++_, append-nil, flatMap}
-use lib.ListN.{length, take, drop, getD, length-append}
+use lib.ListN.{length, take, drop, getD}
 use Rattle.lists.specs.Writing.{Room, Wrote}
 use Rattle.lists.proofs.Each.{flatMap-nil, flatMap-cons}
 use Rattle.lists.proofs.Loops.{There, rest-more, rest-none}
@@ -53,25 +52,3 @@ module _ {A : Type 0} {f : A → List ℕ} {k : ℕ} {xs : List A} {n : ℕ} {ol
 
     pub going-long : Going f k xs n old at out place i → length out ≡ length old
     going-long g = long (g .left)
-
--- ---- a loop that counts
-
-pub record Counted {A : Type 0} (f : A → List ℕ) (k : ℕ) (xs : List A) (n sum i : ℕ) : Type 0 where
-  pub here : There k xs n
-  pub bound : i ≤ n
-  pub whole : sum + length (flatMap f (drop i (take k xs))) ≡ length (flatMap f (take k xs))
-
-module _ {A : Type 0} {f : A → List ℕ} {k : ℕ} {xs : List A} {n : ℕ} where
-  pub counted-start : There k xs n → Counted f k xs n 0 0
-  counted-start h = record { here = h; bound = zero-le; whole = zero-add (length (flatMap f (take k xs))) }
-
-  module _ {sum i : ℕ} where
-    pub counted-next : (d : A) (m : ℕ) → Counted f k xs n sum i → i < n → m ≡ length (f (getD xs i d)) → Counted f k xs n (sum + m) (i + 1)
-    counted-next d m g l e = record {
-      here = g .here;
-      bound = omega arith;
-      whole = omega (arith, g .whole, ap length (flat-more f (g .here) d l), length-append (f (getD xs i d)) (flatMap f (drop (i + 1) (take k xs))));
-    }
-
-    pub counted-end : Counted f k xs n sum i → n ≤ i → sum ≡ length (flatMap f (take k xs))
-    counted-end g h = omega (arith, g .whole, ap length (flat-none f (g .here) (g .bound) h))

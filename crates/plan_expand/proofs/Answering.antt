@@ -20,9 +20,9 @@ use Rattle.model.specs.Systems.{expandFrom}
 use Rattle.model.specs.Expansion.{stageStepsFrom, expandTask}
 use Rattle.model.specs.Judging.{judgeSourceTask, priceTask, expandBytes}
 use Rattle.model.specs.Plans.{planBytes, planNumbers}
-use Rattle.source.specs.Step.{state}
-use Rattle.source.specs.declared.Progress.the-variants.{Through}
-use Rattle.rows.specs.Table.{Table, declaredBy, goalBy}
+use Rattle.source_step.specs.Step.{state}
+use Rattle.source_walk.specs.declared.Progress.the-variants.{Through}
+use Rattle.source_step.specs.Table.{Table, declaredBy, goalBy}
 use Rattle.source_walk.specs.declared.Task.{Task}
 use Rattle.source_walk.specs.declared.Verdict.{Verdict}
 use Rattle.source_walk.specs.declared.Verdict.the-variants.{Valid, Refused as VerdictRefused}

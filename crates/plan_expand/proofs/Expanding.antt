@@ -20,11 +20,11 @@ use Rattle.model.specs.Systems.{orEmpty, expandFrom, provided}
 use Rattle.model.specs.Steps.{integerAt, lowerBounds, upperBounds, stepSource}
 use Rattle.model.specs.Stages.{stagesOf, opening}
 use Rattle.model.specs.Expansion.{openedValues, stageWalk, stageStepsFrom}
-use Rattle.source.specs.declared.Progress.{Progress}
-use Rattle.source.specs.declared.Progress.the-variants.{Through, Stopped}
-use Rattle.rows.specs.Ready.{numbersOf}
-use Rattle.rows.specs.Table.{Table, declaredBy, takesBy, afterBy, effectBy, valuesBy, priceBy, RowsOf, Inside}
-use Rattle.rows.proofs.Tables.{step-agrees, inside-after}
+use Rattle.source_walk.specs.declared.Progress.{Progress}
+use Rattle.source_walk.specs.declared.Progress.the-variants.{Through, Stopped}
+use Rattle.source_step.specs.Ready.{numbersOf}
+use Rattle.source_step.specs.Table.{Table, declaredBy, takesBy, afterBy, effectBy, valuesBy, priceBy, RowsOf, Inside}
+use Rattle.source_step.proofs.Tables.{step-agrees, inside-after}
 use Rattle.plan_strokes.specs.Strokes.{strokesOf, macroSteps, stepNumbers, priceOfStrokes}
 use Rattle.plan_strokes.specs.Opening.{Marked, Opened}
 use Rattle.plan_strokes.proofs.Walks.{walk-is, steps-length, price-is}

@@ -13,15 +13,15 @@ use Rattle.integers.specs.Numbers.{bytesOf}
 use Rattle.lists.specs.Writing.{Room, Wrote}
 use Rattle.lists.proofs.Numbers.{length-numbers, numbers-append}
 use Rattle.lists.proofs.Loops.{and-left, and-right}
-use Rattle.lists.proofs.Writing.{Left, start, step, done, recast, long, room, wrote-as}
+use Rattle.lists.proofs.Writing.{Left, start, step, done, recast, long, room, room-by, wrote-as}
 use Rattle.lists.proofs.Lent.{too-short, written}
 use Rattle.lists.specs.declared.Written.the-variants.{Bytes, Refused}
 use Rattle.model.specs.Tasks.{State}
 use Rattle.model.specs.Plans.{planBytes}
-use Rattle.source.specs.Step.{state}
-use Rattle.rows.specs.Row.{outcomeAt, staysIn, Finished}
-use Rattle.rows.specs.Ready.{marksOf, numbersOf}
-use Rattle.rows.specs.Table.{Table, heldBy, takesBy, afterBy, Usables}
+use Rattle.source_step.specs.Step.{state}
+use Rattle.source_step.specs.Row.{outcomeAt, staysIn, Finished}
+use Rattle.source_step.specs.Ready.{marksOf, numbersOf}
+use Rattle.source_step.specs.Table.{Table, heldBy, takesBy, afterBy, Usables}
 use Rattle.plan_strokes.specs.Opening.{Opened}
 use Rattle.source_walk.proofs.Loop.{long-after}
 use Rattle.plan_expand.specs.Expanding.{openingIn, TurnTaken, goesBy, numbersBy, expansionBy, Expands, Expanded}
@@ -122,7 +122,7 @@ module _ {p openings old out : List ℕ} {place i : ℕ} (g : Opening p openings
         (g .left)
 
     pub opening-room : 2 * length p ≤ length old → Room out place (bytesOf 2 (openingIn openings k))
-    opening-room r = room (record { fits = omega (arith, r, length-numbers 2 (map (openingIn openings) p), length-map p (openingIn openings)) }) opening-parts
+    opening-room r = room (room-by (omega (arith, r, length-numbers 2 (map (openingIn openings) p), length-map p (openingIn openings)))) opening-parts
 
     pub opening-goes : {after : List ℕ} {end : ℕ} → Wrote out place (bytesOf 2 (openingIn openings k)) after end → Opening p openings old after end (i + 1)
     opening-goes w = record { bound = omega arith; left = step opening-parts w }
@@ -133,7 +133,7 @@ module _ (T : Table) {p : List ℕ} {x : State} {bytes : ℕ} (e : Expands T p x
   bytes-long = omega (arith, e .long openings, length-numbers 2 (expansionBy T openings p x))
 
   pub expansion-room : {out : List ℕ} → bytes ≤ length out → Room out 0 (planBytes (expansionBy T openings p x))
-  expansion-room h = record { fits = omega (arith, h, bytes-long) }
+  expansion-room h = room-by (omega (arith, h, bytes-long))
 
   pub expanded-short : {old : List ℕ} → length old < bytes → Expanded T p x old old (Refused 8 bytes)
   expanded-short h = record { openings = openings; opens = opens; lent = too-short refl bytes-long h }

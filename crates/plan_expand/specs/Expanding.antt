@@ -13,8 +13,8 @@ use Rattle.lists.specs.declared.Written.{Written}
 use Rattle.lists.specs.declared.Written.the-variants.{Bytes, Refused}
 use Rattle.model.specs.Tasks.{State}
 use Rattle.model.specs.Plans.{planBytes}
-use Rattle.rows.specs.Row.{outcomeAt, staysIn, valuesAfter, modesAfter}
-use Rattle.rows.specs.Table.{Table, takesBy, afterBy, effectBy, valuesBy}
+use Rattle.source_step.specs.Row.{outcomeAt, staysIn, valuesAfter, modesAfter}
+use Rattle.source_step.specs.Table.{Table, takesBy, afterBy, effectBy, valuesBy}
 use Rattle.plan_strokes.specs.Strokes.{strokesOf, stepNumbers}
 use Rattle.plan_strokes.specs.Opening.{Opened}
 use Rattle.source_walk.specs.declared.Verdict.{Verdict}

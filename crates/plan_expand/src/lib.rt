@@ -4,10 +4,10 @@
 use lists::Written;
 use plan_strokes::ENTRIES;
 use plan_strokes::STAGES;
-use rows::MARKS;
-use rows::NUMBERS;
-use source::MODES;
-use source::VARIABLES;
+use source_step::MARKS;
+use source_step::MODES;
+use source_step::NUMBERS;
+use source_step::VARIABLES;
 use source_walk::MOST_STEPS;
 use source_walk::Opened;
 use source_walk::ROWS;
@@ -22,12 +22,12 @@ ghost use Rattle.lists.specs.Written.{Lent};
 ghost use Rattle.model.specs.Judging.{expandBytes};
 ghost use Rattle.model.specs.Plans.{planBytes, planNumbers};
 ghost use Rattle.model.specs.Steps.{integerAt};
-ghost use Rattle.source.specs.Step.{state};
-ghost use Rattle.rows.specs.Row.{effectAt, held, Usable};
-ghost use Rattle.rows.specs.Table.{table, Usables};
+ghost use Rattle.source_step.specs.Step.{state};
+ghost use Rattle.source_step.specs.Row.{effectAt, held, Usable};
+ghost use Rattle.source_step.specs.Table.{table, Usables};
 ghost use Rattle.plan_strokes.specs.Strokes.{strokesOf, stepNumbers};
 ghost use Rattle.plan_expand.specs.Expanding.{lengthOf, openingIn, OpeningsFew, Named, TurnTaken, goesBy, expansionBy, Expandable, ExpandedTo};
-ghost use Rattle.source.specs.Sizes.{VARIABLES, MODES};
+ghost use Rattle.source_step.specs.Sizes.{VARIABLES, MODES};
 ghost use Rattle.plan_strokes.specs.Strokes.{STAGES};
 
 // How many bytes the expansion of a judged plan has that has such a price, or why there is none.
@@ -69,7 +69,7 @@ fn put_turn(
     let count = plan_strokes::put_strokes(times, values, n, marks, numbers);
     let place = plan_strokes::put_step(out, at, opening, times, count);
     let result = plan_strokes::result_from(times, count, values, n, marks, numbers);
-    rows::finish(values, modes, n, m, marks, numbers, result);
+    source_step::finish(values, modes, n, m, marks, numbers, result);
     place
 }
 
@@ -97,7 +97,7 @@ fn put_plan(
     let mut place: usize = 0;
     let mut i: usize = 0;
     while i < steps {
-        let k = source::wide16(planbytes::action_of(plan, i));
+        let k = source_step::wide16(plan_bytes::action_of(plan, i));
         place = put_turn(
             out,
             place,
@@ -115,6 +115,12 @@ fn put_plan(
     place
 }
 
+fn word(x: u16) -> u32
+    ensures { λ r. ⌜ r ≡ x ⌝ }
+{
+    x as u32
+}
+
 // Writes the openings of a plan's steps: its expansion, where each step becomes one number.
 fn put_openings(out: &mut [u8], plan: &[u8], steps: usize, openings: &[u16; ENTRIES]) -> usize
     requires { ⌜ (steps ≡ length (planNumbers (now plan))) × Named (planNumbers (now plan)) 33 × (2 * steps ≤ length (now out)) ⌝ }
@@ -123,8 +129,8 @@ fn put_openings(out: &mut [u8], plan: &[u8], steps: usize, openings: &[u16; ENTR
     let mut place: usize = 0;
     let mut i: usize = 0;
     while i < steps {
-        let k = source::wide16(planbytes::action_of(plan, i));
-        place = lists::put16(out, place, openings[k]);
+        let k = source_step::wide16(plan_bytes::action_of(plan, i));
+        place = lists::put_number(out, place, word(openings[k]), 2);
         i += 1;
     }
     place

@@ -13,8 +13,8 @@ use lib.IntN.{ℤ}
 use borrow.Author.Tests.{lt-ltb, le-ltb, eq-eqb, ne-eqb}
 use Rattle.lists.specs.Answer.{Answer, refused}
 use Rattle.model.specs.Following.{agreeing, strayed, pastMacro, intoMacro}
-use Rattle.rows.specs.Row.{kindAt, held, Stepped, Finished}
-use Rattle.rows.proofs.Taking.{not-held, behind-the-test}
+use Rattle.source_step.specs.Row.{kindAt, held, Stepped, Finished}
+use Rattle.source_step.proofs.Taking.{not-held, behind-the-test}
 use Rattle.plan_strokes.specs.Strokes.{macroSteps, stepNumbers}
 use Rattle.plan_strokes.proofs.Prices.{no-strokes}
 use Rattle.plan_project.specs.declared.Next.{Next}

@@ -28,9 +28,9 @@ use Rattle.model.proofs.NumberedPairing.{Agree}
 use Rattle.model.proofs.FollowingAgrees.{projections-agree}
 use Rattle.model.proofs.Following.{task-follows}
 use Rattle.model.proofs.DeadEnd.{dead-end-lacks-the-last}
-use Rattle.rows.specs.Ready.{numbersOf, RowAt}
-use Rattle.rows.specs.Table.{Table, declaredBy, heldBy, takesBy, afterBy, stepBy, goalBy, effectBy, valuesBy, RowsOf, Inside}
-use Rattle.rows.proofs.Tables.{goal-agrees, step-agrees, inside-after, turned-back, held-agrees}
+use Rattle.source_step.specs.Ready.{numbersOf, RowAt}
+use Rattle.source_step.specs.Table.{Table, declaredBy, heldBy, takesBy, afterBy, stepBy, goalBy, effectBy, valuesBy, RowsOf, Inside}
+use Rattle.source_step.proofs.Tables.{goal-agrees, step-agrees, inside-after, turned-back, held-agrees}
 use Rattle.plan_strokes.specs.Strokes.{strokesOf, stepNumbers}
 use Rattle.plan_strokes.specs.Opening.{Marked, Opened}
 use Rattle.plan_project.specs.Sources.{sourceIn, Below, OpenedBy, Openable, Sourced}

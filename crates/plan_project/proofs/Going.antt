@@ -13,11 +13,11 @@ use lib.IntN.{ℤ}
 use borrow.Author.Tests.{lt-ltb}
 use Rattle.lists.specs.Answer.{Answer, given, refused, then}
 use Rattle.model.specs.Tasks.{State}
-use Rattle.source.specs.Step.{state}
+use Rattle.source_step.specs.Step.{state}
 use Rattle.source_walk.proofs.Loop.{long-after}
-use Rattle.rows.specs.Row.{modesAfter}
-use Rattle.rows.specs.Ready.{marksOf, numbersOf}
-use Rattle.rows.specs.Table.{Table, takesBy, goalBy, Usables}
+use Rattle.source_step.specs.Row.{modesAfter}
+use Rattle.source_step.specs.Ready.{marksOf, numbersOf}
+use Rattle.source_step.specs.Table.{Table, takesBy, goalBy, Usables}
 use Rattle.plan_project.specs.declared.Next.{Next}
 use Rattle.plan_project.specs.declared.Next.the-variants.{At, Refused}
 use Rattle.plan_project.specs.declared.Followed.the-variants.{Ended, Stopped}

@@ -20,7 +20,7 @@ use Rattle.model.specs.Expansion.{openedValues, stageWalk}
 use Rattle.model.specs.Following.{makesMacro, macroNumbers, opens}
 use Rattle.model.proofs.MacroPlace.{macro-length}
 use Rattle.model.proofs.LoweredOk.{write-length}
-use Rattle.rows.specs.Row.{kindAt, effectAt}
+use Rattle.source_step.specs.Row.{kindAt, effectAt}
 use Rattle.plan_strokes.proofs.Effects.{single-kind, linear-kind, division-kind}
 use Rattle.plan_strokes.specs.Strokes.{strokesOf, macroSteps, stepNumbers, priceOfStrokes}
 use Rattle.plan_strokes.proofs.Walks.{walk-is, steps-length}

@@ -16,7 +16,7 @@ use Rattle.model.specs.Plans.{planNumbers}
 use Rattle.model.specs.Judging.{projectBytes}
 use Rattle.model.specs.Following.{projectFrom}
 use Rattle.model.proofs.Following.{projecting-follows}
-use Rattle.source.specs.Step.{state}
+use Rattle.source_step.specs.Step.{state}
 use Rattle.source_walk.specs.declared.Task.{Task}
 use Rattle.source_walk.specs.Opening.{opened, tableOf, Started}
 use Rattle.source_walk.proofs.Opening.{refused-both, goes-on}

@@ -10,12 +10,12 @@ use Rattle.lists.specs.Answer.{given, refused}
 use Rattle.lists.specs.Writing.{Room, Wrote}
 use Rattle.lists.specs.declared.Written.the-variants.{Bytes, Refused}
 use Rattle.lists.proofs.Numbers.{length-numbers}
-use Rattle.lists.proofs.Writing.{wrote-as}
+use Rattle.lists.proofs.Writing.{room-by, wrote-as}
 use Rattle.lists.proofs.Lent.{refusal, too-short, written}
 use Rattle.model.specs.Systems.{keep}
 use Rattle.model.specs.Tasks.{State}
 use Rattle.model.specs.Plans.{planBytes}
-use Rattle.rows.specs.Table.{Table, goalBy}
+use Rattle.source_step.specs.Table.{Table, goalBy}
 use Rattle.plan_project.specs.declared.Followed.{Followed}
 use Rattle.plan_project.specs.declared.Followed.the-variants.{Ended, Stopped}
 use Rattle.plan_project.specs.Sources.{sourceIn, OpenedBy}
@@ -81,7 +81,7 @@ module _ {T : Table} {total : ℕ} {sources q : List ℕ} {x : State} {r : Follo
       kept = K .keeps (F .kept) (reaches (K .opening) (K .opens))
 
       pub puttable : Room old 0 (planBytes (keep (sourceIn sources) q))
-      puttable = record { fits = omega (arith, bytes-needed, ap (λ (l : List ℕ). length (planBytes l)) kept) }
+      puttable = room-by (omega (arith, bytes-needed, ap (λ (l : List ℕ). length (planBytes l)) kept))
 
       pub noted-so : Notes noted (keep (sourceIn sources) q) × (found ≡ length (keep (sourceIn sources) q))
       noted-so = (subst (Notes noted) kept (F .notes), counted ∙ ap length kept)

@@ -16,10 +16,10 @@ use Rattle.model.specs.Tasks.{State}
 use Rattle.model.specs.Systems.{provided}
 use Rattle.model.specs.Following.{ifAny, strayed, pastMacro, intoMacro, projectOver}
 use Rattle.model.proofs.FollowingBound.{bounds-agree}
-use Rattle.source.specs.Step.{state}
-use Rattle.rows.specs.Row.{Stepped}
-use Rattle.rows.specs.Ready.{marksOf, numbersOf}
-use Rattle.rows.specs.Table.{Table, takesBy, afterBy, stepBy, goalBy}
+use Rattle.source_step.specs.Step.{state}
+use Rattle.source_step.specs.Row.{Stepped}
+use Rattle.source_step.specs.Ready.{marksOf, numbersOf}
+use Rattle.source_step.specs.Table.{Table, takesBy, afterBy, stepBy, goalBy}
 use Rattle.plan_project.specs.Sources.{entryAt, sourceIn, Below, OpenedBy}
 use Rattle.plan_project.specs.Following.{strayedAt, turned, allButLast, stepIn, opensIn, numbersIn, projectBy}
 

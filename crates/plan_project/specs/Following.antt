@@ -13,8 +13,8 @@ use Rattle.lists.specs.Answer.{Answer, given, refused}
 use Rattle.model.specs.Tasks.{State}
 use Rattle.model.specs.Steps.{integerAt}
 use Rattle.model.specs.Following.{strayed, makesMacro, pastMacro, intoMacro, projectOver}
-use Rattle.rows.specs.Row.{effectAt, held, Stepped}
-use Rattle.rows.specs.Table.{Table, heldBy, stepBy, goalBy, effectBy, valuesBy}
+use Rattle.source_step.specs.Row.{effectAt, held, Stepped}
+use Rattle.source_step.specs.Table.{Table, heldBy, stepBy, goalBy, effectBy, valuesBy}
 use Rattle.plan_strokes.specs.Strokes.{strokesOf, stepNumbers}
 use Rattle.plan_project.specs.Sources.{sourceIn, OpenedBy}
 use Rattle.plan_project.specs.declared.Next.{Next}

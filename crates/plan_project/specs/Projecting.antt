@@ -12,7 +12,7 @@ use Rattle.model.specs.Tasks.{SourceTask, State}
 use Rattle.model.specs.Steps.{sourceStart}
 use Rattle.model.specs.Plans.{planBytes}
 use Rattle.model.specs.Following.{projectFrom}
-use Rattle.rows.specs.Table.{Table, declaredBy, RowsOf, Inside}
+use Rattle.source_step.specs.Table.{Table, declaredBy, RowsOf, Inside}
 use Rattle.plan_project.specs.declared.Followed.{Followed}
 use Rattle.plan_project.specs.declared.Followed.the-variants.{Ended, Stopped}
 use Rattle.plan_project.specs.Sources.{sourceIn, OpenedBy}

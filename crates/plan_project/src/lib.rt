@@ -5,12 +5,12 @@
 use lists::Written;
 use plan_strokes::Openings;
 use plan_strokes::STAGES;
-use rows::ADD;
-use rows::KIND;
-use rows::MARKS;
-use rows::NUMBERS;
-use source::MODES;
-use source::VARIABLES;
+use source_step::ADD;
+use source_step::KIND;
+use source_step::MARKS;
+use source_step::MODES;
+use source_step::NUMBERS;
+use source_step::VARIABLES;
 use source_walk::Opened;
 use source_walk::ROWS;
 ghost use mathlib.Core.Path.{_≡_};
@@ -23,13 +23,13 @@ ghost use Rattle.lists.specs.Written.{Lent};
 ghost use Rattle.model.specs.Systems.{keep};
 ghost use Rattle.model.specs.Plans.{planBytes, planNumbers};
 ghost use Rattle.model.specs.Judging.{projectBytes};
-ghost use Rattle.source.specs.Step.{state};
-ghost use Rattle.rows.specs.Row.{kindAt, Usable};
-ghost use Rattle.rows.specs.Table.{table, Usables};
+ghost use Rattle.source_step.specs.Step.{state};
+ghost use Rattle.source_step.specs.Row.{kindAt, Usable};
+ghost use Rattle.source_step.specs.Table.{table, Usables};
 ghost use Rattle.plan_project.specs.Sources.{entryAt, sourceIn, Below, Openable, Sourced};
 ghost use Rattle.plan_project.specs.Following.{Answers, Further, strayedAt, pastAt, intoAt, Advanced, notedAt, Notes, PlanFollowed};
 ghost use Rattle.plan_project.specs.Projecting.{Posed, Kept, Reached, Projected, TaskProjected};
-ghost use Rattle.source.specs.Sizes.{VARIABLES, MODES};
+ghost use Rattle.source_step.specs.Sizes.{VARIABLES, MODES};
 ghost use Rattle.plan_strokes.specs.Strokes.{STAGES};
 
 // The restricted numbers that a table of them has room for.
@@ -56,7 +56,7 @@ fn sources_of(count: usize, openings: Openings) -> Sources
     };
     let mut k: usize = 0;
     while k < count {
-        let opening = source::wide16(openings.numbers[k]);
+        let opening = source_step::wide16(openings.numbers[k]);
         s.numbers[opening] = k as u8;
         k += 1;
     }
@@ -73,7 +73,7 @@ fn wide(x: u8) -> usize
 fn source_of(sources: &[u8; OPENINGS], number: u16) -> u8
     ensures { λ r. ⌜ r ≡ entryAt (now (sources .entry)) number ⌝ }
 {
-    let i = source::wide16(number);
+    let i = source_step::wide16(number);
     if i < OPENINGS {
         return sources[i];
     }
@@ -88,7 +88,7 @@ fn astray(plan: &[u8], steps: usize, total: usize, place: usize) -> u8
     if steps <= place {
         return 13;
     }
-    let k = source::wide16(planbytes::action_of(plan, place));
+    let k = source_step::wide16(plan_bytes::action_of(plan, place));
     if k < total {
         return 12;
     }
@@ -134,7 +134,7 @@ fn into_macro(
     ensures { λ r. ⌜ Answers r (planNumbers (now (plan .entry))) (λ onward. intoAt total at matched size (planNumbers (now (plan .entry)))) ⌝ }
     ensures { λ r. ⌜ Further false at (planNumbers (now (plan .entry))) r ⌝ }
 {
-    let place = at + source::lesser(matched, size - 1);
+    let place = at + source_step::lesser(matched, size - 1);
     Next::Refused(astray(plan, steps, total, place), place as u64)
 }
 
@@ -160,14 +160,14 @@ fn advance_macro(
         total at (planNumbers (now (plan .entry))) opening r (now (values .exit)) (now (modes .exit)) ⌝ }
     ensures { λ r. ⌜ length (now (times .exit)) ≡ STAGES ⌝ }
 {
-    if !rows::holds(values, modes, n, m, marks, numbers) {
+    if !source_step::holds(values, modes, n, m, marks, numbers) {
         return Next::Refused(12, at as u64);
     }
     let count = plan_strokes::put_strokes(times, values, n, marks, numbers);
     let matched = plan_strokes::matches_step(plan, at, opening, times, count);
     let size = plan_strokes::price_of(times, count) as usize;
     let result = plan_strokes::result_from(times, count, values, n, marks, numbers);
-    if rows::finish(values, modes, n, m, marks, numbers, result) {
+    if source_step::finish(values, modes, n, m, marks, numbers, result) {
         return past_macro(plan, steps, total, at, matched, size);
     }
     into_macro(plan, steps, total, at, matched, size)
@@ -196,7 +196,7 @@ fn advance(
     ensures { λ r. ⌜ length (now (times .exit)) ≡ STAGES ⌝ }
 {
     if marks[KIND] <= ADD {
-        if rows::take(values, modes, n, m, marks, numbers) {
+        if source_step::take(values, modes, n, m, marks, numbers) {
             return Next::At(at + 1);
         }
         return Next::Refused(12, at as u64);
@@ -258,7 +258,7 @@ fn follow(
     let mut found: usize = 0;
     let mut at: usize = 0;
     while at < steps {
-        let opening = planbytes::action_of(plan, at);
+        let opening = plan_bytes::action_of(plan, at);
         let source = source_of(sources, opening);
         let k = wide(source);
         if count <= k {
@@ -329,7 +329,7 @@ fn follow_to_goal(
     match followed {
         Followed::Stopped(number, place) => Followed::Stopped(number, place),
         Followed::Ended(found) => {
-            if rows::holds(values, modes, n, m, &marks[count], &numbers[count]) {
+            if source_step::holds(values, modes, n, m, &marks[count], &numbers[count]) {
                 return Followed::Ended(found);
             }
             Followed::Stopped(13, steps as u64)
@@ -347,13 +347,13 @@ fn put_sources(plan: &[u8], steps: usize, sources: &[u8; OPENINGS], out: &mut [u
     let mut at: usize = 0;
     let mut last: u16 = 0;
     while at < steps {
-        let number = planbytes::action_of(plan, at);
+        let number = plan_bytes::action_of(plan, at);
         let source = source_of(sources, number);
         if source < NONE {
-            place = lists::put16(out, place, source as u16);
+            place = lists::put_number(out, place, source as u32, 2);
             at += 1;
         } else if number == last {
-            at += planbytes::matches_run(plan, at, number, steps);
+            at += plan_bytes::matches_run(plan, at, number, steps);
         } else {
             last = number;
             at += 1;
@@ -362,10 +362,10 @@ fn put_sources(plan: &[u8], steps: usize, sources: &[u8; OPENINGS], out: &mut [u
     place
 }
 
-fn half(x: u8) -> u16
+fn word(x: u8) -> u32
     ensures { λ r. ⌜ r ≡ x ⌝ }
 {
-    x as u16
+    x as u32
 }
 
 // Writes the first source numbers that are noted.
@@ -376,7 +376,7 @@ fn put_noted(noted: &[u8; NOTED], found: usize, out: &mut [u8]) -> usize
     let mut place: usize = 0;
     let mut i: usize = 0;
     while i < found {
-        place = lists::put16(out, place, half(noted[i]));
+        place = lists::put_number(out, place, word(noted[i]), 2);
         i += 1;
     }
     place
@@ -471,7 +471,7 @@ fn project_ready(
         (planNumbers (now (plan .entry))) (now (out .entry)) (now (out .exit)) r ⌝ }
 {
     let openings = plan_strokes::openings_of(count, marks);
-    let total = source::wide16(openings.numbers[count]);
+    let total = source_step::wide16(openings.numbers[count]);
     let sources = sources_of(count, openings);
     project_rows(
         plan,

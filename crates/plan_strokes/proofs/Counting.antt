@@ -15,8 +15,8 @@ use Rattle.lists.proofs.Each.{length-tabulate}
 use Rattle.model.specs.Tasks.{Effect, SourceAction}
 use Rattle.model.specs.Steps.{integerAt, naturalAt}
 use Rattle.model.specs.Stages.{countActions, clear, move, helperA, stagesOf, opening}
-use Rattle.rows.specs.Row.{kindAt, targetAt, termCountAt, termsAt, effectAt}
-use Rattle.rows.specs.Ready.{marksOf}
+use Rattle.source_step.specs.Row.{kindAt, targetAt, termCountAt, termsAt, effectAt}
+use Rattle.source_step.specs.Ready.{marksOf}
 use Rattle.plan_strokes.proofs.Effects.{single-kind, linear-kind, division-kind}
 use Rattle.plan_strokes.proofs.Sizes.{terms-size, no-opening-before, opening-next}
 use Rattle.plan_strokes.specs.Opening.{Sized, Marked, Opened}

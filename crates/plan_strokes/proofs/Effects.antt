@@ -12,8 +12,8 @@ use borrow.Author.Tests.{le-leb, lt-leb, eqb-true, eqb-false, ne-eqb}
 use Rattle.integers.specs.Relation.{withinLimit}
 use Rattle.model.specs.Tasks.{Effect, noEffect, addEffect, linearEffect, quotientEffect, residueEffect}
 use Rattle.model.specs.Steps.{integerAt}
-use Rattle.source.specs.Parts.{small, divides}
-use Rattle.rows.specs.Row.{kindAt, targetAt, operandAt, constantAt, termsAt, effectOfKind, effectAt, Reads}
+use Rattle.source_step.specs.Parts.{small, divides}
+use Rattle.source_step.specs.Row.{kindAt, targetAt, operandAt, constantAt, termsAt, effectOfKind, effectAt, Reads}
 
 module _ (marks : List ℕ) (numbers : List ℤ) where
   -- an action that stays one action

@@ -16,9 +16,9 @@ use Rattle.integers.specs.Parts.{Within, EachWithin}
 use Rattle.integers.proofs.Parts.{ints, sub, mul-up, mul-down}
 use Rattle.integers.specs.Relation.{withinLimit}
 use Rattle.lists.proofs.Loops.{and-left, and-right}
-use Rattle.source.specs.Parts.{small, divides}
-use Rattle.source.proofs.Numbers as numbers
-use Rattle.source.proofs.Rows.{Row, Left, left-next, left-none}
+use Rattle.source_step.specs.Parts.{small, divides}
+use Rattle.source_step.proofs.InRange as numbers
+use Rattle.source_step.proofs.Rows.{Row, Left, left-next, left-none}
 use Rattle.plan_strokes.specs.Strokes.{termStrokes}
 use Rattle.plan_strokes.specs.Made.{Listed, Two}
 

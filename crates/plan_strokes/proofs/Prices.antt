@@ -14,9 +14,9 @@ use Rattle.lists.proofs.Loops.{There, there-all, rest-more, rest-none}
 use Rattle.model.specs.Tasks.{Effect}
 use Rattle.model.specs.Steps.{integerAt, linear}
 use Rattle.model.specs.Expansion.{priceOfEffect}
-use Rattle.rows.specs.Row.{kindAt, targetAt, constantAt, termsAt, effectAt, outcomeAt, ResultIs, held, Finished}
-use Rattle.rows.proofs.Numbers.{outcome-linear, outcome-quotient, outcome-residue}
-use Rattle.rows.proofs.Taking.{not-held, behind-the-test}
+use Rattle.source_step.specs.Row.{kindAt, targetAt, constantAt, termsAt, effectAt, outcomeAt, ResultIs, held, Finished}
+use Rattle.source_step.proofs.Numbers.{outcome-linear, outcome-quotient, outcome-residue}
+use Rattle.source_step.proofs.Taking.{not-held, behind-the-test}
 use Rattle.plan_strokes.specs.Strokes.{termStrokes, strokesOf, allStrokes, priceOfStrokes}
 use Rattle.plan_strokes.specs.Made.{Listed, Turned}
 use Rattle.plan_strokes.proofs.Effects.{single-kind, linear-kind, quotient-kind, residue-kind}

@@ -10,7 +10,7 @@ use Rattle.integers.specs.Division.{unitLess, floor}
 use Rattle.integers.specs.Parts.{EachWithin}
 use Rattle.model.specs.Steps.{integerAt}
 use Rattle.model.specs.Expansion.{strokes, priceOfEffect}
-use Rattle.rows.specs.Row.{effectAt, held, Stepped}
+use Rattle.source_step.specs.Row.{effectAt, held, Stepped}
 use Rattle.plan_strokes.specs.Strokes.{STAGES}
 use Rattle.plan_strokes.specs.declared.Run.{Run}
 use Rattle.plan_strokes.specs.declared.Turn.{Turn}

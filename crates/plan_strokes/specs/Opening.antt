@@ -8,8 +8,8 @@ use lib.ListN.{getD, getElem?}
 use lib.IntN.{ℤ}
 use Rattle.model.specs.Tasks.{SourceAction}
 use Rattle.model.specs.Stages.{macroSize, opening}
-use Rattle.rows.specs.Row.{effectAt}
-use Rattle.rows.specs.Ready.{marksOf}
+use Rattle.source_step.specs.Row.{effectAt}
+use Rattle.source_step.specs.Ready.{marksOf}
 
 -- how many restricted actions an action with these marks becomes, whatever its numbers and the bounds
 pub record Sized (marks : List ℕ) (r : ℕ) : Type 0 where

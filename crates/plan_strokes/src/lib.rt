@@ -3,20 +3,20 @@
 // its effect gives. Expanding writes these runs, projecting compares a plan with them.
 //
 // Strokes go by the values before the step, into lent times. It never reads a file or a plan's action numbers.
-use actions::TERMS;
-use rows::ADD;
-use rows::CONSTANT;
-use rows::COUNT;
-use rows::KIND;
-use rows::LINEAR;
-use rows::MARKS;
-use rows::NUMBERS;
-use rows::OPERAND;
-use rows::QUOTIENT;
-use rows::TARGET;
-use rows::TERM;
-use source::MODES;
-use source::VARIABLES;
+use file_actions::TERMS;
+use source_step::ADD;
+use source_step::CONSTANT;
+use source_step::COUNT;
+use source_step::KIND;
+use source_step::LINEAR;
+use source_step::MARKS;
+use source_step::MODES;
+use source_step::NUMBERS;
+use source_step::OPERAND;
+use source_step::QUOTIENT;
+use source_step::TARGET;
+use source_step::TERM;
+use source_step::VARIABLES;
 ghost use mathlib.Core.Path.{_≡_};
 ghost use mathlib.Core.Bool.{true, _&&_};
 ghost use Prim.Native.Nat.{_+_, _≤_, _<_};
@@ -29,12 +29,12 @@ ghost use Rattle.model.specs.Plans.{planBytes, planNumbers};
 ghost use Rattle.model.specs.Following.{agreeing};
 ghost use Rattle.model.specs.Steps.{integerAt};
 ghost use Rattle.model.specs.Tasks.{linearEffect};
-ghost use Rattle.source.specs.Parts.{small, divides};
-ghost use Rattle.rows.specs.Row.{kindAt, targetAt, constantAt, termsAt, effectAt, ResultIs, Reads, Usable};
+ghost use Rattle.source_step.specs.Parts.{small, divides};
+ghost use Rattle.source_step.specs.Row.{kindAt, targetAt, constantAt, termsAt, effectAt, ResultIs, Reads, Usable};
 ghost use Rattle.plan_strokes.specs.Strokes.{strokesOf, stageSteps, macroSteps, stepNumbers, priceOfStrokes};
 ghost use Rattle.plan_strokes.specs.Made.{Listed, Two, RunOf, divisionStrokes, Turned};
 ghost use Rattle.plan_strokes.specs.Opening.{Sized, Opened};
-ghost use Rattle.source.specs.Sizes.{VARIABLES, MODES};
+ghost use Rattle.source_step.specs.Sizes.{VARIABLES, MODES};
 ghost use Rattle.plan_strokes.specs.Strokes.{STAGES};
 
 // The most stages of a macro.
@@ -68,20 +68,20 @@ fn put_linear(
     ensures { λ r. ⌜ Listed (strokesOf (linearEffect (targetAt (now (marks .entry))) (constantAt (now (numbers .entry))) (termsAt (now (marks .entry)) (now (numbers .entry))))
         (integerAt (take n (now (values .entry))))) (now (times .exit)) r ⌝ }
 {
-    let k = source::lesser(TERMS, source::wide16(marks[COUNT]));
+    let k = source_step::lesser(TERMS, source_step::wide16(marks[COUNT]));
     let mut count: usize = 0;
     let mut i: usize = 0;
     while i < k {
-        let value = rows::value_of(values, n, marks[TERM + i]);
+        let value = source_step::value_of(values, n, marks[TERM + i]);
         count = put_two(times, count, value, value);
         i += 1;
     }
-    let before = rows::value_of(values, n, marks[TARGET]);
+    let before = source_step::value_of(values, n, marks[TARGET]);
     put_two(
         times,
         count,
         before,
-        rows::linear_value(values, n, marks, numbers),
+        source_step::linear_value(values, n, marks, numbers),
     )
 }
 
@@ -125,8 +125,8 @@ fn put_divided(
     requires { ⌜ (length (now times) ≡ STAGES) × Reads n (now values) (now marks) (now numbers) × (3 ≤ kindAt (now marks)) ⌝ }
     ensures { λ r. ⌜ Listed (strokesOf (effectAt (now (marks .entry)) (now (numbers .entry))) (integerAt (take n (now (values .entry))))) (now (times .exit)) r ⌝ }
 {
-    let target = rows::value_of(values, n, marks[TARGET]);
-    let y = rows::value_of(values, n, marks[OPERAND]);
+    let target = source_step::value_of(values, n, marks[TARGET]);
+    let y = source_step::value_of(values, n, marks[OPERAND]);
     let c = numbers[CONSTANT];
     let quotient = integers::quotient(y, c);
     let residue = integers::residue(y, c);
@@ -185,7 +185,7 @@ pub fn result_from(
     ensures { λ r. ⌜ ResultIs n (now (marks .entry)) (now (numbers .entry)) (now (values .entry)) r ⌝ }
 {
     if count == 0 {
-        return rows::result_of(values, n, marks, numbers);
+        return source_step::result_of(values, n, marks, numbers);
     }
     let last = count - 1;
     times[last]
@@ -212,21 +212,21 @@ pub fn take_priced(
     ensures { λ r. ⌜ Turned n m (now (marks .entry)) (now (numbers .entry)) (now (values .entry)) (now (modes .entry)) r (now (values .exit)) (now (modes .exit)) ⌝ }
     ensures { λ r. ⌜ length (now (times .exit)) ≡ STAGES ⌝ }
 {
-    if !rows::holds(values, modes, n, m, marks, numbers) {
+    if !source_step::holds(values, modes, n, m, marks, numbers) {
         return Turn {
             applied: false,
             price: 0,
         };
     }
     if marks[KIND] <= ADD {
-        let result = rows::result_of(values, n, marks, numbers);
-        let applied = rows::finish(values, modes, n, m, marks, numbers, result);
+        let result = source_step::result_of(values, n, marks, numbers);
+        let applied = source_step::finish(values, modes, n, m, marks, numbers, result);
         return Turn { applied, price: 1 };
     }
     let count = put_strokes(times, values, n, marks, numbers);
     let price = price_of(times, count);
     let result = result_from(times, count, values, n, marks, numbers);
-    let applied = rows::finish(values, modes, n, m, marks, numbers, result);
+    let applied = source_step::finish(values, modes, n, m, marks, numbers, result);
     Turn { applied, price }
 }
 
@@ -261,7 +261,7 @@ fn put_stage(out: &mut [u8], at: usize, first: u16, z: i64) -> usize
 {
     let run = run_of(first, z);
     let place = lists::fill_run(out, at, run.number, run.count);
-    lists::put16(out, place, first + TURN)
+    lists::put_number(out, place, (first + TURN) as u32, 2)
 }
 
 // Writes the steps of all stages, the first one's actions being numbered from `first`.
@@ -293,7 +293,7 @@ pub fn put_step(
     requires { ⌜ Room (now out) at (planBytes (stepNumbers opening (take count (now times)))) ⌝ }
     ensures { λ r. ⌜ Wrote (now (out .entry)) at (planBytes (stepNumbers opening (take count (now (times .entry))))) (now (out .exit)) r ⌝ }
 {
-    let place = lists::put16(out, at, opening);
+    let place = lists::put_number(out, at, opening as u32, 2);
     put_stages(out, place, opening + 1, times, count)
 }
 
@@ -303,11 +303,11 @@ fn matches_stage(plan: &[u8], at: usize, first: u16, z: i64) -> usize
     ensures { λ r. ⌜ r ≡ agreeing (stageSteps first z) (drop at (planNumbers (now (plan .entry)))) ⌝ }
 {
     let run = run_of(first, z);
-    let strokes = planbytes::matches_run(plan, at, run.number, run.count);
+    let strokes = plan_bytes::matches_run(plan, at, run.number, run.count);
     if strokes < run.count {
         return strokes;
     }
-    strokes + planbytes::matches_run(plan, at + strokes, first + TURN, 1)
+    strokes + plan_bytes::matches_run(plan, at + strokes, first + TURN, 1)
 }
 
 // How many are the steps of all stages, the first one's actions being numbered from `first`.
@@ -343,7 +343,7 @@ pub fn matches_step(
     requires { ⌜ (opening ≤ 65000) × (count ≤ STAGES) × (length (now times) ≡ STAGES) × (at ≤ length (planNumbers (now plan))) ⌝ }
     ensures { λ r. ⌜ r ≡ agreeing (stepNumbers opening (take count (now (times .entry)))) (drop at (planNumbers (now (plan .entry)))) ⌝ }
 {
-    let opened = planbytes::matches_run(plan, at, opening, 1);
+    let opened = plan_bytes::matches_run(plan, at, opening, 1);
     if opened == 0 {
         return 0;
     }
@@ -367,7 +367,7 @@ fn macro_size(marks: &[u16; MARKS]) -> u16
         return 1;
     }
     if kind == LINEAR {
-        return 7 + 6 * (source::lesser(TERMS, source::wide16(marks[COUNT])) as u16);
+        return 7 + 6 * (source_step::lesser(TERMS, source_step::wide16(marks[COUNT])) as u16);
     }
     19
 }

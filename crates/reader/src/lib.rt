@@ -1,6 +1,6 @@
 // The reader: it holds the file and a place in it, and hands over one command a time.
 //
-// Its functions are thin, over functions on a slice and a number, which callers without a reader use as well. It judges nothing: `tasks` does.
+// Its functions are thin, over functions on a slice and a number, which callers without a reader use as well. It judges nothing: `file_check` does.
 use commands::Command;
 ghost use mathlib.Core.Path.{_≡_};
 ghost use lib.ListN.{drop};

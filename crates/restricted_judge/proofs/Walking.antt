@@ -8,8 +8,8 @@ use native.Mathlib.Numerals.{add-one}
 use native.Mathlib.Omega.{arith}
 use mathlib.Core.Bool.{cond}
 use mathlib.Core.Option.{none, some}
-use mathlib.Core.List.{List, _∷_}
-use lib.ListN.{length, getD, drop, getElem?, length-map}
+use mathlib.Core.List.{List, [], _∷_}
+use lib.ListN.{length, getD, drop, getElem?}
 use lib.Seq.{drop-cons}
 use lib.IntN.{ℤ}
 use borrow.Author.Tests.{lt-ltb, le-ltb}
@@ -22,19 +22,25 @@ use Rattle.model.specs.Steps.{sizesOf, stepRestricted, restrictedGoalHolds}
 use Rattle.model.specs.Judging.{judge}
 use Rattle.model.proofs.AcceptedOk.{accepted-restricted-ok}
 use Rattle.model.proofs.Pairing.{bind-gives, some-injective}
-use Rattle.model.proofs.StageWalk.{all-get}
-use Rattle.restricted.specs.Alone.{taskIn}
-use Rattle.restricted.proofs.Effects.{beyond-same, beyond-then}
-use Rattle.restricted.proofs.Stepping.{none-left}
-use Rattle.restricted_rows.specs.Row.{rowIs}
-use Rattle.restricted_rows.specs.Steps.{stepBy}
-use Rattle.restricted_rows.proofs.Usable.{usable}
-use Rattle.repeats.specs.Repeats.{stepsBy}
-use Rattle.repeats.specs.Runs.{Alike, CanRun, Led, Passed, Stuck}
-use Rattle.kept.specs.PlacesKept.{PlacesKept}
+use Rattle.file_parts.specs.Row.{rowIs}
+use Rattle.restricted_step.specs.Sizes.{MODES}
+use Rattle.restricted_step.specs.Steps.{stepBy}
+use Rattle.restricted_step.specs.Whole.{taskIn, declaredOf, stepOf, StandingIn, SparedIn}
+use Rattle.restricted_step.proofs.Effects.{beyond-same, beyond-then}
+use Rattle.restricted_step.proofs.Usable.{usable}
+use Rattle.restricted_step.proofs.Whole.{stays, goes, sizes-many, action-ok, step-by-number}
+use Rattle.restricted_runs.specs.Repeats.{stepsBy}
+use Rattle.restricted_runs.specs.Runs.{Alike, CanRun, Led, Passed, Stuck}
+use Rattle.restricted_runs.specs.Slots.{PlacesKept}
 use Rattle.restricted_judge.specs.declared.Walk.the-variants.{Through, Ended}
-use Rattle.restricted_judge.specs.Judging.{AcceptedPlan, judgingFrom, declaredOf, Standing, Spared, Walked}
-use Rattle.restricted_judge.proofs.Whole.{stays, goes}
+use Rattle.restricted_judge.specs.Judging.{AcceptedPlan, judgingFrom, Walked}
+
+-- ---- past the last element nothing is left
+none-left : {A : Type 0} (n : ℕ) (l : List A) → length l ≤ n → drop n l ≡ []
+none-left zero [] h = refl
+none-left zero (x ∷ l) h = absurd (omega arith)
+none-left (suc n) [] h = refl
+none-left (suc n) (x ∷ l) h = none-left n l (omega arith)
 
 -- ---- one step of the definition
 module _ (t : RestrictedTask) (p : List ℕ) (i : ℕ) (x : State) where
@@ -66,15 +72,15 @@ module _ (file plan places : List ℕ) (count steps : ℕ) (x₀ : State) where
     pub input : AcceptedPlan file plan count steps
     pub placed : PlacesKept file places count
     pub bound : i ≤ steps
-    pub standing : Standing (taskIn file) x
+    pub standing : StandingIn (taskIn file) x
     pub judged : judgingFrom (taskIn file) (planNumbers plan) i (declaredOf (taskIn file) x) ≡ judgingFrom (taskIn file) (planNumbers plan) 0 (declaredOf (taskIn file) x₀)
-    pub spared : Spared (taskIn file) x₀ x
+    pub spared : SparedIn (taskIn file) x₀ x
 
-spared-then : {t : RestrictedTask} {x y z : State} → Spared t x y → Spared t y z → Spared t x z
-spared-then a b = record { values = beyond-then (a .values) (b .values); modes = beyond-then (a .modes) (b .modes) }
+spared-then : (t : RestrictedTask) {x y z : State} → SparedIn t x y → SparedIn t y z → SparedIn t x z
+spared-then t a b = record { values = beyond-then (a .values) (b .values); modes = beyond-then (a .modes) (b .modes) }
 
 module _ {file plan places : List ℕ} {count steps : ℕ} {x₀ : State} where
-  pub walk-start : AcceptedPlan file plan count steps → PlacesKept file places count → Standing (taskIn file) x₀ → Walking file plan places count steps x₀ 0 x₀
+  pub walk-start : AcceptedPlan file plan count steps → PlacesKept file places count → StandingIn (taskIn file) x₀ → Walking file plan places count steps x₀ 0 x₀
   walk-start a p s = record { input = a; placed = p; bound = omega arith; standing = s; judged = refl; spared = record { values = beyond-same; modes = beyond-same } }
 
   -- one step, and so many, by action k
@@ -89,15 +95,25 @@ module _ {file plan places : List ℕ} {count steps : ℕ} {x₀ : State} where
       below : getD (planNumbers plan) i 0 < length (taskIn file .actions)
       below = omega (arith, W .input .countIs)
 
+      abbrev sizes : List ℕ
+      sizes = sizesOf (taskIn file .modes)
+
+      action : RestrictedActionOk restrictedLimits (length (taskIn file .starts)) sizes a
+      action = action-ok (taskIn file) ok k a is
+
+      -- the task's step on what it declares of x is the step of action k
+      numbered : stepRestricted (taskIn file) (declaredOf (taskIn file) x) (getD (planNumbers plan) i 0) ≡ stepOf sizes (declaredOf (taskIn file) x) a
+      numbered = ap (stepRestricted (taskIn file) (declaredOf (taskIn file) x)) takes ∙ sym (step-by-number (taskIn file) (declaredOf (taskIn file) x) k a is)
+
       one-stops : stepBy a x ≡ none → refused 12 i ≡ judgingFrom (taskIn file) (planNumbers plan) 0 (declaredOf (taskIn file) x₀)
       one-stops e =
           step-stops (taskIn file) (planNumbers plan) i (declaredOf (taskIn file) x) inside below
-          (ap (stepRestricted (taskIn file) (declaredOf (taskIn file) x)) takes ∙ stays (taskIn file) ok k a is x (W .standing) e)
+          (numbered ∙ stays (length (taskIn file .starts)) (length (taskIn file .modes)) sizes (sizes-many (taskIn file)) a action x (W .standing) e)
           ∙ W .judged
 
       one-goes : (y : State) → stepBy a x ≡ some y → Walking file plan places count steps x₀ (i + 1) y
       one-goes y e =
-          let (s, standing, spared) = goes (taskIn file) ok k a is x (W .standing) y e in
+          let (s, standing, spared) = goes (length (taskIn file .starts)) (length (taskIn file .modes)) sizes (sizes-many (taskIn file)) a action x (W .standing) y e in
           record {
             input = W .input;
             placed = W .placed;
@@ -105,9 +121,9 @@ module _ {file plan places : List ℕ} {count steps : ℕ} {x₀ : State} where
             standing = standing;
             judged =
                 step-goes (taskIn file) (planNumbers plan) i (declaredOf (taskIn file) x) inside below (declaredOf (taskIn file) y)
-                (ap (stepRestricted (taskIn file) (declaredOf (taskIn file) x)) takes ∙ s)
+                (numbered ∙ s)
                 ∙ W .judged;
-            spared = spared-then (W .spared) spared;
+            spared = spared-then (taskIn file) (W .spared) spared;
           }
 
     many-go : (taken : ℕ) {i : ℕ} {x : State} → Walking file plan places count steps x₀ i x → i + taken ≤ steps → Alike k plan i taken
@@ -141,7 +157,7 @@ module _ {file plan places : List ℕ} {count steps : ℕ} {x₀ : State} where
         pub walk-can : CanRun (x .values) marks numbers k plan i steps
         walk-can = record {
           canTake = record {
-            usable = usable (length (taskIn file .starts)) (sizesOf (taskIn file .modes)) marks numbers (ok .startsFew) sizesFew action;
+            usable = usable (length (taskIn file .starts)) (sizesOf (taskIn file .modes)) marks numbers (ok .startsFew) sizesFew (action-ok (taskIn file) ok k (rowIs marks numbers) is);
             within = W .standing .within;
           };
           stepsAre = W .input .stepsAre;
@@ -154,12 +170,8 @@ module _ {file plan places : List ℕ} {count steps : ℕ} {x₀ : State} where
             ok : RestrictedTaskOk (taskIn file)
             ok = accepted-restricted-ok file (taskIn file) (W .input .accepted)
 
-            sizesFew : length (sizesOf (taskIn file .modes)) ≤ 8
-            sizesFew = omega (arith, ok .modesFew, length-map (taskIn file .modes) (λ (p : ℕ × ℕ). p .0))
-
-            action : RestrictedActionOk restrictedLimits (length (taskIn file .starts)) (sizesOf (taskIn file .modes)) (rowIs marks numbers)
-            action =
-                all-get (RestrictedActionOk restrictedLimits (length (taskIn file .starts)) (sizesOf (taskIn file .modes))) (taskIn file .actions) k (rowIs marks numbers) (ok .actionsOk) is
+            sizesFew : length (sizesOf (taskIn file .modes)) ≤ MODES
+            sizesFew = omega (arith, ok .modesFew, sizes-many (taskIn file))
 
         pub walk-stops : {at : ℕ} → Stuck (rowIs marks numbers) x k plan i steps at → (y : State) → Walked file plan steps x₀ (Ended 12 at) y
         walk-stops {at} R y = record {

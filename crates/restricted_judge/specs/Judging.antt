@@ -3,7 +3,6 @@
 use mathlib.Core.Path.{_≡_}
 use Prim.Native.Nat.{ℕ, _*_, _≤_}
 use mathlib.Core.List.{List}
-use mathlib.Core.Bool.{true}
 use lib.ListN.{length, drop, replicate}
 use lib.IntN.{pos}
 use Rattle.integers.specs.Numbers.{Bytes}
@@ -11,11 +10,12 @@ use Rattle.lists.specs.Answer.{Answer, given, refused}
 use Rattle.model.specs.Tasks.{RestrictedTask, State}
 use Rattle.model.specs.Decoding.{readRestricted}
 use Rattle.model.specs.Plans.{planNumbers}
-use Rattle.model.specs.Steps.{sizesOf, valuesWithin, modesBelowSizes, figure, stepRestricted, restrictedGoalHolds}
-use Rattle.model.specs.Judging.{judge, declaredPart, withRest}
-use Rattle.restricted.specs.Changes.{stateOf, Beyond}
-use Rattle.restricted.specs.Step.{wholeIs}
-use Rattle.restricted.specs.Alone.{taskIn}
+use Rattle.model.specs.Steps.{stepRestricted, restrictedGoalHolds}
+use Rattle.model.specs.Judging.{judge, withRest}
+use Rattle.restricted_step.specs.Sizes.{VARIABLES, MODES}
+use Rattle.restricted_step.specs.Steps.{stateOf}
+use Rattle.restricted_step.specs.Whole.{taskIn, declaredOf, SparedIn}
+use Rattle.restricted_state.specs.Step.{wholeIs}
 use Rattle.restricted_judge.specs.declared.Verdict.{Verdict}
 use Rattle.restricted_judge.specs.declared.Verdict.the-variants.{Valid, Refused}
 use Rattle.restricted_judge.specs.declared.Judgement.{Judgement}
@@ -24,7 +24,7 @@ use Rattle.restricted_judge.specs.declared.Walk.the-variants.{Through, E
 
 -- ---- the count of steps or the refusal; and the end state in front of zeros, or zeros alone on a refusal
 abbrev pub zeros : State
-zeros = stateOf (replicate 64 (pos 0)) (replicate 8 0)
+zeros = stateOf (replicate VARIABLES (pos 0)) (replicate MODES 0)
 
 abbrev pub verdictIs : Verdict → Answer ℕ
 verdictIs (Valid steps) = given steps
@@ -55,26 +55,12 @@ pub record AcceptedPlan (file plan : List ℕ) (count steps : ℕ) : Type 0 wher
 abbrev pub judgingFrom : RestrictedTask → List ℕ → ℕ → State → Answer (ℕ × State)
 judgingFrom t plan i x = judge (length (t .actions)) (stepRestricted t) (restrictedGoalHolds t) i (drop i plan) x
 
--- what a task declares of a whole state
-abbrev pub declaredOf : RestrictedTask → State → State
-declaredOf t x = declaredPart (length (t .starts)) (length (t .modes)) x
-
--- a whole state from which a task can go on: all that it declares is there, all values lie within the figure, those of the modes below their sizes
-pub record Standing (t : RestrictedTask) (x : State) : Type 0 where
-  pub valuesLong : length (t .starts) ≤ length (x .values)
-  pub modesLong : length (t .modes) ≤ length (x .modes)
-  pub within : valuesWithin figure (x .values) ≡ true
-  pub below : modesBelowSizes (sizesOf (t .modes)) (x .modes) ≡ true
-
--- what stands beyond the task's variables and modes is as before
-pub record Spared (t : RestrictedTask) (x y : State) : Type 0 where
-  pub values : Beyond (length (t .starts)) (x .values) (y .values)
-  pub modes : Beyond (length (t .modes)) (x .modes) (y .modes)
-
+-- what stands beyond the task's variables and modes is as before, where the walk goes through
 abbrev pub WalkSpared : Walk → RestrictedTask → State → State → Type 0
-WalkSpared Through t x y = Spared t x y
+WalkSpared Through t x y = SparedIn t x y
 WalkSpared (Ended number place) t x y = Unit {0}
 
 pub record Walked (file plan : List ℕ) (steps : ℕ) (x : State) (r : Walk) (y : State) : Type 0 where
-  pub judged : walkIs r (judgingFrom (taskIn file) (planNumbers plan) steps (declaredOf (taskIn file) y)) ≡ judgingFrom (taskIn file) (planNumbers plan) 0 (declaredOf (taskIn file) x)
+  pub judged : walkIs r (judgingFrom (taskIn file) (planNumbers plan) steps (declaredOf (taskIn file) y))
+      ≡ judgingFrom (taskIn file) (planNumbers plan) 0 (declaredOf (taskIn file) x)
   pub spared : WalkSpared r (taskIn file) x y

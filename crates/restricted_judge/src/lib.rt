@@ -1,27 +1,23 @@
-// The judge of restricted plans. It reads the file and the plan, keeps the actions of the plan as rows (`kept`), takes its runs of equal
-// numbers at once (`repeats`), and answers for every input.
-use actions::Goal;
-use kept::PLACES;
-use planbytes::Counted;
-use repeats::Run;
-use restricted::MODES;
-use restricted::State;
-use restricted::VARIABLES;
-use restricted_rows::MARKS;
-use restricted_rows::NUMBERS;
+// The judge of restricted plans. It reads the file and the plan, keeps the actions of the plan as rows and takes its runs of equal numbers at
+// once (`restricted_runs`), and answers for every input. The goal is tested as the conditions of an action are.
+use file_parts::MARKS;
+use file_parts::NUMBERS;
+use plan_bytes::Counted;
+use restricted_runs::PLACES;
+use restricted_runs::Run;
+use restricted_state::State;
+use restricted_step::MODES;
+use restricted_step::VARIABLES;
 ghost use mathlib.Core.Path.{_≡_};
 ghost use Prim.Native.Nat.{_<_, _≤_};
-ghost use lib.ListN.{length, take};
+ghost use lib.ListN.{length};
 ghost use Rattle.lists.specs.Answer.{refused};
 ghost use Rattle.model.specs.Plans.{planNumbers};
-ghost use Rattle.model.specs.Judging.{declaredPart, judgeRestrictedTask, judgeRestricted};
-ghost use Rattle.model.specs.Steps.{goalHolds};
-ghost use Rattle.actions.specs.Views.{conditionRoom, modeConditionRoom, goalConditionsIs, goalModesIs};
-ghost use Rattle.restricted.specs.Changes.{stateOf};
-ghost use Rattle.restricted.specs.Alone.{taskIn};
-ghost use Rattle.kept.specs.PlacesKept.{PlacesKept};
-ghost use Rattle.kept.specs.Slots.{Held};
-ghost use Rattle.restricted_judge.specs.Judging.{judgementIs, judgementOf, AcceptedPlan, Standing, Walked};
+ghost use Rattle.model.specs.Judging.{judgeRestrictedTask, judgeRestricted};
+ghost use Rattle.restricted_step.specs.Steps.{stateOf};
+ghost use Rattle.restricted_step.specs.Whole.{taskIn, StandingIn};
+ghost use Rattle.restricted_runs.specs.Slots.{PlacesKept, Held};
+ghost use Rattle.restricted_judge.specs.Judging.{judgementIs, judgementOf, AcceptedPlan, Walked};
 
 // A plan of so many steps is given all slots.
 const MANY_STEPS: usize = 4_096;
@@ -86,20 +82,22 @@ fn judge_runs(
     marks: &mut [[u16; MARKS]],
     numbers: &mut [[i64; NUMBERS]],
 ) -> Walk
-    requires { ⌜ AcceptedPlan (now file) (now plan) count steps × PlacesKept (now file) (now places) count × Standing (taskIn (now file)) (stateOf (now values) (now modes)) ⌝ }
+    requires { ⌜ AcceptedPlan (now file) (now plan) count steps × PlacesKept (now file) (now places) count
+        × StandingIn (taskIn (now file)) (stateOf (now values) (now modes)) ⌝ }
     requires { ⌜ (8 ≤ length (now tags)) × Held (now file) count (now tags) (now marks) (now numbers) ⌝ }
-    ensures { λ r. ⌜ Walked (now (file .entry)) (now (plan .entry)) steps (stateOf (now (values .entry)) (now (modes .entry))) r (stateOf (now (values .exit)) (now (modes .exit))) ⌝ }
+    ensures { λ r. ⌜ Walked (now (file .entry)) (now (plan .entry)) steps (stateOf (now (values .entry)) (now (modes .entry)))
+        r (stateOf (now (values .exit)) (now (modes .exit))) ⌝ }
 {
     let mut i: usize = 0;
     while i < steps {
-        let k = planbytes::action_of(plan, i);
+        let k = plan_bytes::action_of(plan, i);
         let number = wide16(k);
         if count <= number {
             return Walk::Ended(11, i as u64);
         }
         let slot = slot_of(number, tags.len());
-        kept::keep_action(file, places, count, tags, marks, numbers, slot, k);
-        let run = repeats::take_run(
+        restricted_runs::keep_action(file, places, count, tags, marks, numbers, slot, k);
+        let run = restricted_runs::take_run(
             values,
             modes,
             &marks[slot],
@@ -126,8 +124,9 @@ fn walk_few(
     values: &mut [i64; VARIABLES],
     modes: &mut [u16; MODES],
 ) -> Walk
-    requires { ⌜ AcceptedPlan (now file) (now plan) count steps × (count < 1024) × Standing (taskIn (now file)) (stateOf (now values) (now modes)) ⌝ }
-    ensures { λ r. ⌜ Walked (now (file .entry)) (now (plan .entry)) steps (stateOf (now (values .entry)) (now (modes .entry))) r (stateOf (now (values .exit)) (now (modes .exit))) ⌝ }
+    requires { ⌜ AcceptedPlan (now file) (now plan) count steps × (count < 1024) × StandingIn (taskIn (now file)) (stateOf (now values) (now modes)) ⌝ }
+    ensures { λ r. ⌜ Walked (now (file .entry)) (now (plan .entry)) steps (stateOf (now (values .entry)) (now (modes .entry)))
+        r (stateOf (now (values .exit)) (now (modes .exit))) ⌝ }
 {
     let row = [0u16; MARKS];
     let line = [0i64; NUMBERS];
@@ -135,7 +134,7 @@ fn walk_few(
     let mut tags = [NO_ACTION; FEW_SLOTS];
     let mut marks = [row; FEW_SLOTS];
     let mut numbers = [line; FEW_SLOTS];
-    actions::action_places(file, &mut places);
+    file_actions::action_places(file, &mut places);
     judge_runs(
         file,
         &places,
@@ -159,8 +158,9 @@ fn walk_many(
     values: &mut [i64; VARIABLES],
     modes: &mut [u16; MODES],
 ) -> Walk
-    requires { ⌜ AcceptedPlan (now file) (now plan) count steps × Standing (taskIn (now file)) (stateOf (now values) (now modes)) ⌝ }
-    ensures { λ r. ⌜ Walked (now (file .entry)) (now (plan .entry)) steps (stateOf (now (values .entry)) (now (modes .entry))) r (stateOf (now (values .exit)) (now (modes .exit))) ⌝ }
+    requires { ⌜ AcceptedPlan (now file) (now plan) count steps × StandingIn (taskIn (now file)) (stateOf (now values) (now modes)) ⌝ }
+    ensures { λ r. ⌜ Walked (now (file .entry)) (now (plan .entry)) steps (stateOf (now (values .entry)) (now (modes .entry)))
+        r (stateOf (now (values .exit)) (now (modes .exit))) ⌝ }
 {
     let row = [0u16; MARKS];
     let line = [0i64; NUMBERS];
@@ -168,7 +168,7 @@ fn walk_many(
     let mut tags = [NO_ACTION; SLOTS];
     let mut marks = [row; SLOTS];
     let mut numbers = [line; SLOTS];
-    actions::action_places(file, &mut places);
+    file_actions::action_places(file, &mut places);
     judge_runs(
         file,
         &places,
@@ -192,33 +192,14 @@ fn walk_plan(
     values: &mut [i64; VARIABLES],
     modes: &mut [u16; MODES],
 ) -> Walk
-    requires { ⌜ AcceptedPlan (now file) (now plan) count steps × Standing (taskIn (now file)) (stateOf (now values) (now modes)) ⌝ }
-    ensures { λ r. ⌜ Walked (now (file .entry)) (now (plan .entry)) steps (stateOf (now (values .entry)) (now (modes .entry))) r (stateOf (now (values .exit)) (now (modes .exit))) ⌝ }
+    requires { ⌜ AcceptedPlan (now file) (now plan) count steps × StandingIn (taskIn (now file)) (stateOf (now values) (now modes)) ⌝ }
+    ensures { λ r. ⌜ Walked (now (file .entry)) (now (plan .entry)) steps (stateOf (now (values .entry)) (now (modes .entry)))
+        r (stateOf (now (values .exit)) (now (modes .exit))) ⌝ }
 {
     if MANY_STEPS <= steps || FEW_PLACES <= count {
         return walk_many(file, count, plan, steps, values, modes);
     }
     walk_few(file, count, plan, steps, values, modes)
-}
-
-// Whether a goal is met, in a task with n variables and m modes.
-fn goal_met(values: &[i64; VARIABLES], modes: &[u16; MODES], n: usize, m: usize, goal: Goal) -> bool
-    requires { ⌜ (n ≤ 64) × (m ≤ 8) ⌝ }
-    ensures { λ r. ⌜ r ≡ goalHolds (take modeConditionRoom (goalModesIs goal)) (take conditionRoom (goalConditionsIs goal)) (declaredPart n m (stateOf (now (values .entry)) (now (modes .entry)))) ⌝ }
-{
-    restricted::conditions_met(
-        values,
-        modes,
-        n,
-        m,
-        goal.condition_count,
-        &goal.condition_variables,
-        &goal.condition_relations,
-        &goal.condition_constants,
-        goal.mode_condition_count,
-        &goal.mode_condition_modes,
-        &goal.mode_condition_values,
-    )
 }
 
 // The judgement of a plan that is refused.
@@ -241,15 +222,19 @@ fn judge_accepted(file: &[u8], count: usize, plan: &[u8], steps: usize) -> Judge
     let mut values = [0i64; VARIABLES];
     let mut sizes = [0u16; MODES];
     let mut modes = [0u16; MODES];
-    let declared = declarations::read_restricted(file, &mut values, &mut sizes, &mut modes);
-    let n = declared.variables;
-    let m = declared.modes;
+    let mut marks = [0u16; MARKS];
+    let mut numbers = [0i64; NUMBERS];
+    let _declared = file_declarations::read_restricted(file, &mut values, &mut sizes, &mut modes);
     let walk = walk_plan(file, count, plan, steps, &mut values, &mut modes);
     if let Walk::Ended(number, place) = walk {
         return refuse(number, place);
     }
-    let goal = actions::decode_goal(actions::goal_bytes(file, count));
-    if !goal_met(&values, &modes, n, m, goal) {
+    file_actions::decode_restricted(
+        file_actions::goal_bytes(file, count),
+        &mut marks,
+        &mut numbers,
+    );
+    if !restricted_step::holds(&values, &modes, &marks, &numbers) {
         return refuse(13, steps as u64);
     }
     Judgement {
@@ -263,11 +248,11 @@ fn judge_accepted(file: &[u8], count: usize, plan: &[u8], steps: usize) -> Judge
 pub fn judge(file: &[u8], plan: &[u8]) -> Judgement
     ensures { λ r. ⌜ judgementIs r ≡ judgementOf (judgeRestricted (now (file .entry)) (now (plan .entry))) ⌝ }
 {
-    let checked = tasks::check_restricted(file);
+    let checked = file_check::check_restricted(file);
     match checked {
-        tasks::Verdict::Rejected(number, place) => refuse(number, place),
-        tasks::Verdict::Accepted(_, _, count) => {
-            let counted = planbytes::count_steps(plan);
+        file_check::Verdict::Rejected(number, place) => refuse(number, place),
+        file_check::Verdict::Accepted(_, _, count) => {
+            let counted = plan_bytes::count_steps(plan);
             match counted {
                 Counted::Refused(number, place) => refuse(number, place),
                 Counted::Steps(steps) => judge_accepted(file, count as usize, plan, steps),

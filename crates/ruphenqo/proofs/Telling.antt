@@ -5,7 +5,7 @@ use Prim.Native.Nat.{ℕ}
 use mathlib.Core.Option.{Option, none, some, Option·none-ne-some, Option·some-injective}
 use Rattle.lists.specs.Answer.{Answer, given, refused}
 use Rattle.model.specs.Tasks.{State}
-use Rattle.restricted.specs.Alone.{stepAnswerOf}
+use Rattle.restricted_state.specs.Alone.{stepAnswerOf}
 use Rattle.ruphenqo.specs.Told.{Told, codeOf, placeOf, resultOr, endOver, itself}
 
 pub told-as : {A B : Type 0} {answer other : Answer A} {f : A → B} {old : B} {code place : ℕ} {after : B} → answer ≡ other → Told answer f old code place after → Told other f old code place after

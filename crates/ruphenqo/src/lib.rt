@@ -9,22 +9,22 @@ ghost use Rattle.model.specs.Reading.{verdictOf};
 ghost use Rattle.model.specs.ActionBytes.{actionPlace};
 ghost use Rattle.model.specs.Judging.{judgeSource, judgeRestricted, stepRestrictedAlone, stepSourceAlone, priceStep, pricePlan, lowerBytes, expandBytes, projectBytes};
 ghost use Rattle.model.specs.Listing.{listing};
-ghost use Rattle.tasks.specs.Views.{verdictIs};
-ghost use Rattle.actions.specs.Places.{placedIs};
+ghost use Rattle.file_check.specs.Views.{verdictIs};
+ghost use Rattle.file_actions.specs.Places.{placedIs};
 ghost use Rattle.source_state.specs.Priced.{pricedIs};
 ghost use Rattle.restricted_judge.specs.Judging.{zeros};
 ghost use Rattle.source_walk.specs.Answers.{zeros as sourceZeros};
 ghost use Rattle.ruphenqo.specs.Told.{Told, countsOf, itself, stateOf, endOver};
 
-fn tell_counts(verdict: tasks::Verdict, counts: &mut [u64; 3], place: &mut u64) -> u32
+fn tell_counts(verdict: file_check::Verdict, counts: &mut [u64; 3], place: &mut u64) -> u32
     ensures { λ r. ⌜ Told (countsOf (verdictIs verdict)) itself (now (counts .entry)) r (now (place .exit)) (now (counts .exit)) ⌝ }
 {
     match verdict {
-        tasks::Verdict::Rejected(number, at) => {
+        file_check::Verdict::Rejected(number, at) => {
             *place = at;
             number as u32
         }
-        tasks::Verdict::Accepted(variables, modes, actions) => {
+        file_check::Verdict::Accepted(variables, modes, actions) => {
             *place = 0;
             *counts = [variables as u64, modes as u64, actions as u64];
             0
@@ -37,7 +37,7 @@ fn tell_counts(verdict: tasks::Verdict, counts: &mut [u64; 3], place: &mut u64) 
 pub extern "C" fn ruphenqo_read_source(task: &[u8], counts: &mut [u64; 3], place: &mut u64) -> u32
     ensures { λ r. ⌜ Told (countsOf (verdictOf sourceLimits (now (task .entry)))) itself (now (counts .entry)) r (now (place .exit)) (now (counts .exit)) ⌝ }
 {
-    tell_counts(tasks::check_source(task), counts, place)
+    tell_counts(file_check::check_source(task), counts, place)
 }
 
 // Reads a restricted file.
@@ -49,18 +49,18 @@ pub extern "C" fn ruphenqo_read_restricted(
 ) -> u32
     ensures { λ r. ⌜ Told (countsOf (verdictOf restrictedLimits (now (task .entry)))) itself (now (counts .entry)) r (now (place .exit)) (now (counts .exit)) ⌝ }
 {
-    tell_counts(tasks::check_restricted(task), counts, place)
+    tell_counts(file_check::check_restricted(task), counts, place)
 }
 
-fn tell_place(placed: actions::Placed, start: &mut u64, end: &mut u64, place: &mut u64) -> u32
+fn tell_place(placed: file_actions::Placed, start: &mut u64, end: &mut u64, place: &mut u64) -> u32
     ensures { λ r. ⌜ Told (placedIs placed) itself (now (start .entry), now (end .entry)) r (now (place .exit)) (now (start .exit), now (end .exit)) ⌝ }
 {
     match placed {
-        actions::Placed::Refused(number, at) => {
+        file_actions::Placed::Refused(number, at) => {
             *place = at;
             number as u32
         }
-        actions::Placed::At(from, to) => {
+        file_actions::Placed::At(from, to) => {
             *place = 0;
             *start = from as u64;
             *end = to as u64;
@@ -81,7 +81,7 @@ pub extern "C" fn ruphenqo_source_action(
     ensures { λ r. ⌜ Told (actionPlace sourceLimits (now (task .entry)) k) itself (now (start .entry), now (end .entry)) r (now (place .exit)) (now (start .exit), now (end .exit)) ⌝ }
 {
     tell_place(
-        actions::place_source_action(task, k as usize),
+        file_actions::place_source_action(task, k as usize),
         start,
         end,
         place,
@@ -100,7 +100,7 @@ pub extern "C" fn ruphenqo_restricted_action(
     ensures { λ r. ⌜ Told (actionPlace restrictedLimits (now (task .entry)) k) itself (now (start .entry), now (end .entry)) r (now (place .exit)) (now (start .exit), now (end .exit)) ⌝ }
 {
     tell_place(
-        actions::place_restricted_action(task, k as usize),
+        file_actions::place_restricted_action(task, k as usize),
         start,
         end,
         place,
@@ -182,19 +182,19 @@ pub extern "C" fn ruphenqo_step_restricted(
 ) -> u32
     ensures { λ r. ⌜ Told (stepRestrictedAlone (now (task .entry)) (stateOf (now (values .entry)) (now (modes .entry))) k) itself (stateOf (now (values .entry)) (now (modes .entry))) r (now (place .exit)) (stateOf (now (values .exit)) (now (modes .exit))) ⌝ }
 {
-    let before = restricted::State {
+    let before = restricted_state::State {
         values: *values,
         modes: *modes,
     };
-    let answer = restricted::step_alone(task, before, k as usize);
+    let answer = restricted_state::step_alone(task, before, k as usize);
     let verdict = answer.verdict;
     let state = answer.state;
     match verdict {
-        restricted::StepVerdict::Refused(number, at) => {
+        restricted_state::StepVerdict::Refused(number, at) => {
             *place = at;
             number as u32
         }
-        restricted::StepVerdict::Applied => {
+        restricted_state::StepVerdict::Applied => {
             *place = 0;
             let after_values = state.values;
             let after_modes = state.modes;
@@ -295,9 +295,9 @@ fn tell_written(written: lists::Written, length: &mut u64, place: &mut u64) -> u
     ensures { λ r. ⌜ Told (answerOf written) itself (now (length .entry)) r (now (place .exit)) (now (length .exit)) ⌝ }
 {
     match written {
-        lists::Written::Refused(number, at) => {
+        lists::Written::Refused(refusal, at) => {
             *place = at;
-            number as u32
+            refusal as u32
         }
         lists::Written::Bytes(count) => {
             *place = 0;
@@ -318,7 +318,7 @@ pub extern "C" fn ruphenqo_lower(
     ensures { λ r. ⌜ Told (lent (now (out .entry)) (lowerBytes (now (task .entry))) .0) itself (now (length .entry)) r (now (place .exit)) (now (length .exit)) ⌝ }
     ensures { λ _. ⌜ now (out .exit) ≡ lent (now (out .entry)) (lowerBytes (now (task .entry))) .1 ⌝ }
 {
-    tell_written(lowering::lower(task, out), length, place)
+    tell_written(lowering_file::lower(task, out), length, place)
 }
 
 // The expansion of a source plan, written into lent output.

@@ -19,17 +19,17 @@ use Rattle.model.specs.Steps.{stepSource}
 use Rattle.model.specs.Judging.{ifApplies, declaredPart, withRest, stepAlone, stepSourceAlone}
 use Rattle.model.proofs.Pairing.{none-not-some}
 use Rattle.model.proofs.AcceptedOk.{accepted-source-ok}
-use Rattle.declarations.specs.declared.Declared.{Declared}
-use Rattle.source.specs.Step.{state, stepOf, handedBack, Tried}
-use Rattle.source.specs.Judged.{AcceptedWith}
+use Rattle.file_declarations.specs.declared.Declared.{Declared}
+use Rattle.source_step.specs.Step.{state, stepOf, handedBack, Tried}
+use Rattle.source_step.specs.Accepted.{AcceptedWith}
 use Rattle.source_state.specs.Alone.{stepVerdict, verdictOver, returned, RowRead}
 use Rattle.source_state.specs.Step.{steppedBy}
-use Rattle.rows.specs.Row.{Stepped}
-use Rattle.rows.proofs.Taking.{tried}
-use Rattle.source.proofs.Steps.{step-of-task}
-use Rattle.source.proofs.Judging.{task-of, accepted-task, counted-task, task-by}
-use Rattle.actions.specs.Places.{BytesOfAction, stepPlace}
-use Rattle.actions.proofs.Refusals.{step-refused}
+use Rattle.source_step.specs.Row.{Stepped}
+use Rattle.source_step.proofs.Taking.{tried}
+use Rattle.source_step.proofs.Steps.{step-of-task}
+use Rattle.source_step.proofs.Judging.{task-of, accepted-task, counted-task, task-by}
+use Rattle.file_actions.specs.Places.{BytesOfAction, stepPlace}
+use Rattle.file_actions.proofs.Refusals.{step-refused}
 
 found-below : {A : Type 0} (l : List A) (k : ℕ) (a : A) → getElem? l k ≡ some a → k < length l
 found-below [] k a e = absurd (none-not-some refl e)

@@ -22,12 +22,12 @@ use Rattle.model.specs.Judging.{stepAlone, stepSourceAlone, priceStep}
 use Rattle.model.specs.Decoding.{readSource}
 use Rattle.model.proofs.AcceptedOk.{accepted-source-ok}
 use Rattle.model.proofs.StageWalk.{all-get}
-use Rattle.declarations.specs.declared.Declared.{Declared}
-use Rattle.actions.specs.Places.{BytesOfAction}
-use Rattle.source.specs.Step.{state}
-use Rattle.source.proofs.Judging.{task-of, task-by}
-use Rattle.rows.specs.Row.{effectAt, held, takes, staysIn, outcomeAt, Reads}
-use Rattle.rows.proofs.Taking.{read-when-held}
+use Rattle.file_declarations.specs.declared.Declared.{Declared}
+use Rattle.file_actions.specs.Places.{BytesOfAction}
+use Rattle.source_step.specs.Step.{state}
+use Rattle.source_step.proofs.Judging.{task-of, task-by}
+use Rattle.source_step.specs.Row.{effectAt, held, takes, staysIn, outcomeAt, Reads}
+use Rattle.source_step.proofs.Taking.{read-when-held}
 use Rattle.plan_strokes.specs.Made.{Listed}
 use Rattle.plan_strokes.specs.Strokes.{strokesOf, priceOfStrokes}
 use Rattle.plan_strokes.proofs.Prices.{price-from}

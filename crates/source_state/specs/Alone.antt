@@ -7,16 +7,16 @@ use mathlib.Core.List.{List}
 use lib.ListN.{getElem?}
 use lib.IntN.{ℤ}
 use mathlib.Core.Option.{some}
-use Rattle.declarations.specs.declared.Declared.{Declared}
-use Rattle.declarations.specs.Holding.{HoldsSource}
-use Rattle.source.specs.Sizes.{VARIABLES, MODES}
-use Rattle.rows.specs.Row.{RowOf}
+use Rattle.file_declarations.specs.declared.Declared.{Declared}
+use Rattle.file_declarations.specs.Holding.{HoldsSource}
+use Rattle.source_step.specs.Sizes.{VARIABLES, MODES}
+use Rattle.source_step.specs.Row.{RowOf}
 use Rattle.lists.specs.Answer.{Answer, given, refused}
 use Rattle.model.specs.Tasks.{SourceTask, SourceAction, State}
 use Rattle.model.specs.Decoding.{readSource}
 use Rattle.model.specs.Limits.{sourceLimits}
 use Rattle.model.specs.Judging.{stepSourceAlone}
-use Rattle.actions.specs.Places.{BytesOfAction}
+use Rattle.file_actions.specs.Places.{BytesOfAction}
 use Rattle.source_state.specs.declared.StepVerdict.{StepVerdict}
 use Rattle.source_state.specs.declared.StepVerdict.the-variants.{Applied, Refused}
 use Rattle.source_state.specs.declared.StepAnswer.{StepAnswer}

@@ -7,7 +7,7 @@ use Rattle.lists.specs.Answer.{Answer, given, refused}
 use Rattle.model.specs.Tasks.{State}
 use Rattle.model.specs.Limits.{sourceLimits}
 use Rattle.model.specs.Judging.{priceStep}
-use Rattle.actions.specs.Places.{BytesOfAction}
+use Rattle.file_actions.specs.Places.{BytesOfAction}
 use Rattle.source_state.specs.declared.Priced.{Priced}
 use Rattle.source_state.specs.declared.Priced.the-variants.{Price, Refused}
 

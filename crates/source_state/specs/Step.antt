@@ -5,8 +5,8 @@ use mathlib.Core.Bool.{Bool, cond}
 use mathlib.Core.List.{List}
 use lib.IntN.{ℤ}
 use Rattle.model.specs.Tasks.{State}
-use Rattle.source.specs.Step.{state}
-use Rattle.rows.specs.Row.{takes, valuesAfter, modesAfter}
+use Rattle.source_step.specs.Step.{state}
+use Rattle.source_step.specs.Row.{takes, valuesAfter, modesAfter}
 use Rattle.source_state.specs.declared.State.{State as StateByValue}
 use Rattle.source_state.specs.declared.Stepped.{Stepped}
 

@@ -1,25 +1,25 @@
 // States of a source task by value, and a step by itself and its price.
 //
-// A state is passed and returned by value. A step is that of the action's row (crate rows), in whatever state is handed in: a state outside
+// A state is passed and returned by value. A step is that of the action's row (crate source_step), in whatever state is handed in: a state outside
 // the bounds of its task fails the row's test. A step's price is counted from the values before it (crate plan_strokes).
-use declarations::Declared;
+use file_declarations::Declared;
 use plan_strokes::STAGES;
-use rows::MARKS;
-use rows::NUMBERS;
-use source::MODES;
-use source::VARIABLES;
+use source_step::MARKS;
+use source_step::MODES;
+use source_step::NUMBERS;
+use source_step::VARIABLES;
 ghost use mathlib.Core.Path.{_≡_};
 ghost use Prim.Native.Nat.{_≤_};
 ghost use lib.ListN.{replicate};
 ghost use lib.IntN.{pos};
 ghost use Rattle.model.specs.Limits.{sourceLimits};
 ghost use Rattle.model.specs.Judging.{stepSourceAlone, priceStep};
-ghost use Rattle.actions.specs.Places.{BytesOfSome};
-ghost use Rattle.source.specs.Sizes.{VARIABLES, MODES};
-ghost use Rattle.rows.specs.Row.{takes, Usable};
+ghost use Rattle.file_actions.specs.Places.{BytesOfSome};
+ghost use Rattle.source_step.specs.Sizes.{VARIABLES, MODES};
+ghost use Rattle.source_step.specs.Row.{takes, Usable};
 ghost use Rattle.source_state.specs.Step.{wholeIs, steppedIs, steppedBy};
 ghost use Rattle.source_state.specs.Alone.{stepVerdict, stepAnswerIs, returned, StepTaken, RowRead};
-ghost use Rattle.rows.specs.Layout.{MARKS, NUMBERS};
+ghost use Rattle.source_step.specs.Layout.{MARKS, NUMBERS};
 ghost use Rattle.source_state.specs.Priced.{pricedIs, StepPriced};
 
 // The value of each variable and of each mode. What stands beyond a task's variables and modes is not read, and comes back unchanged.
@@ -35,27 +35,14 @@ pub struct Stepped {
 }
 
 impl State {
-    // The step of an action's row, in a task of n variables and m modes.
-    pub fn step(self, n: usize, m: usize, marks: &[u16; MARKS], numbers: &[i64; NUMBERS]) -> Stepped
-        requires { ⌜ (n ≤ VARIABLES) × (m ≤ MODES) × Usable n (now marks) (now numbers) ⌝ }
-        ensures { λ r. ⌜ steppedIs r ≡ steppedBy n m (now (marks .entry)) (now (numbers .entry)) (wholeIs self) ⌝ }
-    {
-        let mut values = self.values;
-        let mut modes = self.modes;
-        let applied = rows::take(&mut values, &mut modes, n, m, marks, numbers);
-        Stepped {
-            applied,
-            state: State { values, modes },
-        }
-    }
-
-    // Whether it applies.
+    // Whether the action of a row applies, in a task of n variables and m modes.
     pub fn applies(self, n: usize, m: usize, marks: &[u16; MARKS], numbers: &[i64; NUMBERS]) -> bool
         requires { ⌜ (n ≤ VARIABLES) × (m ≤ MODES) × Usable n (now marks) (now numbers) ⌝ }
         ensures { λ r. ⌜ r ≡ takes n m (now (marks .entry)) (now (numbers .entry)) (self .values) (self .modes) ⌝ }
     {
-        let stepped = self.step(n, m, marks, numbers);
-        stepped.applied
+        let mut values = self.values;
+        let mut modes = self.modes;
+        source_step::take(&mut values, &mut modes, n, m, marks, numbers)
     }
 
     // The state after it; where it does not apply, the state before.
@@ -63,8 +50,20 @@ impl State {
         requires { ⌜ (n ≤ VARIABLES) × (m ≤ MODES) × Usable n (now marks) (now numbers) ⌝ }
         ensures { λ r. ⌜ wholeIs r ≡ steppedBy n m (now (marks .entry)) (now (numbers .entry)) (wholeIs self) .1 ⌝ }
     {
-        let stepped = self.step(n, m, marks, numbers);
-        stepped.state
+        let mut values = self.values;
+        let mut modes = self.modes;
+        source_step::take(&mut values, &mut modes, n, m, marks, numbers);
+        State { values, modes }
+    }
+
+    // Both.
+    pub fn step(self, n: usize, m: usize, marks: &[u16; MARKS], numbers: &[i64; NUMBERS]) -> Stepped
+        requires { ⌜ (n ≤ VARIABLES) × (m ≤ MODES) × Usable n (now marks) (now numbers) ⌝ }
+        ensures { λ r. ⌜ steppedIs r ≡ steppedBy n m (now (marks .entry)) (now (numbers .entry)) (wholeIs self) ⌝ }
+    {
+        let applied = self.applies(n, m, marks, numbers);
+        let state = self.next(n, m, marks, numbers);
+        Stepped { applied, state }
     }
 }
 
@@ -83,7 +82,7 @@ fn read_row(
     let mut start = [0i64; VARIABLES];
     let mut sizes = [0u16; MODES];
     let mut first = [0u16; MODES];
-    let declared = declarations::read_source(
+    let declared = file_declarations::read_source(
         file,
         &mut lower,
         &mut upper,
@@ -93,8 +92,8 @@ fn read_row(
     );
     let n = declared.variables;
     let m = declared.modes;
-    let action = actions::decode_source(bytes);
-    prepared::put_row(marks, numbers, n, &lower, &upper, m, &sizes, action);
+    let action = file_actions::decode_source(bytes);
+    source_ready::put_row(marks, numbers, n, &lower, &upper, m, &sizes, action);
     declared
 }
 
@@ -141,12 +140,12 @@ pub fn step_alone(file: &[u8], state: State, k: usize) -> StepAnswer
 {
     let mut number: u8 = 0;
     let mut place: u64 = 0;
-    let bytes = actions::source_action_bytes(file, k, &mut number, &mut place);
+    let bytes = file_actions::source_action_bytes(file, k, &mut number, &mut place);
     if number == 0 {
         return step_accepted(file, bytes, state);
     }
     StepAnswer {
-        verdict: StepVerdict::Refused(number, actions::step_place(number, place)),
+        verdict: StepVerdict::Refused(number, file_actions::step_place(number, place)),
         state,
     }
 }
@@ -182,9 +181,9 @@ pub fn price_step(file: &[u8], state: State, k: usize) -> Priced
 {
     let mut number: u8 = 0;
     let mut place: u64 = 0;
-    let bytes = actions::source_action_bytes(file, k, &mut number, &mut place);
+    let bytes = file_actions::source_action_bytes(file, k, &mut number, &mut place);
     if number != 0 {
-        return Priced::Refused(number, actions::step_place(number, place));
+        return Priced::Refused(number, file_actions::step_place(number, place));
     }
     price_accepted(file, bytes, state)
 }

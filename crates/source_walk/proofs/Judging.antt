@@ -16,13 +16,13 @@ use Rattle.model.specs.Judging.{withRest, judge, judgeSourceTask, judgeSource, 
 use Rattle.model.specs.Expansion.{priceFrom}
 use Rattle.model.specs.Judging.{pricesFrom}
 use Rattle.model.specs.Plans.{planNumbers}
-use Rattle.source.specs.declared.Progress.{Progress}
-use Rattle.source.specs.declared.Progress.the-variants.{Through, Stopped}
-use Rattle.source.specs.Step.{state, Shaped, Kept}
-use Rattle.source.specs.Judged.{onProgress}
-use Rattle.source.proofs.Trying.{kept-then}
-use Rattle.rows.specs.Table.{Table, declaredBy, goalBy, Inside}
-use Rattle.rows.proofs.Tables.{goal-agrees}
+use Rattle.source_walk.specs.declared.Progress.{Progress}
+use Rattle.source_walk.specs.declared.Progress.the-variants.{Through, Stopped}
+use Rattle.source_step.specs.Step.{state, Shaped, Kept}
+use Rattle.source_walk.specs.Answers.{onProgress}
+use Rattle.source_step.proofs.Trying.{kept-then}
+use Rattle.source_step.specs.Table.{Table, declaredBy, goalBy, Inside}
+use Rattle.source_step.proofs.Tables.{goal-agrees}
 use Rattle.source_walk.specs.declared.Task.{Task}
 use Rattle.source_walk.specs.declared.Verdict.{Verdict}
 use Rattle.source_walk.specs.declared.Verdict.the-variants.{Valid, Refused}

@@ -14,11 +14,11 @@ use Rattle.lists.specs.Each.{tabulate}
 use Rattle.lists.proofs.Each.{length-tabulate}
 use Rattle.model.specs.Tasks.{State}
 use Rattle.model.specs.Steps.{naturalAt}
-use Rattle.source.specs.declared.Progress.the-variants.{Through, Stopped}
-use Rattle.source.specs.Step.{state}
-use Rattle.rows.specs.Row.{valuesAfter, modesAfter}
-use Rattle.rows.specs.Ready.{marksOf, numbersOf}
-use Rattle.rows.specs.Table.{Table, takesBy, afterBy, goalBy, Usables}
+use Rattle.source_walk.specs.declared.Progress.the-variants.{Through, Stopped}
+use Rattle.source_step.specs.Step.{state}
+use Rattle.source_step.specs.Row.{valuesAfter, modesAfter}
+use Rattle.source_step.specs.Ready.{marksOf, numbersOf}
+use Rattle.source_step.specs.Table.{Table, takesBy, afterBy, goalBy, Usables}
 use Rattle.plan_strokes.specs.declared.Turn.{Turn}
 use Rattle.source_walk.specs.declared.Walked.{Walked}
 use Rattle.source_walk.specs.declared.Verdict.{Verdict}

@@ -11,15 +11,15 @@ use Rattle.model.specs.Limits.{sourceLimits}
 use Rattle.model.specs.Reading.{Verdict, Accepted, Rejected, verdictOf}
 use Rattle.model.specs.Decoding.{onVerdict, readSource}
 use Rattle.model.specs.Plans.{readPlan, planNumbers}
-use Rattle.declarations.specs.declared.Declared.{Declared}
-use Rattle.declarations.specs.Holding.{HoldsSource}
-use Rattle.planbytes.specs.Counted.{countOf}
-use Rattle.planbytes.proofs.Steps.{steps-of, few-steps, no-steps}
-use Rattle.source.specs.Step.{state, Kept}
-use Rattle.source.specs.Judged.{AcceptedWith}
-use Rattle.source.proofs.Judging.{task-of, accepted-task}
-use Rattle.rows.specs.Ready.{Prepared}
-use Rattle.rows.proofs.Start.{start-shaped, prepared-starts}
+use Rattle.file_declarations.specs.declared.Declared.{Declared}
+use Rattle.file_declarations.specs.Holding.{HoldsSource}
+use Rattle.plan_bytes.specs.Counted.{countOf}
+use Rattle.plan_bytes.proofs.Steps.{steps-of, few-steps, no-steps}
+use Rattle.source_step.specs.Step.{state, Kept}
+use Rattle.source_step.specs.Accepted.{AcceptedWith}
+use Rattle.source_step.proofs.Judging.{task-of, accepted-task}
+use Rattle.source_step.specs.Ready.{Prepared}
+use Rattle.source_step.proofs.Start.{start-shaped, prepared-starts}
 use Rattle.source_walk.specs.Opening.{opened, PlanOf, Started}
 
 -- a call that reads the file, then the plan, and goes on with both

@@ -7,7 +7,7 @@ use mathlib.Core.Bool.{Bool, true, false, _&&_, false≢true}
 use mathlib.Core.List.{List}
 use lib.IntN.{ℤ}
 use Rattle.lists.proofs.Loops.{and-left}
-use Rattle.rows.specs.Row.{outcomeAt, staysIn, held, Stepped}
+use Rattle.source_step.specs.Row.{outcomeAt, staysIn, held, Stepped}
 use Rattle.plan_strokes.specs.declared.Turn.{Turn}
 use Rattle.plan_strokes.specs.Made.{Turned}
 use Rattle.source_walk.specs.Walk.{TurnOf}

@@ -15,13 +15,13 @@ use Rattle.model.specs.Tasks.{SourceTask, State}
 use Rattle.model.specs.Steps.{stepSource}
 use Rattle.model.specs.Expansion.{priceFrom}
 use Rattle.model.specs.Judging.{judge, ifApplies, ifGoesOn, pricesFrom}
-use Rattle.source.specs.declared.Progress.{Progress}
-use Rattle.source.specs.declared.Progress.the-variants.{Through, Stopped}
-use Rattle.source.specs.Step.{Kept}
-use Rattle.source.specs.Judged.{onProgress}
-use Rattle.source.proofs.Trying.{kept-same, kept-then}
-use Rattle.rows.specs.Table.{Table, declaredBy, takesBy, afterBy, priceBy, RowsOf, Inside}
-use Rattle.rows.proofs.Tables.{price-agrees, step-agrees, inside-after, kept-after}
+use Rattle.source_walk.specs.declared.Progress.{Progress}
+use Rattle.source_walk.specs.declared.Progress.the-variants.{Through, Stopped}
+use Rattle.source_step.specs.Step.{Kept}
+use Rattle.source_walk.specs.Answers.{onProgress}
+use Rattle.source_step.proofs.Trying.{kept-same, kept-then}
+use Rattle.source_step.specs.Table.{Table, declaredBy, takesBy, afterBy, priceBy, RowsOf, Inside}
+use Rattle.source_step.proofs.Tables.{price-agrees, step-agrees, inside-after, kept-after}
 use Rattle.source_walk.specs.Walk.{most, firstPassing, Walk, costBy, walkFrom}
 
 -- ---- what a plan prices to, from the sum so far and what is left of the plan

@@ -7,14 +7,19 @@ use lib.IntN.{pos}
 use Rattle.lists.specs.Answer.{Answer, given, refused}
 use Rattle.model.specs.Tasks.{State}
 use Rattle.model.specs.Judging.{withRest}
-use Rattle.source.specs.declared.Progress.{Progress}
-use Rattle.source.specs.declared.Progress.the-variants.{Through, Stopped}
+use Rattle.source_walk.specs.declared.Progress.{Progress}
+use Rattle.source_walk.specs.declared.Progress.the-variants.{Through, Stopped}
 use Rattle.source_walk.specs.declared.Verdict.{Verdict}
 use Rattle.source_walk.specs.declared.Verdict.the-variants.{Valid, Refused}
 use Rattle.source_walk.specs.declared.Judgement.{Judgement}
-use Rattle.source.specs.Sizes.{VARIABLES, MODES}
-use Rattle.source.specs.Step.{state}
+use Rattle.source_step.specs.Sizes.{VARIABLES, MODES}
+use Rattle.source_step.specs.Step.{state}
 use Rattle.source_state.specs.Step.{wholeIs}
+
+-- what a plan comes to, from what its steps come to and what follows them
+abbrev pub onProgress : {A : Type 0} → Progress → Answer A → Answer A
+onProgress Through a = a
+onProgress (Stopped number place) a = refused number place
 
 abbrev pub lastVerdict : Progress → Bool → ℕ → Verdict
 lastVerdict Through met steps = cond met (Valid steps) (Refused 13 steps)

@@ -10,9 +10,9 @@ use Rattle.model.specs.Tasks.{SourceTask, State}
 use Rattle.model.specs.Steps.{sourceStart}
 use Rattle.model.specs.Decoding.{readSource}
 use Rattle.model.specs.Plans.{readPlan, planNumbers}
-use Rattle.source.specs.Sizes.{VARIABLES, MODES}
-use Rattle.source.specs.Step.{state, Kept}
-use Rattle.rows.specs.Table.{Table, table, declaredBy, RowsOf, Inside}
+use Rattle.source_step.specs.Sizes.{VARIABLES, MODES}
+use Rattle.source_step.specs.Step.{state, Kept}
+use Rattle.source_step.specs.Table.{Table, table, declaredBy, RowsOf, Inside}
 use Rattle.source_walk.specs.declared.Task.{Task}
 use Rattle.source_walk.specs.declared.Opened.{Opened}
 use Rattle.source_walk.specs.declared.Opened.the-variants.{Ready, Refused}

@@ -10,10 +10,10 @@ use lib.IntN.{ℤ}
 use Rattle.model.specs.Tasks.{State}
 use Rattle.model.specs.Steps.{integerAt}
 use Rattle.model.specs.Expansion.{priceOfEffect}
-use Rattle.source.specs.declared.Progress.{Progress}
-use Rattle.source.specs.declared.Progress.the-variants.{Through, Stopped}
-use Rattle.rows.specs.Row.{effectAt, Stepped}
-use Rattle.rows.specs.Table.{Table, takesBy, afterBy, goalBy, priceBy}
+use Rattle.source_walk.specs.declared.Progress.{Progress}
+use Rattle.source_walk.specs.declared.Progress.the-variants.{Through, Stopped}
+use Rattle.source_step.specs.Row.{effectAt, Stepped}
+use Rattle.source_step.specs.Table.{Table, takesBy, afterBy, goalBy, priceBy}
 use Rattle.plan_strokes.specs.declared.Turn.{Turn}
 use Rattle.source_walk.specs.declared.Walked.{Walked}
 use Rattle.source_walk.specs.declared.Verdict.{Verdict}

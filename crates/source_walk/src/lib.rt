@@ -1,16 +1,15 @@
 // Plans on a source task: a file and a plan opened, the task made ready for steps, and its steps taken, and priced, by the rows of its actions;
 // from that what judging and pricing a plan answer.
 //
-// What a step by rows is, is said in crate rows. It writes nothing but the arrays of its callers.
+// What a step by rows is, is said in crate source_step. It writes nothing but the arrays of its callers.
 use plan_strokes::STAGES;
 use plan_strokes::Turn;
-use rows::MARKS;
-use rows::NUMBERS;
-use source::MODES;
-use source::Progress;
-use source::VARIABLES;
 use source_state::Priced;
 use source_state::State;
+use source_step::MARKS;
+use source_step::MODES;
+use source_step::NUMBERS;
+use source_step::VARIABLES;
 ghost use mathlib.Core.Path.{_≡_};
 ghost use Prim.Native.Nat.{_≤_};
 ghost use lib.ListN.{length, replicate};
@@ -20,16 +19,16 @@ ghost use Rattle.model.specs.Judging.{judgeSource, pricePlan};
 ghost use Rattle.model.specs.Plans.{planNumbers};
 ghost use Rattle.model.specs.Limits.{sourceLimits};
 ghost use Rattle.model.specs.Reading.{verdictOf};
-ghost use Rattle.source.specs.Step.{state};
-ghost use Rattle.source.specs.Judged.{AcceptedWith};
-ghost use Rattle.rows.specs.Row.{Usable};
-ghost use Rattle.rows.specs.Table.{table, Usables};
+ghost use Rattle.source_step.specs.Step.{state};
+ghost use Rattle.source_step.specs.Accepted.{AcceptedWith};
+ghost use Rattle.source_step.specs.Row.{Usable};
+ghost use Rattle.source_step.specs.Table.{table, Usables};
 ghost use Rattle.source_state.specs.Priced.{pricedIs};
 ghost use Rattle.source_walk.specs.Answers.{lastVerdict, judgementIs, judgementOf, withState, pricedBy};
 ghost use Rattle.source_walk.specs.Opening.{PlanOf, OpenedTo, Started};
 ghost use Rattle.source_walk.specs.Walk.{firstPassing, walkIs, walkFrom, judgedIs, judgeBy, stoppedAt, TurnOf};
-ghost use Rattle.source.specs.Sizes.{VARIABLES, MODES};
-ghost use Rattle.rows.specs.Table.{ROWS};
+ghost use Rattle.source_step.specs.Sizes.{VARIABLES, MODES};
+ghost use Rattle.source_step.specs.Table.{ROWS};
 ghost use Rattle.plan_strokes.specs.Strokes.{STAGES};
 
 // Rows for the actions of a task and for its goal.
@@ -70,7 +69,7 @@ fn make_ready(
     let mut lower = [0i64; VARIABLES];
     let mut upper = [0i64; VARIABLES];
     let mut sizes = [0u16; MODES];
-    let declared = declarations::read_source(
+    let declared = file_declarations::read_source(
         file,
         &mut lower,
         &mut upper,
@@ -80,7 +79,7 @@ fn make_ready(
     );
     let n = declared.variables;
     let m = declared.modes;
-    prepared::prepare(file, count, n, &lower, &upper, m, &sizes, marks, numbers);
+    source_ready::prepare(file, count, n, &lower, &upper, m, &sizes, marks, numbers);
     Task {
         actions: count,
         variables: n,
@@ -103,11 +102,11 @@ pub fn open(
     ensures { λ r. ⌜ OpenedTo (now (file .entry)) (now (plan .entry)) (now (marks .entry)) (now (numbers .entry)) (now (values .entry)) (now (modes .entry))
         r (now (marks .exit)) (now (numbers .exit)) (now (values .exit)) (now (modes .exit)) ⌝ }
 {
-    match tasks::check_source(file) {
-        tasks::Verdict::Rejected(number, place) => Opened::Refused(number, place),
-        tasks::Verdict::Accepted(_, _, actions) => match planbytes::count_steps(plan) {
-            planbytes::Counted::Refused(number, place) => Opened::Refused(number, place),
-            planbytes::Counted::Steps(steps) => Opened::Ready(make_ready(
+    match file_check::check_source(file) {
+        file_check::Verdict::Rejected(number, place) => Opened::Refused(number, place),
+        file_check::Verdict::Accepted(_, _, actions) => match plan_bytes::count_steps(plan) {
+            plan_bytes::Counted::Refused(number, place) => Opened::Refused(number, place),
+            plan_bytes::Counted::Steps(steps) => Opened::Ready(make_ready(
                 file,
                 plan,
                 actions as usize,
@@ -132,6 +131,12 @@ fn first_passing(passing: u64, sum: u64, after: u64, i: u64) -> u64
         return i;
     }
     passing
+}
+
+// How far a plan goes: through, or it is refused at a step.
+pub enum Progress {
+    Through,
+    Stopped(u8, u64),
 }
 
 // How far the steps of a plan go, the sum of their prices where they are priced, else 0, and the first step with which it passes 1,000,000.
@@ -169,7 +174,7 @@ fn take_turn(
     if priced {
         return plan_strokes::take_priced(values, modes, n, m, marks, numbers, times);
     }
-    let applied = rows::take(values, modes, n, m, marks, numbers);
+    let applied = source_step::take(values, modes, n, m, marks, numbers);
     Turn { applied, price: 0 }
 }
 
@@ -195,7 +200,7 @@ fn walk(
     let mut passing: u64 = 0;
     let mut i: usize = 0;
     while i < steps {
-        let k = source::wide16(planbytes::action_of(plan, i));
+        let k = source_step::wide16(plan_bytes::action_of(plan, i));
         if count <= k {
             return stopped(11, i as u64, price, passing);
         }
@@ -282,7 +287,7 @@ pub fn judge_steps(
         values,
         modes,
     );
-    let met = rows::holds(values, modes, n, m, &marks[count], &numbers[count]);
+    let met = source_step::holds(values, modes, n, m, &marks[count], &numbers[count]);
     let progress = walked.progress;
     Judged {
         verdict: last_verdict(progress, met, steps),

@@ -1,8 +1,9 @@
 -- `listing::list` meets its contract: a refusal of the file or of the plan's bytes, or what is listed by the rows. Assumes nothing.
 use mathlib.Core.Path.{ap}
+use native.Mathlib.Omega.{arith}
 use denote.Ref.{now}
 use Rattle.lists.specs.Answer.{given}
-use Rattle.rows.proofs.Tables.{usables}
+use Rattle.source_step.proofs.Tables.{usables}
 use Rattle.source_walk.specs.Opening.{Started}
 use Rattle.listing.proofs.Listing.{lent-as, refused-listing, listed-is}
 use borrow.Author.Needs.{needs}
@@ -43,14 +44,17 @@ slice-aggregate-list-ready-2 c = search needs
 
 list-ready-requires : tie.Need-list-ready-requires
 list-ready-requires c κs =
-    let S = ready (c .before .before .before .before .before .before) in
-    record {
-      usables = usables (S .rows);
-      counted = S .planIs .stepsAre;
-      few = S .planIs .few;
-      valuesLong = S .inside .shaped .valuesLong;
-      modesLong = S .inside .shaped .modesLong;
-    }
+    let S = ready (c .before .before .before .before .before .before) in (
+      S .planIs .stepsAre,
+      record {
+        usables = usables (S .rows);
+        ordered = omega arith;
+        inPlan = omega (arith, S .planIs .stepsAre);
+        few = S .planIs .few;
+        valuesLong = S .inside .shaped .valuesLong;
+        modesLong = S .inside .shaped .modesLong;
+      },
+    )
 
 same-length : tie.Need-same-length
 same-length c = search needs

@@ -6,8 +6,8 @@ use denote.Ref.{now}
 use Rattle.lists.specs.Answer.{given}
 use Rattle.model.specs.Tasks.{State}
 use Rattle.model.specs.Plans.{planNumbers}
-use Rattle.source.specs.Step.{state}
-use Rattle.rows.specs.Table.{Table, table}
+use Rattle.source_step.specs.Step.{state}
+use Rattle.source_step.specs.Table.{Table, table}
 use Rattle.source_walk.specs.Walk.{Judging}
 use Rattle.listing.specs.Listed.{listedWith, linesBy, listedBy}
 use Rattle.listing.proofs.Listing.{lent-as}

@@ -1,29 +1,35 @@
 -- `listing::put_count` meets its contract: a space, and the number behind it. Assumes nothing.
-use mathlib.Core.Path.{sym, ap}
-use native.Mathlib.Omega.{arith}
-use lib.ListN.{length, length-set}
-use Rattle.lists.proofs.Writing.{wrote-as}
-use Rattle.text.proofs.Writing.{stored, then}
+use mathlib.Core.Path.{sym, ap, _∙_}
+use mathlib.Core.List.{List, [], _∷_, append-nil}
+use lib.IntN.{pos}
+use denote.Ref.{now}
+use Rattle.lists.proofs.Writing.{Left, start, step, done, room}
+use Rattle.model.specs.Listing.{decimal}
+use Rattle.listing.specs.Lines.{field}
 use Rattle.listing.proofs.Lines.{natural}
 use borrow.Author.Needs.{needs}
 use Rattle.listing.proofs.put_count.Statement.{statement}
 use Rattle.listing.proofs.put_count.Tie as tie
 
-slice-write-out : tie.Need-slice-write-out
-slice-write-out c = search needs
+parts : (s : tie.Start) → Left (now (s .args .out)) (s .args .at) (field (pos (s .args .n))) (now (s .args .out)) (s .args .at) ((32 ∷ []) ∷ decimal (s .args .n) ∷ [])
+parts s = start _ _ (ap (λ (z : List _). 32 ∷ z) (natural (s .args .n) ∙ sym (append-nil (decimal (s .args .n)))))
 
-add-put-natural : tie.Need-add-put-natural
-add-put-natural c = search needs
+put-number-requires : tie.Need-put-number-requires
+put-number-requires c κs = let s = c .before .before in room (s .pre) (parts s)
 
 put-natural-requires : tie.Need-put-natural-requires
-put-natural-requires c κs = let s = c .before .before in record { fits = simp length-set (omega (arith, ap length (natural (s .args .n)))) }
+put-natural-requires c κs =
+    let p = c .before .before .before in
+    let s = p .before .before .before in
+    room (s .pre) (step (parts s) (p .put-number .ensures))
 
 same-length : tie.Need-same-length
-same-length c = simp length-set at (c .before .before .put-natural .kept .0)
+same-length c = search needs
 
 returns : tie.Need-returns
-returns c = let s = c .before .before .before .before .before in then (stored _ _ 32) (wrote-as (sym (natural (s .args .n))) (c .before .before .put-natural .ensures))
+returns c =
+    let p = c .before .before .before .before .before .before in
+    done (step (step (parts (p .before .before .before)) (p .put-number .ensures)) (c .before .before .put-natural .ensures))
 
 pub put-count-spec : {M : Type 1} → statement M
-put-count-spec =
-    tie.close (tie.spec slice-write-out add-put-natural put-natural-requires same-length returns)
+put-count-spec = tie.close (tie.spec put-number-requires put-natural-requires same-length returns)

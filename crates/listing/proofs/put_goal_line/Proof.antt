@@ -34,14 +34,14 @@ put-text-requires c κs = let s = c .before .before .before in room (s .pre) (l�
 put-count-requires : tie.Need-put-count-requires
 put-count-requires c κs = let s = c .before .before .before .before .before .before .before in room (s .pre) (l₁ (c .before .before .before))
 
-put8-requires : tie.Need-put8-requires
-put8-requires c κs = let s = c .before .before .before .before .before .before .before .before .before .before .before in room (s .pre) (l₂ (c .before .before .before))
+put-number-requires : tie.Need-put-number-requires
+put-number-requires c κs = let s = c .before .before .before .before .before .before .before .before .before .before .before in room (s .pre) (l₂ (c .before .before .before))
 
 same-length : tie.Need-same-length
-same-length c = wrote-long (done (step (l₂ (c .before .before .before .before .before .before)) (c .before .before .put8 .ensures)))
+same-length c = wrote-long (done (step (l₂ (c .before .before .before .before .before .before)) (c .before .before .put-number .ensures)))
 
 returns : tie.Need-returns
-returns c = done (step (l₂ (c .before .before .before .before .before .before)) (c .before .before .put8 .ensures))
+returns c = done (step (l₂ (c .before .before .before .before .before .before)) (c .before .before .put-number .ensures))
 
 pub put-goal-line-spec : {M : Type 1} → statement M
-put-goal-line-spec = tie.close (tie.spec slice-aggregate-put-text put-text-requires put-count-requires put8-requires same-length returns)
+put-goal-line-spec = tie.close (tie.spec slice-aggregate-put-text put-text-requires put-count-requires put-number-requires same-length returns)

@@ -1,53 +1,52 @@
 -- `listing::put_lines` meets its contract. The loop's invariant is `Writing`: the lines left are still to be written. Assumes nothing.
-use mathlib.Core.Path.{_≡_, refl, _∙_}
-use Prim.Native.Nat.{_-_, _<_}
+use mathlib.Core.Path.{_≡_, refl, sym, _∙_}
+use Prim.Native.Nat.{_-_}
 use native.Mathlib.Omega.{arith}
 use lib.ListN.{length}
 use denote.Ref.{now}
 use borrow.Author.Tests.{not-true, not-false}
+use Rattle.lists.proofs.Numbers.{length-halves}
 use Rattle.model.specs.Plans.{planNumbers}
-use Rattle.planbytes.proofs.Steps.{halves-long}
-use Rattle.source.specs.Step.{state}
-use Rattle.rows.specs.Table.{table}
+use Rattle.plan_bytes.proofs.Steps.{halves-long}
+use Rattle.source_step.specs.Step.{state}
+use Rattle.source_step.specs.Table.{table}
 use Rattle.listing.proofs.Lining as lining
 use borrow.Author.Needs.{needs}
 use Rattle.listing.proofs.put_lines.Statement.{statement}
 use Rattle.listing.proofs.put_lines.Tie as tie
 
 abbrev Inv-loop : tie.InvT-loop
-Inv-loop out₀ at plan steps count marks numbers n m values₀ modes₀ times₀ place₀ i₀ out values modes times place i =
-    lining.Writing (table count marks numbers n m) (planNumbers plan) (state values₀ modes₀) out₀ at values modes i out place × (length times ≡ 10)
+Inv-loop out₀ at plan from until count marks numbers n m values₀ modes₀ times₀ place₀ i₀ out values modes times place i =
+    lining.Writing (table count marks numbers n m) (planNumbers plan) from until (state values₀ modes₀) out₀ at values modes i out place × (length times ≡ 10)
 
 abbrev μ-loop : tie.MeasureT-loop
-μ-loop out₀ at plan steps count marks numbers n m values₀ modes₀ times₀ place₀ i₀ out values modes times place i = steps - i
-
--- a turn takes a step of the plan
-inside : (h : tie.In-loop Inv-loop μ-loop) → h .before .loop .i < length (planNumbers (now (h .before .before .before .before .args .plan)))
-inside h = omega (arith, h .loop-test .taken, h .before .before .before .before .pre .0 .counted)
+μ-loop out₀ at plan from until count marks numbers n m values₀ modes₀ times₀ place₀ i₀ out values modes times place i = until - i
 
 loop-holds : tie.Need-loop-holds Inv-loop μ-loop
 loop-holds c =
     let s = c .before .before in (
       lining.writing-begins (table (s .args .count) (now (s .args .marks)) (now (s .args .numbers)) (s .args .n) (s .args .m))
-          (planNumbers (now (s .args .plan))) (now (s .args .values)) (now (s .args .modes)) (s .pre .0 .valuesLong) (s .pre .0 .modesLong)
+          (planNumbers (now (s .args .plan))) (s .args .from) (s .args .until) (now (s .args .values)) (now (s .args .modes)) (s .pre .0)
           (now (s .args .out)) (s .args .at),
       refl,
     )
 
 action-of-requires : tie.Need-action-of-requires Inv-loop μ-loop
-action-of-requires c κs = let s = c .before .before .before .before in omega (arith, halves-long (now (s .args .plan)), c .loop-test .taken, s .pre .0 .counted)
+action-of-requires c κs = let s = c .before .before .before .before in omega (arith, halves-long (now (s .args .plan)), c .loop-test .taken, s .pre .0 .inPlan)
 
 wide16-requires : tie.Need-wide16-requires Inv-loop μ-loop
 wide16-requires c κs = search needs
 
 same-length : tie.Need-same-length Inv-loop μ-loop
-same-length c = lining.writing-long (c .before .before .before .before .loop .inv .0)
+same-length c = lining.writing-long (c .before .before .before .before .before .before .before .pre .0) (c .before .before .before .before .loop .inv .0)
 
 returns : tie.Need-returns Inv-loop μ-loop
 returns c =
     let w = c .before in
-    lining.writing-no-action (w .before .before .before .loop .inv .0) (w .wide16 .result) (w .wide16 .ensures ∙ w .before .action-of .ensures)
-    (inside (w .before .before)) (c .if1 .taken)
+    let a = w .before .before .before in
+    let s = a .before .before .before in
+    lining.writing-no-action (s .pre .0) (a .loop .inv .0) (w .wide16 .result) (w .wide16 .ensures ∙ w .before .action-of .ensures)
+    (w .before .before .loop-test .taken) (c .if1 .taken) _ (sym (length-halves (now (s .args .plan))))
 
 mul-take-priced : tie.Need-mul-take-priced Inv-loop μ-loop
 mul-take-priced c = search (needs, arith)
@@ -75,15 +74,19 @@ take-priced-requires c κs =
     (u .variablesFew, u .modesFew, a .loop .inv .0 .reached .modesLong, a .loop .inv .1, u .usable (e .before .wide16 .result) (omega (arith, e .if1 .left)))
 
 same-length-2 : tie.Need-same-length-2 Inv-loop μ-loop
-same-length-2 c = lining.writing-long (c .before .before .before .before .before .before .before .before .before .before .before .before .loop .inv .0)
+same-length-2 c =
+    let a = c .before .before .before .before .before .before .before .before .before .before .before .before in
+    lining.writing-long (a .before .before .before .pre .0) (a .loop .inv .0)
 
 returns-2 : tie.Need-returns-2 Inv-loop μ-loop
 returns-2 c =
     let u = c .before .before in
     let e = u .before .before .before .before .before .before in
     let w = e .before in
-    lining.writing-not-applied (w .before .before .before .loop .inv .0) (w .wide16 .result) (w .wide16 .ensures ∙ w .before .action-of .ensures)
-    (inside (w .before .before)) (e .if1 .left) (u .take-priced .ensures .0) (not-true _ (c .if2 .taken))
+    let a = w .before .before .before in
+    let s = a .before .before .before in
+    lining.writing-not-applied (s .pre .0) (a .loop .inv .0) (w .wide16 .result) (w .wide16 .ensures ∙ w .before .action-of .ensures)
+    (w .before .before .loop-test .taken) (e .if1 .left) (u .take-priced .ensures .0) (not-true _ (c .if2 .taken)) _ (sym (length-halves (now (s .args .plan))))
 
 put-step-line-requires : tie.Need-put-step-line-requires Inv-loop μ-loop
 put-step-line-requires c κs =
@@ -95,10 +98,11 @@ put-step-line-requires c κs =
     let k = w .wide16 .result in
     let is = w .wide16 .ensures ∙ w .before .action-of .ensures in
     let t = u .take-priced .ensures .0 in
-    let f = not-false _ (c .before .before .if2 .left) in (
+    let f = not-false _ (c .before .before .if2 .left) in
+    let i = w .before .before .loop-test .taken in (
       s .pre .0 .usables .variablesFew,
-      lining.writing-reached (a .loop .inv .0) k is (inside (w .before .before)) (e .if1 .left) t f (s .pre .0 .usables) .valuesLong,
-      lining.writing-room (a .loop .inv .0) k is (inside (w .before .before)) (e .if1 .left) t f (s .pre .1),
+      lining.writing-reached (s .pre .0) (a .loop .inv .0) k is i (e .if1 .left) t f .valuesLong,
+      lining.writing-room (s .pre .0) (a .loop .inv .0) k is i (e .if1 .left) t f (s .pre .1),
     )
 
 add-i : tie.Need-add-i Inv-loop μ-loop
@@ -114,17 +118,17 @@ loop-again c =
     let w = e .before in
     let a = w .before .before .before in
     let s = a .before .before .before in (
-      lining.writing-next (a .loop .inv .0) (w .wide16 .result) (w .wide16 .ensures ∙ w .before .action-of .ensures) (inside (w .before .before))
-          (e .if1 .left) (u .take-priced .ensures .0) (not-false _ (c .before .before .before .before .before .if2 .left)) (s .pre .0 .usables)
-          (c .before .before .put-step-line .ensures),
+      lining.writing-next (s .pre .0) (a .loop .inv .0) (w .wide16 .result) (w .wide16 .ensures ∙ w .before .action-of .ensures)
+          (w .before .before .loop-test .taken) (e .if1 .left) (u .take-priced .ensures .0) (not-false _ (c .before .before .before .before .before .if2 .left))
+          (c .before .before .put-step-line .ensures .0) (c .before .before .put-step-line .ensures .1),
       u .take-priced .ensures .1,
     )
 
 same-length-3 : tie.Need-same-length-3 Inv-loop μ-loop
-same-length-3 c = lining.writing-long (c .before .loop .inv .0)
+same-length-3 c = lining.writing-long (c .before .before .before .before .pre .0) (c .before .loop .inv .0)
 
 returns-3 : tie.Need-returns-3 Inv-loop μ-loop
-returns-3 c = let s = c .before .before .before .before in lining.writing-over (c .before .loop .inv .0) (omega (arith, c .loop-test .left, s .pre .0 .counted))
+returns-3 c = let s = c .before .before .before .before in lining.writing-over (s .pre .0) (c .before .loop .inv .0) (c .loop-test .left)
 
 pub put-lines-spec : {M : Type 1} → statement M
 put-lines-spec =

@@ -40,14 +40,14 @@ put-count-requires c κs = let s = c .before .before .before .before .before .be
 put-count-requires-2 : tie.Need-put-count-requires-2
 put-count-requires-2 c κs = let s = c .before .before .before .before .before .before .before .before .before .before .before in room (s .pre) (l₂ (c .before .before .before))
 
-put8-requires : tie.Need-put8-requires
-put8-requires c κs = let s = c .before .before .before .before .before .before .before .before .before .before .before .before .before .before .before in room (s .pre) (l₃ (c .before .before .before))
+put-number-requires : tie.Need-put-number-requires
+put-number-requires c κs = let s = c .before .before .before .before .before .before .before .before .before .before .before .before .before .before .before in room (s .pre) (l₃ (c .before .before .before))
 
 same-length : tie.Need-same-length
-same-length c = wrote-long (done (step (l₃ (c .before .before .before .before .before .before)) (c .before .before .put8 .ensures)))
+same-length c = wrote-long (done (step (l₃ (c .before .before .before .before .before .before)) (c .before .before .put-number .ensures)))
 
 returns : tie.Need-returns
-returns c = done (step (l₃ (c .before .before .before .before .before .before)) (c .before .before .put8 .ensures))
+returns c = done (step (l₃ (c .before .before .before .before .before .before)) (c .before .before .put-number .ensures))
 
 pub put-refused-line-spec : {M : Type 1} → statement M
-put-refused-line-spec = tie.close (tie.spec slice-aggregate-put-text put-text-requires put-count-requires put-count-requires-2 put8-requires same-length returns)
+put-refused-line-spec = tie.close (tie.spec slice-aggregate-put-text put-text-requires put-count-requires put-count-requires-2 put-number-requires same-length returns)

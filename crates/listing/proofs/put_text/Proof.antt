@@ -1,16 +1,14 @@
 -- `listing::put_text` meets its contract: the loop writes each byte as a list of one. Assumes nothing.
 use mathlib.Core.Path.{_≡_, refl, sym, _∙_}
-use Prim.Native.Nat.{ℕ, _-_}
+use Prim.Native.Nat.{ℕ, _+_, _-_, _≤_}
 use native.Mathlib.Omega.{arith}
 use mathlib.Core.List.{List, flatMap}
-use lib.ListN.{length, getD, take}
+use lib.ListN.{length, take}
 use lib.Seq.{take-all}
-use Rattle.lists.specs.Writing.{Room}
 use Rattle.lists.proofs.Each.{single, flatMap-single}
 use Rattle.lists.proofs.Loops.{there-all}
-use Rattle.lists.proofs.Writing.{room-as, wrote-as}
+use Rattle.lists.proofs.Writing.{room-as, room-some, room-wide, wrote-as, wrote-none}
 use Rattle.lists.proofs.WritingLoops.{Going, going-start, going-room, going-next, going-end, going-long}
-use denote.Ref.{now}
 use borrow.Author.Needs.{needs}
 use Rattle.listing.proofs.put_text.Statement.{statement}
 use Rattle.listing.proofs.put_text.Tie as tie
@@ -25,8 +23,17 @@ bytes-are : (xs : List ℕ) → flatMap single (take (length xs) xs) ≡ xs
 bytes-are xs = flatMap-single _ ∙ take-all (length xs) xs (omega arith)
 
 -- the byte that a turn writes has room
-fits : (c : tie.In-loop Inv-loop μ-loop) → Room (c .before .loop .out) (c .before .loop .place) (single (getD (now (c .before .before .args .text)) (c .before .loop .i) 0))
-fits c = going-room 0 (c .before .loop .inv) (c .loop-test .taken) (room-as (sym (bytes-are _)) (c .before .before .pre))
+fits : (c : tie.In-loop Inv-loop μ-loop) → c .before .loop .place + 1 ≤ length (c .before .loop .out)
+fits c =
+    room-some
+    (going-room 0 (c .before .loop .inv) (c .loop-test .taken) (room-as (sym (bytes-are _)) (c .before .before .before .pre)))
+    (omega (arith, going-long (c .before .loop .inv)))
+
+add-result : tie.Need-add-result Inv-loop μ-loop
+add-result c = omega (arith, room-wide (c .before .pre) (omega arith))
+
+returns : tie.Need-returns Inv-loop μ-loop
+returns c = wrote-none (omega arith) refl
 
 loop-holds : tie.Need-loop-holds Inv-loop μ-loop
 loop-holds c = going-start (there-all _ _ (omega arith))
@@ -52,8 +59,8 @@ loop-again c = going-next 0 (c .before .before .loop .inv) (c .before .loop-test
 same-length : tie.Need-same-length Inv-loop μ-loop
 same-length c = going-long (c .before .loop .inv)
 
-returns : tie.Need-returns Inv-loop μ-loop
-returns c = wrote-as (bytes-are _) (going-end (c .before .loop .inv) (c .loop-test .left))
+returns-2 : tie.Need-returns-2 Inv-loop μ-loop
+returns-2 c = wrote-as (bytes-are _) (going-end (c .before .loop .inv) (c .loop-test .left))
 
 pub put-text-spec : {M : Type 1} → statement M
 put-text-spec =
@@ -61,6 +68,8 @@ put-text-spec =
     (tie.spec
     Inv-loop
     μ-loop
+    add-result
+    returns
     loop-holds
     shared-slice-read-out
     slice-write-out
@@ -69,4 +78,4 @@ put-text-spec =
     loop-less
     loop-again
     same-length
-    returns)
+    returns-2)

@@ -1,16 +1,15 @@
 -- `lists::fill_run` meets its contract. The loop's invariant: what is left to write is a run of `left`. Assumes nothing.
 use mathlib.Core.Path.{refl, sym, ap, _∙_}
 use mathlib.Core.List.{[], _∷_, _++_, append-nil}
-use Prim.Native.Nat.{ℕ, _-_}
+use Prim.Native.Nat.{ℕ, _+_, _-_, _≤_}
 use native.Mathlib.Omega.{arith}
-use lib.ListN.{replicate, length-set}
+use lib.ListN.{length, replicate, length-set}
 use borrow.Author.Needs.{needs}
 use denote.Ref.{now}
 use Rattle.integers.specs.Numbers.{bytesOf}
 use Rattle.lists.specs.Numbers.{numbersBytes}
-use Rattle.lists.specs.Writing.{Room}
-use Rattle.lists.proofs.Numbers.{run-more, run-none}
-use Rattle.lists.proofs.Writing.{Left, start, step, done, recast, room, long}
+use Rattle.lists.proofs.Numbers.{length-run, run-more, run-none}
+use Rattle.lists.proofs.Writing.{Left, start, step, done, recast, room, long, room-some, room-wide, wrote-none}
 use Rattle.lists.proofs.fill_run.Statement.{statement}
 use Rattle.lists.proofs.fill_run.Tie as tie
 
@@ -22,15 +21,24 @@ abbrev μ-loop : tie.MeasureT-loop
 
 module _ (c : tie.In-loop Inv-loop μ-loop) where
   abbrev number : ℕ
-  number = c .before .before .args .number
+  number = c .before .before .before .args .number
 
   -- a turn has the number to write, and then a shorter run
-  more : Left (now (c .before .before .args .out)) (c .before .before .args .at) (numbersBytes 2 (replicate (c .before .before .args .count) number))
+  more : Left (now (c .before .before .before .args .out)) (c .before .before .before .args .at) (numbersBytes 2 (replicate (c .before .before .before .args .count) number))
       (c .before .loop .out) (c .before .loop .place) (bytesOf 2 number ∷ numbersBytes 2 (replicate (c .before .loop .left - 1) number) ∷ [])
   more = recast (ap (λ z. z ++ []) (run-more 2 (c .before .loop .left) number (omega arith))) (c .before .loop .inv)
 
-  fits : Room (c .before .loop .out) (c .before .loop .place) (bytesOf 2 number)
-  fits = room (c .before .before .pre) more
+  fits : c .before .loop .place + 2 ≤ length (c .before .loop .out)
+  fits = room-some (room (c .before .before .before .pre) more) (omega (arith, long more))
+
+mul-result : tie.Need-mul-result Inv-loop μ-loop
+mul-result c = omega (arith, room-wide (c .before .pre) (omega arith), length-run 2 (c .before .args .count) (c .before .args .number))
+
+add-result : tie.Need-add-result Inv-loop μ-loop
+add-result c = omega (arith, room-wide (c .before .pre) (omega arith), length-run 2 (c .before .args .count) (c .before .args .number))
+
+returns : tie.Need-returns Inv-loop μ-loop
+returns c = wrote-none (omega arith) (omega (arith, length-run 2 (c .before .args .count) (c .before .args .number)))
 
 cast-low : tie.Need-cast-low Inv-loop μ-loop
 cast-low c = search needs
@@ -65,9 +73,9 @@ loop-again c = step {xs = bytesOf 2 (number c)} (more c) (record { place = omega
 same-length : tie.Need-same-length Inv-loop μ-loop
 same-length c = long (c .before .loop .inv)
 
-returns : tie.Need-returns Inv-loop μ-loop
-returns c =
-    let a = c .before .before .args in
+returns-2 : tie.Need-returns-2 Inv-loop μ-loop
+returns-2 c =
+    let a = c .before .before .before .args in
     done (recast (append-nil _ ∙ run-none 2 (c .before .loop .left) (a .number) (omega arith)) (c .before .loop .inv))
 
 pub fill-run-spec : {M : Type 1} → statement M
@@ -76,6 +84,9 @@ fill-run-spec =
     (tie.spec
     Inv-loop
     μ-loop
+    mul-result
+    add-result
+    returns
     cast-low
     cast-high
     loop-holds
@@ -87,4 +98,4 @@ fill-run-spec =
     loop-less
     loop-again
     same-length
-    returns)
+    returns-2)

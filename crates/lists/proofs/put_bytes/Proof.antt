@@ -1,13 +1,13 @@
 -- `lists::put_bytes` meets its contract: the loop writes each of the first n bytes as a list of one. Assumes nothing.
 use mathlib.Core.Path.{_≡_, refl, sym}
-use Prim.Native.Nat.{_-_}
+use Prim.Native.Nat.{_+_, _-_, _≤_}
 use native.Mathlib.Omega.{arith}
 use borrow.Author.Needs.{needs}
-use lib.ListN.{length, getD}
-use Rattle.lists.specs.Writing.{Room}
+use lib.ListN.{length, take}
+use lib.Seq.{length-take-le}
 use Rattle.lists.proofs.Each.{single, flatMap-single}
 use Rattle.lists.proofs.Loops.{there-all}
-use Rattle.lists.proofs.Writing.{room-as, wrote-as}
+use Rattle.lists.proofs.Writing.{room-as, room-some, room-wide, wrote-as, wrote-none}
 use Rattle.lists.proofs.WritingLoops.{Going, going-start, going-room, going-next, going-end, going-long}
 use Rattle.lists.proofs.put_bytes.Statement.{statement}
 use Rattle.lists.proofs.put_bytes.Tie as tie
@@ -18,13 +18,28 @@ Inv-loop out₀ at n bytes place₀ i₀ out place i = Going single n bytes n ou
 abbrev μ-loop : tie.MeasureT-loop
 μ-loop out₀ at n bytes place₀ i₀ out place i = n - i
 
+-- as many bytes as are taken
+counted : (c : tie.Start Inv-loop μ-loop) → length (take (c .args .n) (c .args .t3)) ≡ c .args .n
+counted c =
+    let e : length (c .args .t3) ≡ 16 = search needs in
+    length-take-le _ _ (omega arith)
+
 -- the byte that a turn writes has room
-fits : (c : tie.In-loop Inv-loop μ-loop) → Room (c .before .loop .out) (c .before .loop .place) (single (getD (c .before .before .args .t3) (c .before .loop .i) 0))
-fits c = going-room 0 (c .before .loop .inv) (c .loop-test .taken) (room-as (sym (flatMap-single _)) (c .before .before .pre .1))
+fits : (c : tie.In-loop Inv-loop μ-loop) → c .before .loop .place + 1 ≤ length (c .before .loop .out)
+fits c =
+    room-some
+    (going-room 0 (c .before .loop .inv) (c .loop-test .taken) (room-as (sym (flatMap-single _)) (c .before .before .before .pre .1)))
+    (omega (arith, going-long (c .before .loop .inv)))
+
+add-result : tie.Need-add-result Inv-loop μ-loop
+add-result c = omega (arith, room-wide (c .before .pre .1) (omega arith), counted (c .before))
+
+returns : tie.Need-returns Inv-loop μ-loop
+returns c = wrote-none (omega arith) (omega (arith, counted (c .before)))
 
 loop-holds : tie.Need-loop-holds Inv-loop μ-loop
 loop-holds c =
-    let e : length (c .args .t3) ≡ 16 = search needs in
+    let e : length (c .before .args .t3) ≡ 16 = search needs in
     going-start (there-all _ _ (omega arith))
 
 array-read-out : tie.Need-array-read-out Inv-loop μ-loop
@@ -48,8 +63,8 @@ loop-again c = going-next 0 (c .before .loop .inv) (c .loop-test .taken) (record
 same-length : tie.Need-same-length Inv-loop μ-loop
 same-length c = going-long (c .before .loop .inv)
 
-returns : tie.Need-returns Inv-loop μ-loop
-returns c = wrote-as (flatMap-single _) (going-end (c .before .loop .inv) (c .loop-test .left))
+returns-2 : tie.Need-returns-2 Inv-loop μ-loop
+returns-2 c = wrote-as (flatMap-single _) (going-end (c .before .loop .inv) (c .loop-test .left))
 
 pub put-bytes-spec : {M : Type 1} → statement M
 put-bytes-spec =
@@ -57,6 +72,8 @@ put-bytes-spec =
     (tie.spec
     Inv-loop
     μ-loop
+    add-result
+    returns
     loop-holds
     array-read-out
     slice-write-out
@@ -65,4 +82,4 @@ put-bytes-spec =
     loop-less
     loop-again
     same-length
-    returns)
+    returns-2)

@@ -5,8 +5,8 @@ use denote.Ref.{now}
 use Rattle.lists.specs.declared.Written.{Written}
 use Rattle.lists.proofs.Lent.{refusal}
 use Rattle.model.specs.Plans.{planNumbers}
-use Rattle.source.specs.Step.{state}
-use Rattle.rows.proofs.Tables.{usables}
+use Rattle.source_step.specs.Step.{state}
+use Rattle.source_step.proofs.Tables.{usables}
 use Rattle.source_walk.specs.Opening.{tableOf, Started}
 use Rattle.source_walk.specs.Walk.{Judging, judgeBy}
 use Rattle.source_walk.proofs.Opening.{refused-both}

@@ -1,12 +1,14 @@
 -- `plan_expand::put_openings` meets its contract. The loop's invariant is `Opening`: what is left to write are the openings of what is left of the plan.
 -- Assumes nothing.
 use Prim.Native.Nat.{_-_, _<_}
-use mathlib.Core.Path.{_≡_, _∙_}
+use mathlib.Core.Path.{_≡_, sym, ap, _∙_}
 use native.Mathlib.Omega.{arith}
 use denote.Ref.{now}
 use lib.ListN.{length, getD}
+use Rattle.integers.specs.Numbers.{bytesOf}
+use Rattle.lists.proofs.Writing.{room-as, wrote-as}
 use Rattle.model.specs.Plans.{planNumbers}
-use Rattle.planbytes.proofs.Steps.{halves-long}
+use Rattle.plan_bytes.proofs.Steps.{halves-long}
 use Rattle.plan_expand.proofs.Writing.{Opening, opening-begins, opening-ends, opening-as-long, opening-room, opening-goes}
 use borrow.Author.Needs.{needs}
 use Rattle.plan_expand.proofs.put_openings.Statement.{statement}
@@ -41,16 +43,20 @@ action-of-requires c κs = let s = c .before .before .before .before in omega (a
 wide16-requires : tie.Need-wide16-requires Inv-loop μ-loop
 wide16-requires c κs = search needs
 
-mul-put16 : tie.Need-mul-put16 Inv-loop μ-loop
-mul-put16 c = search needs
+mul-word : tie.Need-mul-word Inv-loop μ-loop
+mul-word c = search needs
 
-element-copy-out-put16 : tie.Need-element-copy-out-put16 Inv-loop μ-loop
-element-copy-out-put16 c = below (c .before)
+element-copy-out-word : tie.Need-element-copy-out-word Inv-loop μ-loop
+element-copy-out-word c = below (c .before)
 
-put16-requires : tie.Need-put16-requires Inv-loop μ-loop
-put16-requires c κs =
-    let w = c .before .before in
-    opening-room (w .before .before .before .loop .inv) (within w) (w .wide16 .result) (is w) (omega (arith, s w .pre .0, s w .pre .2))
+word-requires : tie.Need-word-requires Inv-loop μ-loop
+word-requires c κs = search needs
+
+put-number-requires : tie.Need-put-number-requires Inv-loop μ-loop
+put-number-requires c κs =
+    let w = c .before .before .before in
+    room-as (ap (bytesOf 2) (sym (c .word .ensures)))
+    (opening-room (w .before .before .before .loop .inv) (within w) (w .wide16 .result) (is w) (omega (arith, s w .pre .0, s w .pre .2)))
 
 add-i : tie.Need-add-i Inv-loop μ-loop
 add-i c = search (needs, arith)
@@ -60,8 +66,10 @@ loop-less c = omega arith
 
 loop-again : tie.Need-loop-again Inv-loop μ-loop
 loop-again c =
-    let w = c .before .before .before .before .before in
-    opening-goes (w .before .before .before .loop .inv) (within w) (w .wide16 .result) (is w) (c .before .before .put16 .ensures)
+    let o = c .before .before .before in
+    let w = o .before .before .before in
+    opening-goes (w .before .before .before .loop .inv) (within w) (w .wide16 .result) (is w)
+    (wrote-as (ap (bytesOf 2) (o .word .ensures)) (c .before .before .put-number .ensures))
 
 same-length : tie.Need-same-length Inv-loop μ-loop
 same-length c = opening-as-long (c .before .loop .inv)
@@ -78,9 +86,10 @@ put-openings-spec =
     loop-holds
     action-of-requires
     wide16-requires
-    mul-put16
-    element-copy-out-put16
-    put16-requires
+    mul-word
+    element-copy-out-word
+    word-requires
+    put-number-requires
     add-i
     loop-less
     loop-again

@@ -6,9 +6,9 @@ use native.Mathlib.Omega.{arith}
 use denote.Ref.{now}
 use lib.ListN.{length, getD}
 use Rattle.model.specs.Plans.{planNumbers}
-use Rattle.planbytes.proofs.Steps.{halves-long}
-use Rattle.source.specs.Step.{state}
-use Rattle.rows.specs.Table.{Table, table, Usables}
+use Rattle.plan_bytes.proofs.Steps.{halves-long}
+use Rattle.source_step.specs.Step.{state}
+use Rattle.source_step.specs.Table.{Table, table, Usables}
 use Rattle.plan_expand.proofs.Writing.{Going, begins, ends, as-long, named, holds, has-room, goes-on}
 use borrow.Author.Needs.{needs}
 use Rattle.plan_expand.proofs.put_plan.Statement.{statement}

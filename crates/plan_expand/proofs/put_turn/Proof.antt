@@ -8,8 +8,8 @@ use mir.Syntax.{w64}
 use mir.Val.{SFits}
 use Rattle.lists.proofs.Writing.{wrote-as, room-as}
 use Rattle.model.specs.Plans.{planBytes}
-use Rattle.rows.specs.Row.{Reads}
-use Rattle.rows.proofs.Taking.{read-when-held}
+use Rattle.source_step.specs.Row.{Reads}
+use Rattle.source_step.proofs.Taking.{read-when-held}
 use Rattle.plan_strokes.specs.Strokes.{stepNumbers}
 use Rattle.plan_expand.proofs.Writing.{turn-taken}
 use borrow.Author.Needs.{needs}

@@ -3,8 +3,8 @@ use native.Mathlib.Omega.{arith}
 use mathlib.Core.Path.{refl, _∙_}
 use denote.Ref.{now}
 use Rattle.model.specs.Plans.{planNumbers}
-use Rattle.source.specs.Step.{state}
-use Rattle.rows.specs.Table.{Table, table}
+use Rattle.source_step.specs.Step.{state}
+use Rattle.source_step.specs.Table.{Table, table}
 use Rattle.plan_expand.specs.Expanding.{Expands}
 use Rattle.plan_expand.proofs.Expanding.{named-all}
 use Rattle.plan_expand.proofs.Writing.{expansion-room, expanded-short, expanded, expanded-alone}

@@ -15,8 +15,8 @@ use borrow.Author.Tests.{not-true, not-false}
 use Rattle.model.specs.Plans.{planNumbers}
 use Rattle.model.specs.Following.{agreeing}
 use Rattle.model.proofs.FollowingWalks.{agreeing-there}
-use Rattle.rows.specs.Row.{held, Reads}
-use Rattle.rows.proofs.Taking.{read-when-held}
+use Rattle.source_step.specs.Row.{held, Reads}
+use Rattle.source_step.proofs.Taking.{read-when-held}
 use Rattle.plan_strokes.specs.Strokes.{stepNumbers}
 use Rattle.plan_project.specs.Following.{numbersAt}
 use Rattle.plan_project.proofs.Numbers.{strokes-length}

@@ -3,7 +3,7 @@ use mathlib.Core.Path.{_∙_}
 use native.Mathlib.Omega.{arith}
 use denote.Ref.{now}
 use Rattle.model.specs.Plans.{planNumbers}
-use Rattle.planbytes.proofs.Steps.{halves-long}
+use Rattle.plan_bytes.proofs.Steps.{halves-long}
 use Rattle.plan_project.proofs.Advancing.{ended, not-applying, no-such}
 use borrow.Author.Needs.{needs}
 use Rattle.plan_project.proofs.astray.Statement.{statement}

@@ -5,9 +5,9 @@ use native.Mathlib.Omega.{arith}
 use lib.ListN.{length, getD}
 use denote.Ref.{now}
 use Rattle.model.specs.Plans.{planNumbers}
-use Rattle.planbytes.proofs.Steps.{halves-long}
-use Rattle.source.specs.Step.{state}
-use Rattle.rows.specs.Table.{Table, table}
+use Rattle.plan_bytes.proofs.Steps.{halves-long}
+use Rattle.source_step.specs.Step.{state}
+use Rattle.source_step.specs.Table.{Table, table}
 use Rattle.plan_project.specs.Sources.{entryAt}
 use Rattle.plan_project.specs.Following.{notedAt}
 use Rattle.plan_project.proofs.Going.{Going, begins, over, no-action, number-small, rows-here, stopped, rises, goes}

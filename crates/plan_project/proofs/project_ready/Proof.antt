@@ -4,8 +4,8 @@ use Prim.Native.Nat.{_≤_}
 use native.Mathlib.Omega.{arith}
 use denote.Ref.{now}
 use Rattle.model.specs.Plans.{planNumbers}
-use Rattle.rows.specs.Table.{Usables, table}
-use Rattle.rows.proofs.Tables.{usables}
+use Rattle.source_step.specs.Table.{Usables, table}
+use Rattle.source_step.proofs.Tables.{usables}
 use Rattle.plan_project.proofs.Agreeing.{openable, below, kept, projected-so}
 use borrow.Author.Needs.{needs}
 use Rattle.plan_project.proofs.project_ready.Statement.{statement}

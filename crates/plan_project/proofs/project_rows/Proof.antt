@@ -2,7 +2,7 @@
 use native.Mathlib.Omega.{arith}
 use denote.Ref.{now}
 use borrow.Author.Needs.{needs}
-use Rattle.planbytes.proofs.Steps.{halves-long}
+use Rattle.plan_bytes.proofs.Steps.{halves-long}
 use Rattle.plan_project.proofs.Projecting.{when-stopped, few, when-short, puttable, noted-so, when-written}
 use Rattle.plan_project.proofs.project_rows.Statement.{statement}
 use Rattle.plan_project.proofs.project_rows.Tie as tie

@@ -17,14 +17,14 @@ abbrev μ-loop : tie.MeasureT-loop
 loop-holds : tie.Need-loop-holds Inv-loop μ-loop
 loop-holds c = let s = c .before in copying (now (s .args .noted)) (s .args .found) (now (s .args .out)) (omega (arith, s .pre .1, s .pre .2))
 
-element-copy-out-half : tie.Need-element-copy-out-half Inv-loop μ-loop
-element-copy-out-half c = search needs
+element-copy-out-word : tie.Need-element-copy-out-word Inv-loop μ-loop
+element-copy-out-word c = search needs
 
-half-requires : tie.Need-half-requires Inv-loop μ-loop
-half-requires c κs = search needs
+word-requires : tie.Need-word-requires Inv-loop μ-loop
+word-requires c κs = search needs
 
-put16-requires : tie.Need-put16-requires Inv-loop μ-loop
-put16-requires c κs = let h = c .before .before .before in copy-room (h .before .loop .inv) (c .half .ensures) (h .loop-test .taken) (h .before .before .before .pre .0)
+put-number-requires : tie.Need-put-number-requires Inv-loop μ-loop
+put-number-requires c κs = let h = c .before .before .before in copy-room (h .before .loop .inv) (c .word .ensures) (h .loop-test .taken) (h .before .before .before .pre .0)
 
 add-i : tie.Need-add-i Inv-loop μ-loop
 add-i c = search needs
@@ -33,7 +33,7 @@ loop-less : tie.Need-loop-less Inv-loop μ-loop
 loop-less c = search needs
 
 loop-again : tie.Need-loop-again Inv-loop μ-loop
-loop-again c = let h = c .before .before .before .before .before .before in copies (h .before .loop .inv) (c .before .before .before .half .ensures) (h .loop-test .taken) (c .before .before .put16 .ensures)
+loop-again c = let h = c .before .before .before .before .before .before in copies (h .before .loop .inv) (c .before .before .before .word .ensures) (h .loop-test .taken) (c .before .before .put-number .ensures)
 
 same-length : tie.Need-same-length Inv-loop μ-loop
 same-length c = long (c .before .loop .inv .left)
@@ -48,9 +48,9 @@ put-noted-spec =
     Inv-loop
     μ-loop
     loop-holds
-    element-copy-out-half
-    half-requires
-    put16-requires
+    element-copy-out-word
+    word-requires
+    put-number-requires
     add-i
     loop-less
     loop-again

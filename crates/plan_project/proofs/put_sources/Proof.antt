@@ -6,7 +6,7 @@ use lib.ListN.{length, getD}
 use denote.Ref.{now}
 use Rattle.lists.proofs.Writing.{long}
 use Rattle.model.specs.Plans.{planNumbers}
-use Rattle.planbytes.proofs.Steps.{halves-long}
+use Rattle.plan_bytes.proofs.Steps.{halves-long}
 use Rattle.plan_project.proofs.Putting.{Putting, begins, over, room-here, puts, passes, further, passes-run}
 use borrow.Author.Needs.{needs}
 use Rattle.plan_project.proofs.put_sources.Statement.{statement}
@@ -39,11 +39,11 @@ action-of-requires c κs = let s = c .before .before .before .before in omega (a
 source-of-requires : tie.Need-source-of-requires Inv-loop μ-loop
 source-of-requires c κs = search needs
 
-cast-put16 : tie.Need-cast-put16 Inv-loop μ-loop
-cast-put16 c = search needs
+cast-put-number : tie.Need-cast-put-number Inv-loop μ-loop
+cast-put-number c = search needs
 
-put16-requires : tie.Need-put16-requires Inv-loop μ-loop
-put16-requires c κs = let f = c .before in
+put-number-requires : tie.Need-put-number-requires Inv-loop μ-loop
+put-number-requires c κs = let f = c .before in
     let w = f .before in
     room-here (loopOf w .loop .inv) (number-is w) (inside w) (w .source-of .ensures) (f .if1 .taken) (startOf w .pre .0)
 
@@ -57,7 +57,7 @@ loop-again : tie.Need-loop-again Inv-loop μ-loop
 loop-again c = let p = c .before .before in
     let f = p .before .before in
     let w = f .before in
-    puts (loopOf w .loop .inv) (number-is w) (inside w) (w .source-of .ensures) (f .if1 .taken) (p .put16 .ensures)
+    puts (loopOf w .loop .inv) (number-is w) (inside w) (w .source-of .ensures) (f .if1 .taken) (p .put-number .ensures)
 
 past-run : (c : tie.After-matches-run Inv-loop μ-loop) → let w = c .before .before .before in (1 ≤ c .matches-run .result) × (loopOf w .loop .at + c .matches-run .result ≤ length (planNumbers (now (startOf w .args .plan))))
 past-run c = let f = c .before .before in
@@ -104,8 +104,8 @@ put-sources-spec =
     loop-holds
     action-of-requires
     source-of-requires
-    cast-put16
-    put16-requires
+    cast-put-number
+    put-number-requires
     add-at
     loop-less
     loop-again

@@ -8,7 +8,7 @@ use mir.Val.{SFits}
 use borrow.Author.Needs.{needs}
 use Rattle.integers.specs.Division.{quotientOf}
 use Rattle.integers.proofs.Parts.{ints, sub, abs}
-use Rattle.source.proofs.Numbers.{quotient-small}
+use Rattle.source_step.proofs.InRange.{quotient-small}
 use Rattle.plan_strokes.proofs.Making.{floor-up, floor-down}
 use Rattle.plan_strokes.proofs.divide_strokes.Statement.{statement}
 use Rattle.plan_strokes.proofs.divide_strokes.Tie as tie

@@ -12,9 +12,9 @@ use lib.ListN.{take}
 use Rattle.integers.specs.Division.{quotientOf, residueOf}
 use Rattle.integers.specs.Parts.{Within}
 use Rattle.model.specs.Steps.{integerAt}
-use Rattle.source.specs.Parts.{small, divides}
-use Rattle.source.proofs.Numbers as numbers
-use Rattle.rows.specs.Row.{targetAt, operandAt, constantAt}
+use Rattle.source_step.specs.Parts.{small, divides}
+use Rattle.source_step.proofs.InRange as numbers
+use Rattle.source_step.specs.Row.{targetAt, operandAt, constantAt}
 use Rattle.plan_strokes.proofs.Effects.{quotient-kind, residue-kind, division-fits}
 use Rattle.plan_strokes.specs.Strokes.{strokesOf}
 use Rattle.plan_strokes.specs.Made.{Listed, divisionStrokes}

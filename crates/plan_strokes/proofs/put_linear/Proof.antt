@@ -10,8 +10,8 @@ use mir.Val.{SFits}
 use lib.IntN.{natAbs}
 use lib.ListN.{take}
 use Rattle.model.specs.Steps.{integerAt, naturalAt}
-use Rattle.source.proofs.Rows.{row-tabulate}
-use Rattle.rows.specs.Row.{termCountAt, termsAt}
+use Rattle.source_step.proofs.Rows.{row-tabulate}
+use Rattle.source_step.specs.Row.{termCountAt, termsAt}
 use Rattle.plan_strokes.specs.Strokes.{strokesOf}
 use Rattle.plan_strokes.proofs.Making.{listed-two, Draining, draining-start, draining-next, draining-end}
 use borrow.Author.Needs.{needs}

@@ -30,19 +30,22 @@ run-of-requires c κs = search needs
 fill-run-requires : tie.Need-fill-run-requires
 fill-run-requires c κs = room (c .before .before .before .pre .1) (l₀ (c .before))
 
-add-put16 : tie.Need-add-put16
-add-put16 c = search needs
+add-put-number : tie.Need-add-put-number
+add-put-number c = search needs
 
-put16-requires : tie.Need-put16-requires
-put16-requires c κs = room (c .before .before .before .before .before .before .before .pre .1) (l₁ (c .before .before .before))
+cast-put-number : tie.Need-cast-put-number
+cast-put-number c = search needs
+
+put-number-requires : tie.Need-put-number-requires
+put-number-requires c κs = room (c .before .before .before .before .before .before .before .pre .1) (l₁ (c .before .before .before))
 
 same-length : tie.Need-same-length
 same-length c = search needs
 
 returns : tie.Need-returns
-returns c = done (step (l₁ (c .before .before .before .before .before .before)) (c .before .before .put16 .ensures))
+returns c = done (step (l₁ (c .before .before .before .before .before .before)) (c .before .before .put-number .ensures))
 
 pub put-stage-spec : {M : Type 1} → statement M
 put-stage-spec =
     tie.close
-    (tie.spec run-of-requires fill-run-requires add-put16 put16-requires same-length returns)
+    (tie.spec run-of-requires fill-run-requires add-put-number cast-put-number put-number-requires same-length returns)

@@ -12,12 +12,12 @@ use borrow.Author.Needs.{needs}
 use Rattle.plan_strokes.proofs.put_step.Statement.{statement}
 use Rattle.plan_strokes.proofs.put_step.Tie as tie
 
-l₁ : (c : tie.After-put16) → let s = c .before .before .before in
-    Left (now (s .args .out)) (s .args .at) (planBytes (stepNumbers (s .args .opening) (take (s .args .count) (now (s .args .times))))) (c .put16 .last .0) (c .put16 .result) (planBytes (macroSteps (s .args .opening + 1) (take (s .args .count) (now (s .args .times)))) ∷ [])
-l₁ c = let s = c .before .before .before in step (opens (s .args .opening) (take (s .args .count) (now (s .args .times))) _ _) (c .put16 .ensures)
+l₁ : (c : tie.After-put-number) → let s = c .before .before .before in
+    Left (now (s .args .out)) (s .args .at) (planBytes (stepNumbers (s .args .opening) (take (s .args .count) (now (s .args .times))))) (c .put-number .last .0) (c .put-number .result) (planBytes (macroSteps (s .args .opening + 1) (take (s .args .count) (now (s .args .times)))) ∷ [])
+l₁ c = let s = c .before .before .before in step (opens (s .args .opening) (take (s .args .count) (now (s .args .times))) _ _) (c .put-number .ensures)
 
-put16-requires : tie.Need-put16-requires
-put16-requires c κs = let s = c .before .before in room (s .pre .1) (opens (s .args .opening) (take (s .args .count) (now (s .args .times))) _ _)
+put-number-requires : tie.Need-put-number-requires
+put-number-requires c κs = let s = c .before .before in room (s .pre .1) (opens (s .args .opening) (take (s .args .count) (now (s .args .times))) _ _)
 
 add-put-stages : tie.Need-add-put-stages
 add-put-stages c = search needs
@@ -33,4 +33,4 @@ returns c = done (step (l₁ (c .before .before .before .before .before .before)
 
 pub put-step-spec : {M : Type 1} → statement M
 put-step-spec =
-    tie.close (tie.spec put16-requires add-put-stages put-stages-requires same-length returns)
+    tie.close (tie.spec put-number-requires add-put-stages put-stages-requires same-length returns)

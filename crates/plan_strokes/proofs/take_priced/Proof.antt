@@ -8,8 +8,8 @@ use mir.Syntax.{w64}
 use mir.Val.{SFits}
 use borrow.Author.Tests.{not-true, not-false}
 use borrow.Author.Needs.{needs}
-use Rattle.rows.specs.Row.{held, Reads}
-use Rattle.rows.proofs.Taking.{read-when-held}
+use Rattle.source_step.specs.Row.{held, Reads}
+use Rattle.source_step.proofs.Taking.{read-when-held}
 use Rattle.plan_strokes.proofs.Prices.{turned-away, turned-single, turned}
 use Rattle.plan_strokes.proofs.take_priced.Statement.{statement}
 use Rattle.plan_strokes.proofs.take_priced.Tie as tie

@@ -2,10 +2,10 @@
 use mathlib.Core.Path.{sym, ap, _∙_}
 use native.Mathlib.Omega.{arith}
 use denote.Ref.{now}
-use Rattle.tasks.specs.Views.{verdictIs}
-use Rattle.planbytes.specs.Counted.{countedIs}
+use Rattle.file_check.specs.Views.{verdictIs}
+use Rattle.plan_bytes.specs.Counted.{countedIs}
 use Rattle.restricted_judge.specs.Judging.{judgementOf}
-use Rattle.restricted.proofs.Decoded.{bytes-of}
+use Rattle.restricted_state.proofs.Accepting.{bytes-of}
 use Rattle.restricted_judge.proofs.Accepting.{judged-rejected, judged-no-plan, judged-task, accepted-plan}
 use borrow.Author.Needs.{needs}
 use Rattle.restricted_judge.proofs.judge.Statement.{statement}

@@ -3,16 +3,26 @@
 use mathlib.Core.Path.{ap, _∙_}
 use borrow.Author.Tests.{not-true, not-false}
 use Rattle.restricted_judge.specs.Judging.{judgementOf}
-use Rattle.restricted_judge.proofs.Accepting.{declared-few, start-standing, judged-ended, judged-unmet, judged-valid}
+use Rattle.restricted_judge.proofs.Accepting.{start-standing, goal-usable, judged-ended, judged-unmet, judged-valid}
 use borrow.Author.Needs.{needs}
 use Rattle.restricted_judge.proofs.judge_accepted.Statement.{statement}
 use Rattle.restricted_judge.proofs.judge_accepted.Tie as tie
 
+-- what went before: the entry, the reading of what is declared, the walk, the end of a walk that goes through, the goal's decoding
 abbrev startOf : tie.After-read-restricted → tie.Start
 startOf d = d .before .before .before .before .before .before
 
 abbrev readOf : tie.After-walk-plan → tie.After-read-restricted
 readOf w = w .before .before .before
+
+abbrev walkOf : tie.After-enum-told → tie.After-walk-plan
+walkOf t = t .before .before
+
+abbrev toldOf : tie.After-decode-restricted → tie.After-enum-told
+toldOf g = g .before .before .before .before
+
+abbrev goalOf : tie.After-holds → tie.After-decode-restricted
+goalOf h = h .before .before .before .before .before
 
 read-restricted-requires : tie.Need-read-restricted-requires
 read-restricted-requires c κs = search needs
@@ -39,31 +49,32 @@ enum-told c = search needs
 goal-bytes-requires : tie.Need-goal-bytes-requires
 goal-bytes-requires c κs = search needs
 
-decode-goal-requires : tie.Need-decode-goal-requires
-decode-goal-requires c κs = search needs
+decode-restricted-requires : tie.Need-decode-restricted-requires
+decode-restricted-requires c κs = search needs
 
-goal-met-requires : tie.Need-goal-met-requires
-goal-met-requires c κs = let d = readOf (c .before .before .before .before .before .before) in declared-few _ (startOf d .pre .accepted) (d .read-restricted .ensures)
+holds-requires : tie.Need-holds-requires
+holds-requires c κs = let g = c .before .before .before .before in
+    goal-usable (startOf (readOf (walkOf (toldOf g))) .pre) (g .before .before .before .goal-bytes .ensures) (g .decode-restricted .ensures)
 
 refuse-requires-2 : tie.Need-refuse-requires-2
 refuse-requires-2 c κs = search needs
 
 returns-2 : tie.Need-returns-2
-returns-2 c = let g = c .before .before in
-    let t = g .before .before .before .before .before in
-    let w = t .before .before in
+returns-2 c = let h = c .before .before in
+    let g = goalOf h in
+    let t = toldOf g in
+    let w = walkOf t in
     let d = readOf w in
-    let b = g .before .before .before in
     c .refuse2 .ensures
-    ∙ ap judgementOf (judged-unmet (startOf d .pre) (d .read-restricted .ensures) (rw (t .enum-told .given .1) at (w .walk-plan .ensures)) (b .decode-goal .result) _ (b .before .goal-bytes .ensures) (b .decode-goal .ensures) (g .goal-met .result) (g .goal-met .ensures) (not-true _ (c .before .if1 .taken)))
+    ∙ ap judgementOf (judged-unmet (startOf d .pre) (d .read-restricted .ensures) (w .walk-plan .ensures) (t .enum-told .given .1) (g .before .before .before .goal-bytes .ensures) (g .decode-restricted .ensures) (h .holds .result) (h .holds .ensures) (not-true _ (c .before .if1 .taken)))
 
 returns-3 : tie.Need-returns-3
-returns-3 c = let g = c .before in
-    let t = g .before .before .before .before .before in
-    let w = t .before .before in
+returns-3 c = let h = c .before in
+    let g = goalOf h in
+    let t = toldOf g in
+    let w = walkOf t in
     let d = readOf w in
-    let b = g .before .before .before in
-    judged-valid (startOf d .pre) (d .read-restricted .ensures) (rw (t .enum-told .given .1) at (w .walk-plan .ensures)) (b .decode-goal .result) _ (b .before .goal-bytes .ensures) (b .decode-goal .ensures) (g .goal-met .result) (g .goal-met .ensures) (not-false _ (c .if1 .left))
+    judged-valid (startOf d .pre) (d .read-restricted .ensures) (w .walk-plan .ensures) (t .enum-told .given .1) (g .before .before .before .goal-bytes .ensures) (g .decode-restricted .ensures) (h .holds .result) (h .holds .ensures) (not-false _ (c .if1 .left))
 
 pub judge-accepted-spec : {M : Type 1} → statement M
 judge-accepted-spec =
@@ -76,8 +87,8 @@ judge-accepted-spec =
     returns
     enum-told
     goal-bytes-requires
-    decode-goal-requires
-    goal-met-requires
+    decode-restricted-requires
+    holds-requires
     refuse-requires-2
     returns-2
     returns-3)

@@ -8,8 +8,8 @@ use lib.ListN.{length, getD}
 use lib.IntN.{ℤ}
 use mir.Val.{Fits}
 use mir.Syntax.{w64}
-use Rattle.restricted.specs.Changes.{stateOf}
-use Rattle.kept.specs.Slots.{Held}
+use Rattle.restricted_step.specs.Steps.{stateOf}
+use Rattle.restricted_runs.specs.Slots.{Held}
 use Rattle.restricted_judge.proofs.Walking.{Walking, walk-start, walk-ends, walk-no-action, walk-can, walk-stops, walk-next}
 use borrow.Author.Needs.{needs}
 use Rattle.restricted_judge.proofs.judge_runs.Statement.{statement}

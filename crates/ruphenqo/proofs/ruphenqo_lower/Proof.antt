@@ -6,7 +6,7 @@ use Rattle.ruphenqo.proofs.ruphenqo_lower.Statement.{statement}
 use Rattle.ruphenqo.proofs.ruphenqo_lower.Tie as tie
 use Rattle.ruphenqo.proofs.ruphenqo_lower.Reads as reads
 use Rattle.ruphenqo.proofs.ruphenqo_lower.Lts as lts
-use Rattle.lowering.proofs.lower.Reads as lower-reads
+use Rattle.lowering_file.proofs.lower.Reads as lower-reads
 use Rattle.ruphenqo.proofs.tell_written.Reads as tell-written-reads
 
 lower-requires : tie.Need-lower-requires

@@ -8,7 +8,7 @@ use Rattle.ruphenqo.proofs.ruphenqo_read_restricted.Tie as tie
 use Rattle.ruphenqo.proofs.ruphenqo_read_restricted.Reads as reads
 use Rattle.ruphenqo.proofs.ruphenqo_read_restricted.Lts as lts
 use Rattle.ruphenqo.proofs.tell_counts.Reads as tell-counts-reads
-use Rattle.tasks.proofs.check_restricted.Reads as check-restricted-reads
+use Rattle.file_check.proofs.check_restricted.Reads as check-restricted-reads
 
 check-restricted-requires : tie.Need-check-restricted-requires
 check-restricted-requires c κs = search needs

@@ -8,7 +8,7 @@ use Rattle.ruphenqo.proofs.ruphenqo_read_source.Tie as tie
 use Rattle.ruphenqo.proofs.ruphenqo_read_source.Reads as reads
 use Rattle.ruphenqo.proofs.ruphenqo_read_source.Lts as lts
 use Rattle.ruphenqo.proofs.tell_counts.Reads as tell-counts-reads
-use Rattle.tasks.proofs.check_source.Reads as check-source-reads
+use Rattle.file_check.proofs.check_source.Reads as check-source-reads
 
 check-source-requires : tie.Need-check-source-requires
 check-source-requires c κs = search needs

@@ -5,7 +5,7 @@ use Rattle.ruphenqo.proofs.ruphenqo_restricted_action.Statement.{statem
 use Rattle.ruphenqo.proofs.ruphenqo_restricted_action.Tie as tie
 use Rattle.ruphenqo.proofs.ruphenqo_restricted_action.Reads as reads
 use Rattle.ruphenqo.proofs.ruphenqo_restricted_action.Lts as lts
-use Rattle.actions.proofs.place_restricted_action.Reads as place-restricted-action-reads
+use Rattle.file_actions.proofs.place_restricted_action.Reads as place-restricted-action-reads
 use Rattle.ruphenqo.proofs.tell_place.Reads as tell-place-reads
 
 place-restricted-action-requires : tie.Need-place-restricted-action-requires

@@ -5,7 +5,7 @@ use Rattle.ruphenqo.proofs.ruphenqo_source_action.Statement.{statement}
 use Rattle.ruphenqo.proofs.ruphenqo_source_action.Tie as tie
 use Rattle.ruphenqo.proofs.ruphenqo_source_action.Reads as reads
 use Rattle.ruphenqo.proofs.ruphenqo_source_action.Lts as lts
-use Rattle.actions.proofs.place_source_action.Reads as place-source-action-reads
+use Rattle.file_actions.proofs.place_source_action.Reads as place-source-action-reads
 use Rattle.ruphenqo.proofs.tell_place.Reads as tell-place-reads
 
 place-source-action-requires : tie.Need-place-source-action-requires

@@ -1,13 +1,13 @@
 -- `ruphenqo::ruphenqo_step_restricted` meets its contract, case by case of the verdict. Assumes nothing.
 use mathlib.Core.Path.{refl, ap}
-use Rattle.restricted.specs.Alone.{refusalIs}
+use Rattle.restricted_state.specs.Alone.{refusalIs}
 use Rattle.ruphenqo.proofs.Telling.{told-step-refusal, told-step-applied}
 use borrow.Author.Needs.{needs}
 use Rattle.ruphenqo.proofs.ruphenqo_step_restricted.Statement.{statement}
 use Rattle.ruphenqo.proofs.ruphenqo_step_restricted.Tie as tie
 use Rattle.ruphenqo.proofs.ruphenqo_step_restricted.Reads as reads
 use Rattle.ruphenqo.proofs.ruphenqo_step_restricted.Lts as lts
-use Rattle.restricted.proofs.step_alone.Reads as step-alone-reads
+use Rattle.restricted_state.proofs.step_alone.Reads as step-alone-reads
 
 step-alone-requires : tie.Need-step-alone-requires
 step-alone-requires c κs = search needs

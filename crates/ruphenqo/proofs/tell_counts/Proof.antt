@@ -1,6 +1,6 @@
 -- `ruphenqo::tell_counts` meets its contract, case by case of the verdict. Assumes nothing.
 use mathlib.Core.Path.{refl, ap}
-use Rattle.tasks.specs.Views.{verdictIs}
+use Rattle.file_check.specs.Views.{verdictIs}
 use Rattle.ruphenqo.specs.Told.{countsOf, itself}
 use Rattle.ruphenqo.proofs.Telling.{told-result, told-refusal}
 use borrow.Author.Needs.{needs}

@@ -1,6 +1,6 @@
 -- `ruphenqo::tell_place` meets its contract, case by case. Assumes nothing.
 use mathlib.Core.Path.{refl, ap}
-use Rattle.actions.specs.Places.{placedIs}
+use Rattle.file_actions.specs.Places.{placedIs}
 use Rattle.ruphenqo.specs.Told.{itself}
 use Rattle.ruphenqo.proofs.Telling.{told-result, told-refusal}
 use borrow.Author.Needs.{needs}

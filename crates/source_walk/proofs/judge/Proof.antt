@@ -1,7 +1,7 @@
 -- `source_walk::judge` meets its contract: what is refused of the file and the plan's bytes, else what judging the steps gives. Assumes nothing.
 use mathlib.Core.Path.{sym, ap, _∙_}
 use denote.Ref.{now}
-use Rattle.rows.proofs.Tables.{usables}
+use Rattle.source_step.proofs.Tables.{usables}
 use Rattle.source_walk.specs.Opening.{Started}
 use Rattle.model.specs.Judging.{judgeSourceTask}
 use Rattle.source_walk.specs.Answers.{judgementOf, withState}

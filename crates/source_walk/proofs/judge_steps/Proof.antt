@@ -1,7 +1,7 @@
 -- `source_walk::judge_steps` meets its contract: the walk, then the goal's row. Assumes nothing.
 use denote.Ref.{now}
 use Rattle.model.specs.Plans.{planNumbers}
-use Rattle.rows.specs.Table.{table}
+use Rattle.source_step.specs.Table.{table}
 use Rattle.source_walk.proofs.Loop.{judged-from}
 use borrow.Author.Needs.{needs}
 use Rattle.source_walk.proofs.judge_steps.Statement.{statement}

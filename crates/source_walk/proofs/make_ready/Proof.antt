@@ -1,6 +1,6 @@
 -- `source_walk::make_ready` meets its contract: what the file declares is held by the arrays, and with it the rows are made. Assumes nothing.
-use Rattle.declarations.proofs.Accepted.{source-held}
-use Rattle.source.proofs.Judging.{zero-room, zeros-kept}
+use Rattle.file_declarations.proofs.Accepted.{source-held}
+use Rattle.source_step.proofs.Judging.{zero-room, zeros-kept}
 use Rattle.source_walk.proofs.Opening.{started}
 use borrow.Author.Needs.{needs}
 use Rattle.source_walk.proofs.make_ready.Statement.{statement}

@@ -1,7 +1,7 @@
 -- `source_walk::price_plan` meets its contract: it is refused as by judging, else it has the sum of the prices. Assumes nothing.
 use mathlib.Core.Path.{sym, ap, _∙_}
 use denote.Ref.{now}
-use Rattle.rows.proofs.Tables.{usables}
+use Rattle.source_step.proofs.Tables.{usables}
 use Rattle.source_walk.specs.Opening.{Started}
 use Rattle.lists.specs.Answer.{then}
 use Rattle.model.specs.Judging.{judgeSourceTask, priceTask}

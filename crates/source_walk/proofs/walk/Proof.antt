@@ -6,9 +6,9 @@ use Prim.Native.Nat.{_-_}
 use denote.Ref.{now}
 use borrow.Author.Tests.{not-true, not-false}
 use Rattle.model.specs.Plans.{planNumbers}
-use Rattle.planbytes.proofs.Steps.{halves-long}
-use Rattle.source.specs.Step.{state}
-use Rattle.rows.specs.Table.{table}
+use Rattle.plan_bytes.proofs.Steps.{halves-long}
+use Rattle.source_step.specs.Step.{state}
+use Rattle.source_step.specs.Table.{table}
 use Rattle.source_walk.proofs.Loop.{Going, begins, over, no-action, not-applied, goes}
 use borrow.Author.Needs.{needs}
 use Rattle.source_walk.proofs.walk.Statement.{statement}

@@ -1,16 +1,13 @@
--- `source_state::State::applies` meets its contract. Assumes nothing.
-use mathlib.Core.Path.{ap}
-use mathlib.Core.Bool.{Bool}
-use Rattle.model.specs.Tasks.{State}
+-- `source_state::State::applies` meets its contract: the step is taken on a copy. Assumes nothing.
 use borrow.Author.Needs.{needs}
 use Rattle.source_state.proofs.State.applies.Statement.{statement}
 use Rattle.source_state.proofs.State.applies.Tie as tie
 
-step-requires : tie.Need-step-requires
-step-requires c κs = search needs
+take-requires : tie.Need-take-requires
+take-requires c κs = search needs
 
 returns : tie.Need-returns
-returns c = ap (λ (p : Bool × State). p .0) (c .step .ensures)
+returns c = c .take .ensures .is
 
 pub applies-spec : {M : Type 1} → statement M
-applies-spec = tie.close (tie.spec step-requires returns)
+applies-spec = tie.close (tie.spec take-requires returns)

@@ -1,0 +1,10 @@
+pub mod Accepted
+pub mod Distinct
+pub mod Edges
+pub mod Fits
+pub mod Gathering
+pub mod GoalBytes
+pub mod NumericPart
+pub mod Parts
+pub mod Refusals
+pub mod Taking

@@ -1,0 +1,43 @@
+-- What acceptance gives of a decoded action or goal: its variables and modes are declared, values lie below sizes, constants in range.
+-- Assumes nothing.
+use Prim.Native.Nat.{ℕ, _+_, _≤_, _<_}
+use mathlib.Core.List.{List}
+use lib.IntN.{ℤ, natAbs}
+use lib.ListN.{length}
+use Rattle.model.specs.Steps.{integerAt, naturalAt}
+use Rattle.model.specs.Limits.{Limits}
+use Rattle.model.specs.TaskOk.{EffectOk}
+use Rattle.file_parts.specs.Layout.{conditionCount, conditionVariable, modeConditionCount, modeConditionMode, modeConditionValue}
+use Rattle.file_parts.specs.Layout.{modeEffectCount, modeEffectMode, modeEffectValue, additionCount, additionVariable, additionAmount}
+use Rattle.file_actions.specs.declared.SourceAction.{SourceAction}
+use Rattle.file_actions.specs.Views.{effectIs, termsIs}
+
+-- the conditions of a parts row, in a task of n variables
+pub record ConditionsWithin (l : Limits) (n : ℕ) (marks : List ℕ) (numbers : List ℤ) : Type 0 where
+  pub few : naturalAt marks conditionCount ≤ l .conditions
+  pub declared : (i : ℕ) → i < naturalAt marks conditionCount → naturalAt marks (conditionVariable + i) < n
+  pub inRange : (i : ℕ) → i < naturalAt marks conditionCount → natAbs (integerAt numbers i) ≤ l .constant
+
+-- its pairs of a mode and a value, counted at a place, modes and values from places on, in a task with modes of the sizes; no more than `most`
+pub record ModesWithin (most : ℕ) (sizes : List ℕ) (count mode value : ℕ) (marks : List ℕ) : Type 0 where
+  pub few : naturalAt marks count ≤ most
+  pub declared : (i : ℕ) → i < naturalAt marks count → naturalAt marks (mode + i) < length sizes
+  pub below : (i : ℕ) → i < naturalAt marks count → naturalAt marks (value + i) < naturalAt sizes (naturalAt marks (mode + i))
+
+-- its additions
+pub record AdditionsWithin (l : Limits) (n : ℕ) (marks : List ℕ) (numbers : List ℤ) : Type 0 where
+  pub few : naturalAt marks additionCount ≤ l .additions
+  pub declared : (i : ℕ) → i < naturalAt marks additionCount → naturalAt marks (additionVariable + i) < n
+  pub notZero : (i : ℕ) → i < naturalAt marks additionCount → 1 ≤ natAbs (integerAt numbers (additionAmount + i))
+  pub inRange : (i : ℕ) → i < naturalAt marks additionCount → natAbs (integerAt numbers (additionAmount + i)) ≤ l .constant
+
+-- the row whole; that of a source action has no addition
+pub record RowWithin (l : Limits) (n : ℕ) (sizes : List ℕ) (marks : List ℕ) (numbers : List ℤ) : Type 0 where
+  pub conditions : ConditionsWithin l n marks numbers
+  pub modeConditions : ModesWithin (l .modeConditions) sizes modeConditionCount modeConditionMode modeConditionValue marks
+  pub modeEffects : ModesWithin (length sizes) sizes modeEffectCount modeEffectMode modeEffectValue marks
+  pub additions : AdditionsWithin l n marks numbers
+
+pub record SourceWithin (l : Limits) (n : ℕ) (sizes : List ℕ) (a : SourceAction) : Type 0 where
+  pub row : RowWithin l n sizes (a .marks) (a .numbers)
+  pub effect : EffectOk l n (effectIs (a .effect) (termsIs (a .«term_count») (a .terms)))

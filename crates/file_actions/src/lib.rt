@@ -1,0 +1,478 @@
+// The actions of a task file: where they stand, their bytes as a part of the file, and what the bytes of one action or of the goal say, as
+// a parts row. Every function takes any bytes; of an accepted file, what is decoded is the task's own (proofs/Accepted).
+// It applies no action and knows no state.
+use commands::Command;
+use file_check::Verdict;
+use file_parts::ADDITION_COUNT;
+use file_parts::ADDITIONS;
+use file_parts::CONDITION_COUNT;
+use file_parts::CONDITIONS;
+use file_parts::MARKS;
+use file_parts::MODE_CONDITION_COUNT;
+use file_parts::MODE_CONDITIONS;
+use file_parts::MODE_EFFECT_COUNT;
+use file_parts::MODE_EFFECTS;
+use file_parts::NUMBERS;
+ghost use mathlib.Core.Path.{_≡_};
+ghost use mathlib.Core.Bool.{Bool, true};
+ghost use mathlib.Core.List.{List};
+ghost use Prim.Native.Nat.{_<_, _≤_};
+ghost use lib.ListN.{length, getD};
+ghost use lib.IntN.{ℤ};
+ghost use Rattle.lists.specs.Writing.{splice};
+ghost use Rattle.commands.specs.Table.{letterC, letterP, letterE, plusSign};
+ghost use Rattle.commands.specs.Reading.{commandAt};
+ghost use Rattle.model.specs.Rules.{constant};
+ghost use Rattle.model.specs.Decoding.{sourceActionOf, restrictedActionOf};
+ghost use Rattle.model.specs.ActionBytes.{edgeOf, ofVerdict, actionPlace, decodeAction};
+ghost use Rattle.model.specs.Limits.{sourceLimits, restrictedLimits};
+ghost use Rattle.file_parts.specs.Layout.{MARKS, NUMBERS};
+ghost use Rattle.file_parts.specs.Row.{RoomFor, Says};
+ghost use Rattle.file_check.specs.Views.{verdictIs};
+ghost use Rattle.file_actions.specs.Places.{edgesOf, Found, bodyStart, partOf, placedIs, bytesTold, stepPlace, goalFrom, goalPart};
+ghost use Rattle.file_actions.specs.Numeric.{nothing, withEffect, withTerm, EffectTaken};
+ghost use Rattle.file_actions.specs.Taking.{Takes, Gathered};
+ghost use Rattle.file_actions.specs.Views.{SourceDecoded, fittingSource, fittingRestricted};
+
+// Room for the T of a source action.
+pub const TERMS: usize = 4;
+
+// A T: a variable and its weight.
+pub struct Term {
+    pub variable: u8,
+    pub weight: i64,
+}
+
+// The numeric effect of a source action: + (target, c), L (target, w0, its terms standing beside it), Q and R (target, operand, c).
+pub enum Effect {
+    None,
+    Add(u8, i64),
+    Linear(u8, i64),
+    Quotient(u8, u8, i64),
+    Residue(u8, u8, i64),
+}
+
+// A source action by value: its C, P and E as a parts row, which has no +, and its numeric effect beside it. The first `term_count` terms count
+// where the effect is linear.
+pub struct SourceAction {
+    pub marks: [u16; MARKS],
+    pub numbers: [i64; NUMBERS],
+    pub effect: Effect,
+    pub term_count: usize,
+    pub terms: [Term; TERMS],
+}
+
+// From an offset on, the offset of the one of the commands A and, last, G before which so many of them stand; the file's length where there
+// are not so many. It is the one that `Sought` speaks of, and from there the next is number 1.
+fn edge_from(file: &[u8], from: usize, number: usize) -> usize
+    ensures { λ r. ⌜ Found (now (file .entry)) from number r ⌝ }
+{
+    let mut at = from;
+    let mut left = number;
+    while at < file.len() {
+        let byte = file[at];
+        let size = commands::size_of(byte);
+        if byte == b'G' {
+            if left == 0 {
+                return at;
+            }
+            return file.len();
+        }
+        if byte == b'A' {
+            if left == 0 {
+                return at;
+            }
+            left -= 1;
+            at += size;
+        } else {
+            at += size;
+        }
+    }
+    file.len()
+}
+
+// The offset of the k-th of the commands A and, last, G; the file's length where there are not so many.
+fn find_edge(file: &[u8], k: usize) -> usize
+    ensures { λ r. ⌜ r ≡ edgeOf (now (file .entry)) k ⌝ }
+{
+    edge_from(file, 0, k)
+}
+
+// The offsets of all A's and last of G, stored one behind another from the front of the table as far as they fit.
+pub fn action_places(file: &[u8], places: &mut [usize])
+    ensures { λ _. ⌜ now (places .exit) ≡ splice (now (places .entry)) 0 (edgesOf (now (file .entry))) ⌝ }
+{
+    let mut at: usize = 0;
+    let mut n: usize = 0;
+    while at < file.len() {
+        let byte = file[at];
+        let size = commands::size_of(byte);
+        if n == places.len() {
+            return;
+        }
+        if byte == b'G' {
+            places[n] = at;
+            return;
+        }
+        if byte == b'A' {
+            places[n] = at;
+            n += 1;
+            at += size;
+        } else {
+            at += size;
+        }
+    }
+}
+
+// Where the bytes of an action stand, from its A up to the next A or G; or the number and place of the refusal.
+pub enum Placed {
+    At(usize, usize),
+    Refused(u8, u64),
+}
+
+// The place of action k in a file with this verdict.
+fn place_action(file: &[u8], verdict: Verdict, k: usize) -> Placed
+    ensures { λ r. ⌜ placedIs r ≡ ofVerdict (verdictIs verdict) (now (file .entry)) k ⌝ }
+{
+    match verdict {
+        Verdict::Accepted(_, _, actions) => {
+            if k < actions as usize {
+                let start = edge_from(file, 0, k);
+                let end = edge_from(file, start, 1);
+                return Placed::At(start, end);
+            }
+            Placed::Refused(11, k as u64)
+        }
+        Verdict::Rejected(number, place) => Placed::Refused(number, place),
+    }
+}
+
+// The place of action k of a source file: the file's own refusal first, then 11 with place k where there is no such action.
+pub fn place_source_action(file: &[u8], k: usize) -> Placed
+    ensures { λ r. ⌜ placedIs r ≡ actionPlace sourceLimits (now (file .entry)) k ⌝ }
+{
+    place_action(file, file_check::check_source(file), k)
+}
+
+// The same of a restricted file.
+pub fn place_restricted_action(file: &[u8], k: usize) -> Placed
+    ensures { λ r. ⌜ placedIs r ≡ actionPlace restrictedLimits (now (file .entry)) k ⌝ }
+{
+    place_action(file, file_check::check_restricted(file), k)
+}
+
+// The part of a file from a start up to an end, as far as the file goes.
+pub fn part(file: &[u8], start: usize, end: usize) -> &[u8]
+    ensures { λ r. ⌜ now r ≡ partOf (now (file .entry)) start end ⌝ }
+{
+    if end <= start {
+        return &file[..0];
+    }
+    if end <= file.len() {
+        return &file[start..end];
+    }
+    if start <= file.len() {
+        return &file[start..];
+    }
+    &file[..0]
+}
+
+// The part of a file where an action stands, and 0 with the place where it begins; or no bytes, and the number and place of the refusal.
+fn tell_part<'a>(file: &'a [u8], placed: Placed, number: &mut u8, place: &mut u64) -> &'a [u8]
+    ensures { λ r. ⌜ bytesTold (placedIs placed) (now (file .entry)) ≡ (now (number .exit), now (place .exit), now r) ⌝ }
+{
+    match placed {
+        Placed::At(start, end) => {
+            *number = 0;
+            *place = start as u64;
+            part(file, start, end)
+        }
+        Placed::Refused(refusal, at) => {
+            *number = refusal;
+            *place = at;
+            &file[..0]
+        }
+    }
+}
+
+// The bytes of action k of a source file, as a part of the caller's file, from its A up to the next A or G. `number` and `place` say how it
+// went: 0 and the place where the part begins, or the refusal's number, which is never 0, and its place, and no bytes.
+pub fn source_action_bytes<'a>(
+    file: &'a [u8],
+    k: usize,
+    number: &mut u8,
+    place: &mut u64,
+) -> &'a [u8]
+    ensures { λ r. ⌜ bytesTold (actionPlace sourceLimits (now (file .entry)) k) (now (file .entry)) ≡ (now (number .exit), now (place .exit), now r) ⌝ }
+{
+    tell_part(file, place_source_action(file, k), number, place)
+}
+
+// The same of a restricted file.
+pub fn restricted_action_bytes<'a>(
+    file: &'a [u8],
+    k: usize,
+    number: &mut u8,
+    place: &mut u64,
+) -> &'a [u8]
+    ensures { λ r. ⌜ bytesTold (actionPlace restrictedLimits (now (file .entry)) k) (now (file .entry)) ≡ (now (number .exit), now (place .exit), now r) ⌝ }
+{
+    tell_part(file, place_restricted_action(file, k), number, place)
+}
+
+// The place of a refusal where a step by itself asks for its action: it is step 0, so 11 has place 0; a file's refusals keep theirs.
+pub fn step_place(number: u8, place: u64) -> u64
+    ensures { λ r. ⌜ r ≡ stepPlace number place ⌝ }
+{
+    if number == 11 {
+        return 0;
+    }
+    place
+}
+
+// The bytes of the goal of an accepted file, from its G, which stands at this place, up to its Z.
+pub fn goal_from(file: &[u8], place: usize) -> &[u8]
+    ensures { λ r. ⌜ now r ≡ goalFrom (now (file .entry)) place ⌝ }
+{
+    if file.len() == 0 {
+        return &file[..0];
+    }
+    part(file, place, file.len() - 1)
+}
+
+// The bytes of the goal of an accepted file that has so many actions.
+pub fn goal_bytes(file: &[u8], actions: usize) -> &[u8]
+    ensures { λ r. ⌜ now r ≡ goalPart (now (file .entry)) actions ⌝ }
+{
+    goal_from(file, find_edge(file, actions))
+}
+
+fn wide(x: u16) -> usize
+    ensures { λ r. ⌜ r ≡ x ⌝ }
+{
+    x as usize
+}
+
+// A C at the front of what remains, pushed behind the others where there is room. A C that is cut short is not taken.
+fn take_condition(rest: &[u8], marks: &mut [u16; MARKS], numbers: &mut [i64; NUMBERS])
+    requires { ⌜ (0 < length (now rest)) × (getD (now rest) 0 0 ≡ letterC) × RoomFor 0 0 0 0 (now marks) × (length (now numbers) ≡ NUMBERS) ⌝ }
+    ensures { λ _. ⌜ ((restricted : Bool) → Takes restricted (commandAt (now (rest .entry)))
+        (now (marks .entry)) (now (numbers .entry)) (now (marks .exit)) (now (numbers .exit))) ⌝ }
+{
+    let Command::Condition(variable, relation, bits) = commands::read_condition(rest) else {
+        return;
+    };
+    let constant = integers::signed(bits);
+    if wide(marks[CONDITION_COUNT]) < CONDITIONS {
+        file_parts::push_condition(marks, numbers, variable, relation, constant);
+    }
+}
+
+// Likewise a P.
+fn take_mode_condition(rest: &[u8], marks: &mut [u16; MARKS])
+    requires { ⌜ (0 < length (now rest)) × (getD (now rest) 0 0 ≡ letterP) × RoomFor 0 0 0 0 (now marks) ⌝ }
+    ensures { λ _. ⌜ ((restricted : Bool) (numbers : List ℤ) → Takes restricted (commandAt (now (rest .entry)))
+        (now (marks .entry)) numbers (now (marks .exit)) numbers) ⌝ }
+{
+    let Command::ModeCondition(mode, value) = commands::read_mode_condition(rest) else {
+        return;
+    };
+    if wide(marks[MODE_CONDITION_COUNT]) < MODE_CONDITIONS {
+        file_parts::push_mode_condition(marks, mode, value);
+    }
+}
+
+// Likewise an E.
+fn take_mode_effect(rest: &[u8], marks: &mut [u16; MARKS])
+    requires { ⌜ (0 < length (now rest)) × (getD (now rest) 0 0 ≡ letterE) × RoomFor 0 0 0 0 (now marks) ⌝ }
+    ensures { λ _. ⌜ ((restricted : Bool) (numbers : List ℤ) → Takes restricted (commandAt (now (rest .entry)))
+        (now (marks .entry)) numbers (now (marks .exit)) numbers) ⌝ }
+{
+    let Command::ModeEffect(mode, value) = commands::read_mode_effect(rest) else {
+        return;
+    };
+    if wide(marks[MODE_EFFECT_COUNT]) < MODE_EFFECTS {
+        file_parts::push_mode_effect(marks, mode, value);
+    }
+}
+
+// Likewise a + of a restricted action.
+fn take_addition(rest: &[u8], marks: &mut [u16; MARKS], numbers: &mut [i64; NUMBERS])
+    requires { ⌜ (0 < length (now rest)) × (getD (now rest) 0 0 ≡ plusSign) × RoomFor 0 0 0 0 (now marks) × (length (now numbers) ≡ NUMBERS) ⌝ }
+    ensures { λ _. ⌜ Takes true (commandAt (now (rest .entry))) (now (marks .entry)) (now (numbers .entry)) (now (marks .exit)) (now (numbers .exit)) ⌝ }
+{
+    let Command::Add(variable, bits) = commands::read_add(rest) else {
+        return;
+    };
+    let amount = integers::signed(bits);
+    if wide(marks[ADDITION_COUNT]) < ADDITIONS {
+        file_parts::push_addition(marks, numbers, variable, amount);
+    }
+}
+
+// The offset behind the first command of an action's or goal's bytes, which is its A or G.
+fn body_start(bytes: &[u8]) -> usize
+    ensures { λ r. ⌜ (r ≡ bodyStart (now (bytes .entry))) × (r ≤ 13) ⌝ }
+{
+    if bytes.len() == 0 {
+        return 0;
+    }
+    commands::size_of(bytes[0])
+}
+
+// The numeric part of a source action, as far as its commands are taken.
+struct Numeric {
+    effect: Effect,
+    term_count: usize,
+    terms: [Term; TERMS],
+}
+
+fn no_effect() -> Numeric
+    ensures { λ r. ⌜ r ≡ nothing ⌝ }
+{
+    let term = Term {
+        variable: 0,
+        weight: 0,
+    };
+    let terms = [term; TERMS];
+    Numeric {
+        effect: Effect::None,
+        term_count: 0,
+        terms,
+    }
+}
+
+// An effect, unless there is one already; its terms are still to come.
+fn with_effect(numeric: Numeric, effect: Effect) -> Numeric
+    ensures { λ r. ⌜ r ≡ withEffect numeric effect ⌝ }
+{
+    let first = numeric.effect;
+    match first {
+        Effect::None => {
+            let terms = numeric.terms;
+            Numeric {
+                effect,
+                term_count: 0,
+                terms,
+            }
+        }
+        Effect::Add(_, _) => numeric,
+        Effect::Linear(_, _) => numeric,
+        Effect::Quotient(_, _, _) => numeric,
+        Effect::Residue(_, _, _) => numeric,
+    }
+}
+
+// A term behind the others, where there is room.
+fn with_term(numeric: Numeric, variable: u8, bits: u32) -> Numeric
+    ensures { λ r. ⌜ r ≡ withTerm numeric variable (constant bits) ⌝ }
+{
+    let weight = integers::signed(bits);
+    let count = numeric.term_count;
+    if count < TERMS {
+        let mut more = numeric;
+        more.terms[count] = Term { variable, weight };
+        more.term_count = count + 1;
+        return more;
+    }
+    numeric
+}
+
+// What a command adds to the numeric part.
+fn with_numeric(numeric: Numeric, command: Command) -> Numeric
+    ensures { λ r. ⌜ EffectTaken numeric command r ⌝ }
+{
+    match command {
+        Command::Add(target, bits) => with_effect(
+            numeric,
+            Effect::Add(target, integers::signed(bits)),
+        ),
+        Command::Linear(target, bits) => with_effect(
+            numeric,
+            Effect::Linear(target, integers::signed(bits)),
+        ),
+        Command::Term(variable, bits) => with_term(numeric, variable, bits),
+        Command::Quotient(target, operand, bits) => with_effect(
+            numeric,
+            Effect::Quotient(target, operand, integers::signed(bits)),
+        ),
+        Command::Residue(target, operand, bits) => with_effect(
+            numeric,
+            Effect::Residue(target, operand, integers::signed(bits)),
+        ),
+        Command::Variable(_, _, _) => numeric,
+        Command::Start(_) => numeric,
+        Command::Mode(_, _) => numeric,
+        Command::Action => numeric,
+        Command::Condition(_, _, _) => numeric,
+        Command::ModeCondition(_, _) => numeric,
+        Command::ModeEffect(_, _) => numeric,
+        Command::Goal => numeric,
+        Command::End => numeric,
+        Command::Refused(_) => numeric,
+    }
+}
+
+// The commands of an action or goal, taken one by one up to the next A or G into rows that are blanked first: C, P and E of either kind, the +
+// of a restricted action. What is numeric of a source action is handed back.
+fn gather(
+    bytes: &[u8],
+    restricted: bool,
+    marks: &mut [u16; MARKS],
+    numbers: &mut [i64; NUMBERS],
+) -> Numeric
+    requires { ⌜ (length (now marks) ≡ MARKS) × (length (now numbers) ≡ NUMBERS) ⌝ }
+    ensures { λ r. ⌜ Gathered restricted (decodeAction (now (bytes .entry))) (now (marks .exit)) (now (numbers .exit)) r ⌝ }
+{
+    file_parts::blank(marks);
+    let mut numeric = no_effect();
+    let mut at = body_start(bytes);
+    while at < bytes.len() {
+        let rest = &bytes[at..];
+        let byte = rest[0];
+        at += commands::size_of(byte);
+        match byte {
+            b'C' => take_condition(rest, marks, numbers),
+            b'P' => take_mode_condition(rest, marks),
+            b'E' => take_mode_effect(rest, marks),
+            b'+' => {
+                if restricted {
+                    take_addition(rest, marks, numbers);
+                } else {
+                    numeric = with_numeric(numeric, commands::read_add(rest));
+                }
+            }
+            b'A' | b'G' => at = bytes.len(),
+            _ => numeric = with_numeric(numeric, commands::read(rest)),
+        }
+    }
+    numeric
+}
+
+// The restricted action, or the goal of a restricted file, whose bytes these are, in rows that the caller lends and that may hold anything. Of
+// more commands than there is room for, which no accepted file has, the first are taken.
+pub fn decode_restricted(bytes: &[u8], marks: &mut [u16; MARKS], numbers: &mut [i64; NUMBERS])
+    requires { ⌜ (length (now marks) ≡ MARKS) × (length (now numbers) ≡ NUMBERS) ⌝ }
+    ensures { λ _. ⌜ Says (fittingRestricted (restrictedActionOf (decodeAction (now (bytes .entry))))) (now (marks .exit)) (now (numbers .exit)) ⌝ }
+{
+    let _numeric = gather(bytes, true, marks, numbers);
+}
+
+// The source action, or the goal of a source file, whose bytes these are. Of more commands than there is room for, which no accepted file has,
+// the first are taken.
+pub fn decode_source(bytes: &[u8]) -> SourceAction
+    ensures { λ r. ⌜ SourceDecoded (fittingSource (sourceActionOf (decodeAction (now (bytes .entry))))) r ⌝ }
+{
+    let mut marks = [0u16; MARKS];
+    let mut numbers = [0i64; NUMBERS];
+    let numeric = gather(bytes, false, &mut marks, &mut numbers);
+    let effect = numeric.effect;
+    let terms = numeric.terms;
+    SourceAction {
+        marks,
+        numbers,
+        effect,
+        term_count: numeric.term_count,
+        terms,
+    }
+}

@@ -1,0 +1,132 @@
+-- `file_check::take_mode_effect` meets its contract: each exit is the first test that holds, and where none does the reading goes on. Assumes nothing.
+use mathlib.Core.Path.{refl, sym, _∙_}
+use borrow.Author.Needs.{needs}
+use borrow.Author.Tests.{le-leb, lt-leb}
+use denote.Ref.{now}
+use lib.Dec.{lit<}
+use Rattle.commands.proofs.Known.{cut-short}
+use Rattle.model.specs.Rules.{testsOf, nextOf}
+use Rattle.file_check.specs.Views.{limitsOf, stateOf}
+use Rattle.file_check.proofs.Tests.{told}
+use Rattle.file_check.proofs.Taking.{stops, goes}
+use Rattle.file_check.proofs.take_mode_effect.Statement.{statement}
+use Rattle.file_check.proofs.take_mode_effect.Tie as tie
+
+read-mode-effect-requires : tie.Need-read-mode-effect-requires
+read-mode-effect-requires c κs = search needs
+
+enum-known-mode : tie.Need-enum-known-mode
+enum-known-mode c = search needs
+
+refuse-requires : tie.Need-refuse-requires
+refuse-requires c κs = search needs
+
+returns : tie.Need-returns
+unfolding testsOf
+returns c seen =
+    let r = c .before .before in
+    let s = r .before .before in
+    c .refuse .ensures (now (s .args .sizes)) (now (s .args .modes-set)) seen
+    ∙ stops (limitsOf (s .args .l)) (stateOf (s .args .p) (now (s .args .sizes)) (now (s .args .modes-set)) seen) (cut-short (now (s .args .rest)) 6 (lit< tt) (s .pre .0) (s .pre .1) (r .read-mode-effect .result) (r .read-mode-effect .ensures) (c .before .match .keys2)) 0 refl
+
+cast-if1 : tie.Need-cast-if1
+cast-if1 c = search needs
+
+refuse-requires-2 : tie.Need-refuse-requires-2
+refuse-requires-2 c κs = search needs
+
+returns-2 : tie.Need-returns-2
+unfolding testsOf
+returns-2 c seen =
+    let t1 = c .before in
+    let v = t1 .before .before .before in
+    let s = v .before .before .before .before in
+    c .refuse2 .ensures (now (s .args .sizes)) (now (s .args .modes-set)) seen
+    ∙ stops (limitsOf (s .args .l)) (stateOf (s .args .p) (now (s .args .sizes)) (now (s .args .modes-set)) seen) (sym (v .before .before .read-mode-effect .ensures) ∙ v .mode .given .1) 0
+    (le-leb _ _ (t1 .if1 .taken))
+
+cast-not-below-size : tie.Need-cast-not-below-size
+cast-not-below-size c = search needs
+
+not-below-size-requires : tie.Need-not-below-size-requires
+not-below-size-requires c κs = search needs
+
+refuse-requires-3 : tie.Need-refuse-requires-3
+refuse-requires-3 c κs = search needs
+
+returns-3 : tie.Need-returns-3
+unfolding testsOf
+returns-3 c seen =
+    let t2 = c .before in
+    let t1 = t2 .before .before .before in
+    let v = t1 .before .before .before in
+    let s = v .before .before .before .before in
+    c .refuse3 .ensures (now (s .args .sizes)) (now (s .args .modes-set)) seen
+    ∙ stops (limitsOf (s .args .l)) (stateOf (s .args .p) (now (s .args .sizes)) (now (s .args .modes-set)) seen) (sym (v .before .before .read-mode-effect .ensures) ∙ v .mode .given .1) 1
+    (lt-leb _ _ (t1 .if1 .left), told (t2 .before .not-below-size .ensures) (t2 .if2 .taken))
+
+cast-is-marked : tie.Need-cast-is-marked
+cast-is-marked c = search needs
+
+is-marked-requires : tie.Need-is-marked-requires
+is-marked-requires c κs = search needs
+
+refuse-requires-4 : tie.Need-refuse-requires-4
+refuse-requires-4 c κs = search needs
+
+returns-4 : tie.Need-returns-4
+unfolding testsOf
+returns-4 c seen =
+    let t3 = c .before in
+    let t2 = t3 .before .before .before .before in
+    let t1 = t2 .before .before .before in
+    let v = t1 .before .before .before in
+    let s = v .before .before .before .before in
+    c .refuse4 .ensures (now (s .args .sizes)) (now (s .args .modes-set)) seen
+    ∙ stops (limitsOf (s .args .l)) (stateOf (s .args .p) (now (s .args .sizes)) (now (s .args .modes-set)) seen) (sym (v .before .before .read-mode-effect .ensures) ∙ v .mode .given .1) 2
+    (lt-leb _ _ (t1 .if1 .left), (told (t2 .before .not-below-size .ensures) (t2 .if2 .left), told (t3 .before .is-marked .ensures) (t3 .if3 .taken)))
+
+cast-put-mark : tie.Need-cast-put-mark
+cast-put-mark c = search needs
+
+put-mark-requires : tie.Need-put-mark-requires
+put-mark-requires c κs = search needs
+
+go-on-requires : tie.Need-go-on-requires
+go-on-requires c κs = search needs
+
+returns-5 : tie.Need-returns-5
+unfolding testsOf nextOf
+returns-5 c seen =
+    let t3 = c .before .before .before in
+    let t2 = t3 .before .before .before .before in
+    let t1 = t2 .before .before .before in
+    let v = t1 .before .before .before in
+    let s = v .before .before .before .before in
+    rw (c .before .put-mark .ensures) (c .go-on .ensures (now (s .args .sizes)) _ seen
+    ∙ goes (limitsOf (s .args .l)) (stateOf (s .args .p) (now (s .args .sizes)) (now (s .args .modes-set)) seen) (sym (v .before .before .read-mode-effect .ensures) ∙ v .mode .given .1)
+    (lt-leb _ _ (t1 .if1 .left), (told (t2 .before .not-below-size .ensures) (t2 .if2 .left), (told (t3 .before .is-marked .ensures) (t3 .if3 .left), tt))))
+
+pub take-mode-effect-spec : {M : Type 1} → statement M
+take-mode-effect-spec =
+    tie.close
+    (tie.spec
+    read-mode-effect-requires
+    enum-known-mode
+    refuse-requires
+    returns
+    cast-if1
+    refuse-requires-2
+    returns-2
+    cast-not-below-size
+    not-below-size-requires
+    refuse-requires-3
+    returns-3
+    cast-is-marked
+    is-marked-requires
+    refuse-requires-4
+    returns-4
+    cast-put-mark
+    put-mark-requires
+    go-on-requires
+    returns-5)

@@ -1,0 +1,59 @@
+-- What the code's types mean in the definitions: limits, the state of a reading, what comes of a command, the answer to a file.
+-- Assumes nothing.
+use Prim.Native.Nat.{ℕ}
+use mathlib.Core.List.{List}
+use mathlib.Core.Path.{_≡_}
+use Rattle.commands.specs.declared.Command.{Command}
+use Rattle.model.specs.Limits.{Limits as ModelLimits}
+use Rattle.model.specs.ReadingState.{ReadingState, Taken as ModelTaken, Progress as ModelProgress, Going as going, Ended as ended, Stopped as stopped}
+use Rattle.model.specs.Rules.{ruleOf}
+use Rattle.model.specs.Reading.{Verdict as ModelVerdict, Accepted as accepted, Rejected as rejected}
+use Rattle.file_check.specs.declared.Limits.{Limits}
+use Rattle.file_check.specs.declared.Counts.{Counts}
+use Rattle.file_check.specs.declared.Taken.{Taken}
+use Rattle.file_check.specs.declared.Progress.{Progress}
+use Rattle.file_check.specs.declared.Progress.the-variants.{Going, Ended, Stopped}
+use Rattle.file_check.specs.declared.Verdict.{Verdict}
+use Rattle.file_check.specs.declared.Verdict.the-variants.{Accepted, Rejected}
+
+abbrev pub limitsOf : Limits → ModelLimits
+limitsOf l = record {
+  restricted = l .restricted;
+  variables = l .variables;
+  modes = l .modes;
+  size = l .size;
+  actions = l .actions;
+  conditions = l .conditions;
+  modeConditions = l .«mode_conditions»;
+  additions = l .additions;
+  terms = l .terms;
+  constant = l .constant;
+  relations = l .relations;
+}
+
+-- the counts, and beside them the lists that the code keeps in lent arrays: `sizes`, `modesSet` and `variablesSeen` of the state
+abbrev pub stateOf : Counts → List ℕ → List ℕ → List ℕ → ReadingState
+stateOf p sizes set seen = record {
+  section = p .section;
+  terms = p .terms;
+  actions = p .actions;
+  declared = record { variables = p .variables; modes = p .modes; sizes = sizes };
+  counts = record { conditions = p .conditions; modeConditions = p .«mode_conditions»; numericEffects = p .«numeric_effects» };
+  marks = record { modesSet = set; variablesSeen = seen };
+}
+
+abbrev pub progressOf : Progress → ModelProgress
+progressOf Going = going
+progressOf Ended = ended
+progressOf (Stopped number) = stopped number
+
+abbrev pub takenOf : Taken → List ℕ → List ℕ → List ℕ → ModelTaken
+takenOf t sizes set seen = record { state = stateOf (t .counts) sizes set seen; progress = progressOf (t .progress) }
+
+-- what comes of a command that touches none of the lists: what its rule says, whatever they hold
+abbrev pub Ruled : Taken → Limits → Counts → Command → Type 0
+Ruled t l p c = (sizes set seen : List ℕ) → takenOf t sizes set seen ≡ ruleOf (limitsOf l) (stateOf p sizes set seen) c
+
+abbrev pub verdictIs : Verdict → ModelVerdict
+verdictIs (Accepted variables modes actions) = accepted variables modes actions
+verdictIs (Rejected number place) = rejected number place

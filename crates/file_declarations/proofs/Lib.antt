@@ -1,0 +1,4 @@
+pub mod Accepted
+pub mod Column
+pub mod Declarations
+pub mod Walk

@@ -1,3 +1,0 @@
-pub mod PlacesKept
-pub mod Put
-pub mod Slots

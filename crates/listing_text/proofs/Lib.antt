@@ -1,0 +1,4 @@
+pub mod Digits
+pub mod Places
+pub mod Sign
+pub mod Worked

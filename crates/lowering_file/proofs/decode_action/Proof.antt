@@ -1,0 +1,45 @@
+-- `lowering_file::decode_action` meets its contract: the places are those of the action's bytes. Assumes nothing.
+use Prim.Native.Nat.{_+_}
+use native.Mathlib.Numerals.{add-one}
+use native.Mathlib.Omega.{arith}
+use borrow.Author.Needs.{needs}
+use Rattle.lowering_file.proofs.decode_action.Statement.{statement}
+use Rattle.lowering_file.proofs.decode_action.Tie as tie
+
+mul-start : tie.Need-mul-start
+mul-start c = search needs
+
+element-copy-out-start : tie.Need-element-copy-out-start
+element-copy-out-start c = search needs
+
+add-next : tie.Need-add-next
+add-next c = search needs
+
+mul-end : tie.Need-mul-end
+mul-end c = search needs
+
+element-copy-out-end : tie.Need-element-copy-out-end
+element-copy-out-end c = search needs
+
+part-requires : tie.Need-part-requires
+part-requires c κs = search needs
+
+decode-source-requires : tie.Need-decode-source-requires
+decode-source-requires c κs = search needs
+
+returns : tie.Need-returns
+returns c =
+    rw (c .before .part .ensures, c .before .before .before .before .before .pre .0 (c .before .before .before .before .before .args .k) (omega (arith, c .before .before .before .before .before .pre .1)), c .before .before .before .before .before .pre .0 (c .before .before .before .before .before .args .k + 1) (omega (arith, c .before .before .before .before .before .pre .1)), add-one) at (c .decode-source .ensures)
+
+pub decode-action-spec : {M : Type 1} → statement M
+decode-action-spec =
+    tie.close
+    (tie.spec
+    mul-start
+    element-copy-out-start
+    add-next
+    mul-end
+    element-copy-out-end
+    part-requires
+    decode-source-requires
+    returns)

@@ -1,0 +1,44 @@
+-- The bytes of a restricted file besides its actions, and what their writers require.
+-- Assumes nothing.
+use mathlib.Core.Path.{_≡_}
+use Prim.Native.Nat.{ℕ, _<_}
+use mathlib.Core.List.{List, [], _∷_, _++_}
+use lib.ListN.{length, getD}
+use lib.IntN.{ℤ, pos, natAbs}
+use Rattle.integers.specs.Numbers.{bitsOf}
+use Rattle.lists.specs.Each.{tabulate}
+use Rattle.commands.specs.Encoding.{encode, encodeAll}
+use Rattle.commands.specs.declared.Command.the-variants.{Start, Mode, Goal, End}
+use Rattle.model.specs.Tasks.{NumericCondition}
+use Rattle.model.specs.Steps.{naturalAt}
+use Rattle.model.specs.Lowering.{modeConditionCommands, conditionCommands}
+use Rattle.file_parts.specs.Layout.{NUMBERS}
+use Rattle.file_parts.specs.Row.{rowIs, RoomFor}
+use Rattle.lowering_rows.specs.Macros.{Fit}
+
+-- ---- the bytes of a U and of an M; and of a goal, up to the end of the file
+abbrev pub startBytes : ℤ → List ℕ
+startBytes z = encode (Start (bitsOf 4 z))
+
+abbrev pub modeBytes : ℕ × ℕ → List ℕ
+modeBytes m = encode (Mode (m .0) (m .1))
+
+abbrev pub goalBytes : List (ℕ × ℕ) → List (NumericCondition ℕ) → List ℕ
+goalBytes ps cs = encodeAll (Goal ∷ modeConditionCommands ps (conditionCommands cs [])) ++ encode End
+
+-- ---- modes as two arrays have them: sizes and values
+abbrev pub modeAt : List ℕ → List ℕ → ℕ → ℕ × ℕ
+modeAt sizes values i = (naturalAt sizes i, naturalAt values i)
+
+abbrev pub modesIn : ℕ → List ℕ → List ℕ → List (ℕ × ℕ)
+modesIn n sizes values = tabulate n (modeAt sizes values)
+
+-- ---- what a writer requires: numbers fit the width of a file's
+abbrev pub Constants : ℕ → List ℤ → Type 0
+Constants count constants = (i : ℕ) → i < count → natAbs (getD constants i (pos 0)) < 2147483648
+
+-- the rows of a goal, which has room for one P more
+pub record GoalWritable (marks : List ℕ) (numbers : List ℤ) : Type 0 where
+  pub room : RoomFor 0 1 0 0 marks
+  pub numbersLong : length numbers ≡ NUMBERS
+  pub fit : Fit (rowIs marks numbers)

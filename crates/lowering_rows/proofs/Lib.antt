@@ -1,0 +1,6 @@
+pub mod Loops
+pub mod Macros
+pub mod Parts
+pub mod Stages
+pub mod Staging
+pub mod Writing

@@ -1,0 +1,68 @@
+-- The bytes of a restricted file by its parts: what one element of a list of the task makes; and the bytes of a parts row.
+-- Assumes nothing.
+use mathlib.Core.Path.{_≡_}
+use Prim.Native.Nat.{ℕ, _+_, _<_}
+use mathlib.Core.List.{List, [], _∷_, _++_, flatMap}
+use mathlib.Core.Bool.{true, false}
+use lib.ListN.{length}
+use lib.IntN.{ℤ, natAbs}
+use Rattle.integers.specs.Numbers.{bytesOf, bitsOf}
+use Rattle.integers.specs.Relation.{relationNumber}
+use Rattle.lists.specs.Each.{tabulate}
+use Rattle.lists.specs.Writing.{Wrote}
+use Rattle.commands.specs.Encoding.{encode, encodeAll}
+use Rattle.commands.specs.declared.Command.the-variants.{Condition, ModeCondition, ModeEffect, Add}
+use Rattle.model.specs.Tasks.{NumericCondition, RestrictedAction}
+use Rattle.model.specs.Steps.{integerAt, naturalAt}
+use Rattle.model.specs.Lowering.{variableOf, actionCommands}
+use Rattle.file_parts.specs.Layout.{MARKS, NUMBERS, conditionCount, modeConditionCount, modeEffectCount, additionCount, additionAmount}
+use Rattle.file_parts.specs.Row.{modeConditionIn, modeEffectIn, RoomFor}
+use Rattle.lowering_stages.specs.declared.Stage.{Stage}
+use Rattle.lowering_stages.specs.Stages.{strokeIs, turnIs}
+
+-- ---- the bytes of one element: P, C, E, +
+abbrev pub modeConditionBytes : ℕ × ℕ → List ℕ
+modeConditionBytes p = encode (ModeCondition (p .0) (p .1))
+
+abbrev pub conditionBytes : NumericCondition ℕ → List ℕ
+conditionBytes c = encode (Condition (variableOf (c .measured)) (relationNumber (c .relation)) (bitsOf 4 (c .constant)))
+
+abbrev pub modeEffectBytes : ℕ × ℕ → List ℕ
+modeEffectBytes e = encode (ModeEffect (e .0) (e .1))
+
+abbrev pub additionBytes : ℕ × ℤ → List ℕ
+additionBytes e = encode (Add (e .0) (bitsOf 4 (e .1)))
+
+-- the bytes of an action
+abbrev pub restrictedActionBytes : RestrictedAction → List ℕ
+restrictedActionBytes a = encodeAll (actionCommands a [])
+
+-- ---- the bytes of a row: a byte, A or G; then P, C, E, +
+abbrev pub rowBytes : ℕ → RestrictedAction → List ℕ
+rowBytes b x =
+    bytesOf 1 b
+    ++ (flatMap modeConditionBytes (x .modeConditions)
+    ++ (flatMap conditionBytes (x .conditions) ++ (flatMap modeEffectBytes (x .modeEffects) ++ (flatMap additionBytes (x .additions) ++ []))))
+
+-- its P and its E, which stand in its marks alone
+abbrev pub modeConditionsIn : List ℕ → List (ℕ × ℕ)
+modeConditionsIn marks = tabulate (naturalAt marks modeConditionCount) (modeConditionIn marks)
+
+abbrev pub modeEffectsIn : List ℕ → List (ℕ × ℕ)
+modeEffectsIn marks = tabulate (naturalAt marks modeEffectCount) (modeEffectIn marks)
+
+-- what its writer requires: constants and amounts fit the width of a file's
+pub record Writable (marks : List ℕ) (numbers : List ℤ) : Type 0 where
+  pub few : RoomFor 0 0 0 0 marks
+  pub constants : (i : ℕ) → i < naturalAt marks conditionCount → natAbs (integerAt numbers i) < 2147483648
+  pub amounts : (i : ℕ) → i < naturalAt marks additionCount → natAbs (integerAt numbers (additionAmount + i)) < 2147483648
+
+-- ---- the three rows of a stage
+abbrev pub stageRows : ℕ → ℕ → ℕ → ℕ → Stage → List RestrictedAction
+stageRows a control number next s = strokeIs true control number s ∷ strokeIs false control number s ∷ turnIs a control number next s ∷ []
+
+-- output with bytes written, and rows that are whole
+pub record WroteRows (out : List ℕ) (at : ℕ) (xs after : List ℕ) (next : ℕ) (marks : List ℕ) (numbers : List ℤ) : Type 0 where
+  pub wrote : Wrote out at xs after next
+  pub marksLong : length marks ≡ MARKS
+  pub numbersLong : length numbers ≡ NUMBERS

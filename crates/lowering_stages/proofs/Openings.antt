@@ -1,0 +1,150 @@
+-- The opening or single action of a source action: the parts of the source action, what its effect needs and adds, and control.
+-- Assumes nothing.
+use mathlib.Core.Path.{_≡_, refl, sym, ap, ap₂, _∙_}
+use mathlib.Core.Bool.{Bool, true, false, cond}
+use mathlib.Core.List.{List, [], _∷_, _++_, append-nil}
+use Prim.Native.Nat.{ℕ, zero, suc, _+_, _≤_, _<_}
+use native.Mathlib.Omega.{arith}
+use borrow.Author.Tests.{eq-eqb, ne-eqb}
+use lib.Dec.{eqb, lit≤}
+use lib.ListN.{length, length-append}
+use lib.IntN.{ℤ, pos, negsuc, natAbs, _-ℤ_}
+use lib.Signed.{ltZ}
+use Rattle.model.specs.Tasks.{Measured, variable, weightedSum, NumericCondition, Effect, noEffect, addEffect, linearEffect, quotientEffect, residueEffect, SourceAction, RestrictedAction}
+use Rattle.integers.specs.Relation.{atMost, atLeast}
+use Rattle.model.specs.Stages.{Name, Stage, source, when, onSource, onSourceTerms, onSourceVariables, addedBound, openingAdditions, openingAction, firstStage, stagesOf}
+use Rattle.model.specs.Lowering.{numberedAdditions, numberedMeasure, numberedConditions, numbered}
+use Rattle.file_actions.specs.declared.Effect.{Effect as DecodedEffect}
+use Rattle.file_actions.specs.declared.Effect.the-variants.{None, Add, Linear, Quotient, Residue}
+use Rattle.file_actions.specs.Views.{effectIs}
+use Rattle.file_parts.specs.Row.{rowIs, RoomFor, Says}
+use Rattle.file_parts.specs.With.{condition, withCondition, withModeCondition, withModeEffect, withAddition, sourcePart}
+use Rattle.file_parts.proofs.Pushing.{Sized, room-for, pushed}
+use Rattle.lowering_stages.specs.Stages.{givenIs, withAdditions, targetIs}
+use Rattle.lowering_stages.specs.Openings.{boundIs, withNumeric, withOpening}
+use Rattle.lowering_stages.proofs.Rows.{sized, said, something-given, same-additions}
+
+-- ---- what an effect needs and adds
+module _ (a : ℕ) (lower upper : ℤ) where
+  pub nothing-more : (e : Effect) (x : RestrictedAction) → addedBound (λ t. lower) (λ t. upper) e ≡ [] → openingAdditions e ≡ [] → x ≡ withNumeric a lower upper e x
+  nothing-more e x f g = rw (f, g, append-nil (x .conditions), append-nil (x .additions))
+
+  pub add-more : (t : ℕ) (c : ℤ) (x : RestrictedAction) → withAddition (withCondition x (boundIs t c lower upper)) (t, c) ≡ withNumeric a lower upper (addEffect t c) x
+  add-more t c x = by (ltZ (pos 0) c)
+    where
+      by : (b : Bool) → withAddition (withCondition x (cond b (condition t 1 (upper -ℤ c)) (condition t 2 (lower -ℤ c)))) (t, c)
+          ≡ record {
+            modeConditions = x .modeConditions;
+            conditions = x .conditions ++ numberedConditions a (cond b (when (source t) atMost (upper -ℤ c)) (when (source t) atLeast (lower -ℤ c)) ∷ []);
+            modeEffects = x .modeEffects;
+            additions = x .additions ++ ((t, c) ∷ []);
+          }
+      by true = refl
+      by false = refl
+
+  pub linear-more : (t : ℕ) (w : ℤ) (x : RestrictedAction) → withAdditions x (givenIs a w) ≡ withNumeric a lower upper (linearEffect t w []) x
+  linear-more t (pos zero) x = rw (append-nil (x .conditions))
+  linear-more t (pos (suc k)) x = rw (append-nil (x .conditions), ne-eqb (suc k) 0 (λ q. omega arith))
+  linear-more t (negsuc k) x = rw (append-nil (x .conditions), ne-eqb (suc k) 0 (λ q. omega arith))
+
+  -- its parts pushed, of rows that say x, the bounds said in another way
+  pub numeric-pushed : (e : Effect) {lower′ upper′ : ℤ} {x : RestrictedAction} {marks marks′ : List ℕ} {numbers numbers′ : List ℤ} → lower′ ≡ lower → upper′ ≡ upper → Says x marks numbers
+      → Says (withNumeric a lower′ upper′ e (rowIs marks numbers)) marks′ numbers′ → Says (withNumeric a lower upper e x) marks′ numbers′
+  numeric-pushed e {lower′} {upper′} {x} f g h w =
+      said (ap₂ (λ (l u : ℤ). withNumeric a l u e x) f g) (record { marksLong = w .marksLong; numbersLong = w .numbersLong; is = w .is ∙ ap (withNumeric a lower′ upper′ e) (h .is) })
+
+-- ---- room
+module _ {marks : List ℕ} where
+  -- for fewer
+  pub room-less : {c p e a c′ p′ e′ a′ : ℕ} → RoomFor c p e a marks → c′ ≤ c → p′ ≤ p → e′ ≤ e → a′ ≤ a → RoomFor c′ p′ e′ a′ marks
+  room-less r k l m n = record {
+    long = r .long;
+    conditions = omega (arith, r .conditions, k);
+    modeConditions = omega (arith, r .modeConditions, l);
+    modeEffects = omega (arith, r .modeEffects, m);
+    additions = omega (arith, r .additions, n);
+  }
+
+  -- for the + behind a bound
+  pub bound-room : (numbers : List ℤ) (y : NumericCondition ℕ) {marks′ : List ℕ} {numbers′ : List ℤ} → RoomFor 1 0 0 1 marks → Says (withCondition (rowIs marks numbers) y) marks′ numbers′ → RoomFor 0 0 0 1 marks′
+  bound-room numbers y r w =
+      let z = sized numbers r in
+      room-for w (record {
+        conditions = omega (arith, z .conditions, length-append (rowIs marks numbers .conditions) (y ∷ []));
+        modeConditions = z .modeConditions;
+        modeEffects = z .modeEffects;
+        additions = z .additions;
+      })
+
+  -- for an effect, control being asked
+  pub asked-room : (numbers : List ℤ) (p : ℕ × ℕ) {marks′ : List ℕ} → RoomFor 1 1 1 1 marks → Says (withModeCondition (rowIs marks numbers) p) marks′ numbers → RoomFor 1 0 0 1 marks′
+  asked-room numbers p r w =
+      let z = sized numbers r in
+      room-for w (record {
+        conditions = z .conditions;
+        modeConditions = omega (arith, z .modeConditions, length-append (rowIs marks numbers .modeConditions) (p ∷ []));
+        modeEffects = omega (arith, z .modeEffects);
+        additions = z .additions;
+      })
+
+  -- and for control, the effect being there
+  module _ (numbers : List ℤ) (r : RoomFor 1 1 1 1 marks) (a : ℕ) (lower upper : ℤ) where
+    bound-few : (y : Effect) → length (numberedConditions a (addedBound (λ t. lower) (λ t. upper) y)) ≤ 1
+    bound-few noEffect = lit≤ tt
+    bound-few (addEffect t c) = lit≤ tt
+    bound-few (linearEffect t v ts) = lit≤ tt
+    bound-few (quotientEffect t v c) = lit≤ tt
+    bound-few (residueEffect t v c) = lit≤ tt
+
+    added-few : (y : Effect) → length (numberedAdditions a (openingAdditions y)) ≤ 1
+    added-few noEffect = lit≤ tt
+    added-few (addEffect t c) = lit≤ tt
+    added-few (linearEffect t (pos zero) ts) = lit≤ tt
+    added-few (linearEffect t (pos (suc n)) ts) = lit≤ tt
+    added-few (linearEffect t (negsuc n) ts) = lit≤ tt
+    added-few (quotientEffect t v c) = lit≤ tt
+    added-few (residueEffect t v c) = lit≤ tt
+
+    module _ (y : Effect) where
+      conditions-few : length (rowIs marks numbers .conditions ++ numberedConditions a (addedBound (λ t. lower) (λ t. upper) y)) ≤ 24
+      conditions-few = let z = sized numbers r in omega (arith, z .conditions, length-append (rowIs marks numbers .conditions) (numberedConditions a (addedBound (λ t. lower) (λ t. upper) y)), bound-few y)
+
+      additions-few : length (rowIs marks numbers .additions ++ numberedAdditions a (openingAdditions y)) ≤ 16
+      additions-few = let z = sized numbers r in omega (arith, z .additions, length-append (rowIs marks numbers .additions) (numberedAdditions a (openingAdditions y)), added-few y)
+
+      asked-few : (p : ℕ × ℕ) → length (rowIs marks numbers .modeConditions ++ (p ∷ [])) ≤ 16
+      asked-few p = let z = sized numbers r in omega (arith, z .modeConditions, length-append (rowIs marks numbers .modeConditions) (p ∷ []))
+
+      pub opened-room : (p : ℕ × ℕ) {marks′ : List ℕ} {numbers′ : List ℤ} → Says (withNumeric a lower upper y (withModeCondition (rowIs marks numbers) p)) marks′ numbers′ → RoomFor 0 0 1 0 marks′
+      opened-room p w =
+          room-for w (record {
+            conditions = omega (arith, conditions-few);
+            modeConditions = omega (arith, asked-few p);
+            modeEffects = sized numbers r .modeEffects;
+            additions = omega (arith, additions-few);
+          })
+
+      -- the whole has no more parts than there is room for
+      pub opening-sized : (m next : ℕ) → Sized 0 0 0 0 (withOpening a m next lower upper y (rowIs marks numbers))
+      opening-sized m next = record {
+        conditions = omega (arith, conditions-few);
+        modeConditions = omega (arith, asked-few (m, 0));
+        modeEffects = omega (arith, sized numbers r .modeEffects, length-append (rowIs marks numbers .modeEffects) (cond (eqb 0 next) [] ((m, next) ∷ [])), set-few (eqb 0 next) (m, next));
+        additions = omega (arith, additions-few);
+      }
+        where
+          set-few : (b : Bool) (e : ℕ × ℕ) → length (cond b [] (e ∷ [])) ≤ 1
+          set-few true e = lit≤ tt
+          set-few false e = lit≤ tt
+
+-- ---- control after it: as it was, or at the first stage
+module _ (a m next : ℕ) (lower upper : ℤ) (e : Effect) (x : RestrictedAction) where
+  pub single-is : next ≡ 0 → withNumeric a lower upper e (withModeCondition x (m, 0)) ≡ withOpening a m next lower upper e x
+  single-is z = rw (z, append-nil (x .modeEffects))
+
+  pub macro-opens : (next ≡ 0 → ⊥) → withModeEffect (withNumeric a lower upper e (withModeCondition x (m, 0))) (m, next) ≡ withOpening a m next lower upper e x
+  macro-opens h = rw (ne-eqb 0 next (λ q. h (sym q)))
+
+  -- its bounds said in another way
+  pub opening-said : {lower′ upper′ : ℤ} {marks : List ℕ} {numbers : List ℤ} → lower′ ≡ lower → upper′ ≡ upper → Says (withOpening a m next lower′ upper′ e x) marks numbers → Says (withOpening a m next lower upper e x) marks numbers
+  opening-said f g w = said (ap₂ (λ (l u : ℤ). withOpening a m next l u e x) f g) w

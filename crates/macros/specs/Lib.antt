@@ -1,3 +1,0 @@
-pub mod Actions
-pub mod Shapes
-pub mod Stages

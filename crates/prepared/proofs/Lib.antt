@@ -1,3 +1,0 @@
-pub mod Effects
-pub mod Making
-pub mod Preparing

@@ -1,6 +1,0 @@
-pub mod Writes
-pub mod Convex
-pub mod Repeating
-pub mod Alike
-pub mod Running
-pub mod Leaps

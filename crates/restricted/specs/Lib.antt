@@ -1,4 +1,0 @@
-pub mod Parts
-pub mod Changes
-pub mod Step
-pub mod Alone

@@ -1,4 +1,0 @@
-pub mod Loops
-pub mod Stepping
-pub mod Sums
-pub mod Usable

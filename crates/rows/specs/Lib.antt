@@ -1,4 +1,0 @@
-pub mod Layout
-pub mod Ready
-pub mod Row
-pub mod Table

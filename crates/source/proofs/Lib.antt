@@ -1,6 +1,0 @@
-pub mod Judging
-pub mod Numbers
-pub mod Rows
-pub mod Sound
-pub mod Steps
-pub mod Trying

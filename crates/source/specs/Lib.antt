@@ -1,4 +1,0 @@
-pub mod Judged
-pub mod Parts
-pub mod Sizes
-pub mod Step

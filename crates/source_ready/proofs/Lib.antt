@@ -1,0 +1,6 @@
+pub mod Effects
+pub mod Making
+pub mod Modes
+pub mod Preparing
+pub mod Tests
+pub mod Values

@@ -1,0 +1,31 @@
+-- `source_ready::narrowing::cap_mark` meets its contract. Assumes nothing.
+use borrow.Author.Tests.{lt-ltb, le-ltb}
+use borrow.Author.Needs.{needs}
+use Rattle.source_ready.specs.Narrowed.{cappedMark}
+use Rattle.source_ready.proofs.narrowing.cap_mark.Statement.{statement}
+use Rattle.source_ready.proofs.narrowing.cap_mark.Tie as tie
+
+mul-if1 : tie.Need-mul-if1
+mul-if1 c = search needs
+
+element-copy-out-if1 : tie.Need-element-copy-out-if1
+element-copy-out-if1 c = search needs
+
+mul-marks : tie.Need-mul-marks
+mul-marks c = search needs
+
+element-write-marks : tie.Need-element-write-marks
+element-write-marks c = search needs
+
+returns : tie.Need-returns
+unfolding cappedMark
+returns c = rw (lt-ltb _ _ (c .if1 .taken))
+
+returns-2 : tie.Need-returns-2
+unfolding cappedMark
+returns-2 c = rw (le-ltb _ _ (c .if1 .left))
+
+pub cap-mark-spec : {M : Type 1} → statement M
+cap-mark-spec =
+    tie.close
+    (tie.spec mul-if1 element-copy-out-if1 mul-marks element-write-marks returns returns-2)

@@ -1,0 +1,12 @@
+pub mod InRange
+pub mod Judging
+pub mod Modes
+pub mod Numbers
+pub mod Rows
+pub mod Sound
+pub mod Standing
+pub mod Start
+pub mod Steps
+pub mod Tables
+pub mod Taking
+pub mod Trying

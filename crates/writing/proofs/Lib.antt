@@ -1,4 +1,0 @@
-pub mod Commands
-pub mod Parts
-pub mod Rows
-pub mod Sizes
