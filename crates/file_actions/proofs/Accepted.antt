@@ -35,6 +35,11 @@ use Rattle.file_actions.specs.Within.{SourceWithin}
 use Rattle.file_actions.proofs.Fits.{source-fits, restricted-fits, source-is, source-within}
 use Rattle.file_actions.proofs.GoalBytes.{edges-counted, goal-decodes, Quiet, goal-quiet}
 
+-- ---- a slice of bytes, one by one
+pub bytes-of : (s : List ℕ) → ((i : ℕ) → getD s i 0 < 256) → Bytes s
+bytes-of [] h = tt
+bytes-of (b ∷ s) h = (h 0, bytes-of s (λ i. h (suc i)))
+
 -- ---- a file that a reader gives a task for
 accepted : {A : Type 0} (v : Verdict) (t u : A) → onVerdict v t ≡ given u → Is v × (t ≡ u)
 accepted (Accepted a b c) t u e = (tt, cc)
@@ -159,7 +164,7 @@ module _ (file : List ℕ) (bytes : Bytes file) (t : RestrictedTask) (is : readR
   abbrev pub restricted-goal : RestrictedAction
   restricted-goal = record { modeConditions = t .goalModes; conditions = t .goalConditions; modeEffects = []; additions = [] }
 
-  restricted-goal-ok : RestrictedActionOk restrictedLimits (length (t .starts)) (sizesOf (t .modes)) restricted-goal
+  pub restricted-goal-ok : RestrictedActionOk restrictedLimits (length (t .starts)) (sizesOf (t .modes)) restricted-goal
   restricted-goal-ok = record {
     conditionsOk = restrictedOk .goal;
     modeEffectsIn = tt;

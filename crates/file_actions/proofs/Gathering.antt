@@ -10,7 +10,7 @@ use lib.IntN.{ℤ}
 use lib.ListN.{length, getD, take, drop, drop-of-length-le, length-drop}
 use lib.Seq.{drop-drop, take-all}
 use borrow.Author.Tests.{ne-eqb}
-use mathlib.Core.Logic.{_⊎_, inl, inr}
+use mathlib.Core.Logic.{inl, inr}
 use types.Run.{OneOf}
 use Rattle.commands.specs.Table.{rows, rowOf, sizeOfRow, sizeOfByte, letterA, letterC, letterP, letterE, letterG, plusSign}
 use Rattle.commands.specs.Reading.{commandAt}
@@ -21,9 +21,9 @@ use Rattle.model.specs.Reading.{remainders}
 use Rattle.model.specs.Decoding.{isEdge, upTo, termsOf, effectOf}
 use Rattle.model.specs.ActionBytes.{commandsIn, decodeAction, allAlong}
 use Rattle.model.proofs.ReadingLaws.{clash}
-use Rattle.file_parts.specs.Row.{RoomFor, Says}
+use Rattle.file_parts.specs.Row.{PartsFit, Says}
 use Rattle.file_parts.specs.With.{blankAction}
-use Rattle.file_parts.proofs.Pushing.{room-for, says-as}
+use Rattle.file_parts.proofs.Pushing.{parts-fit, says-as}
 use Rattle.file_actions.specs.declared.Numeric.{Numeric}
 use Rattle.file_actions.specs.Places.{bodyStart}
 use Rattle.file_actions.specs.Numeric.{nothing, effectWith, EffectTaken}
@@ -156,8 +156,8 @@ gathering-begin s restricted blank = record {
 module _ {s : List ℕ} {restricted : Bool} {at : ℕ} {marks : List ℕ} {numbers : List ℤ} {numeric : Numeric}
     (g : Gathering s restricted at marks numbers numeric) where
   -- what a push asks
-  pub gathering-room : RoomFor 0 0 0 0 marks
-  gathering-room = room-for (g .parts) (fitting-sized (partsOf restricted (g .passed)))
+  pub gathering-room : PartsFit 0 0 0 0 marks
+  gathering-room = parts-fit (g .parts) (fitting-sized (partsOf restricted (g .passed)))
 
   -- after the last command
   pub gathering-end : length s ≤ at → Gathered restricted (decodeAction s) marks numbers numeric

@@ -146,9 +146,6 @@ module _ (l : Limits) (file : List ℕ) where
       byte : getD file at 0 ≡ byteOf c
       byte = sym (getD-drop at file 0 0 ∙ ap (λ (i : ℕ). getD file i 0) (add-zero at)) ∙ ap (λ (z : List ℕ). getD z 0 0) w₁
 
-      size : ℕ
-      size = sizeOfByte (getD file at 0)
-
       behind : drop (at + sizeOfByte (getD file at 0)) file ≡ encodeAll cs ++ encode End
       behind = sym (drop-drop (sizeOfByte (getD file at 0)) at file) ∙ ap (drop (sizeOfByte (getD file at 0))) w₁ ∙ ap (λ (b : ℕ). drop (sizeOfByte b) (encode c ++ (encodeAll cs ++ encode End))) byte ∙ drop-encode c (encodeAll cs ++ encode End) o
 

@@ -3,17 +3,17 @@
 use mathlib.Core.Path.{_≡_, refl, _∙_, sym, ap, ap₂}
 use mathlib.Core.Bool.{Bool, true, false, cond}
 use mathlib.Core.List.{List, [], _∷_, _++_, append-assoc, append-nil, map, map-append}
-use Prim.Native.Nat.{ℕ, suc, _+_, _<_, _≤_}
+use Prim.Native.Nat.{ℕ, _+_, _<_, _≤_}
 use native.Mathlib.Omega.{arith}
 use native.Mathlib.Numerals.{add-one}
 use lib.Dec.{ltb}
 use lib.IntN.{ℤ}
 use lib.ListN.{length, take, set, length-take, length-map}
 use lib.Seq.{take-suc-set, take-append-le, take-all}
-use borrow.Author.Tests.{lt-ltb, le-ltb, ltb-true, ltb-false}
+use borrow.Author.Tests.{ltb-true, ltb-false}
 use Rattle.commands.specs.declared.Command.{Command}
 use Rattle.commands.specs.declared.Command.the-variants.{Term as TermCommand}
-use Rattle.model.specs.Tasks.{Effect, noEffect, linearEffect}
+use Rattle.model.specs.Tasks.{noEffect, linearEffect}
 use Rattle.model.specs.Rules.{constant}
 use Rattle.model.specs.Decoding.{effectOf, termsOf}
 use Rattle.file_actions.specs.declared.Term.{Term}
@@ -21,7 +21,7 @@ use Rattle.file_actions.specs.declared.Effect.{Effect as DecodedEffect}
 use Rattle.file_actions.specs.declared.Effect.the-variants.{None, Add, Linear, Quotient, Residue}
 use Rattle.file_actions.specs.declared.Numeric.{Numeric}
 use Rattle.file_actions.specs.Views.{termRoom, termIs, termsIs, effectIs, fittingEffect}
-use Rattle.file_actions.specs.Numeric.{term, ifNone, withEffect, withTerm, effectFrom, effectWith, EffectTaken}
+use Rattle.file_actions.specs.Numeric.{term, withEffect, withTerm, effectFrom, effectWith, EffectTaken}
 
 -- a command that gives an effect: it stands if it is the first
 pub effect-taken : (n : Numeric) (e : DecodedEffect) (c : Command) → ((p : List Command) → effectFrom e [] (effectOf p) (termsOf p) ≡ fittingEffect (effectOf (c ∷ p))) → ((p : List Command) → termsOf (c ∷ p) ≡ termsOf p) → EffectTaken n c (withEffect n e)

@@ -21,7 +21,7 @@ use Rattle.model.specs.ReadingState.{ReadingState, Taken, Progress, Going, Ende
 use Rattle.model.specs.Rules.{allowed, testsOf, nextOf, onwards, ruleOf, takeOf}
 use Rattle.model.specs.Reading.{remainders, Verdict, Accepted, Rejected, acceptedWith, afterCommand, verdictAlong, verdictOf}
 use Rattle.model.specs.Decoding.{onVerdict}
-use Rattle.model.specs.ActionBytes.{edgeOf, actionPart, ofVerdict, actionPlace, partAt, actionBytes}
+use Rattle.model.specs.ActionBytes.{edgeOf, actionPart, ofVerdict, actionPlace, partAt}
 use Rattle.file_actions.specs.Places.{bytesTold, BytesOfAction, stepPlace}
 
 -- ---- the numbers

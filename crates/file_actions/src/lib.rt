@@ -27,7 +27,7 @@ ghost use Rattle.model.specs.Decoding.{sourceActionOf, restrictedActionOf};
 ghost use Rattle.model.specs.ActionBytes.{edgeOf, ofVerdict, actionPlace, decodeAction};
 ghost use Rattle.model.specs.Limits.{sourceLimits, restrictedLimits};
 ghost use Rattle.file_parts.specs.Layout.{MARKS, NUMBERS};
-ghost use Rattle.file_parts.specs.Row.{RoomFor, Says};
+ghost use Rattle.file_parts.specs.Row.{PartsFit, Says};
 ghost use Rattle.file_check.specs.Views.{verdictIs};
 ghost use Rattle.file_actions.specs.Places.{edgesOf, Found, bodyStart, partOf, placedIs, bytesTold, stepPlace, goalFrom, goalPart};
 ghost use Rattle.file_actions.specs.Numeric.{nothing, withEffect, withTerm, EffectTaken};
@@ -255,7 +255,7 @@ fn wide(x: u16) -> usize
 
 // A C at the front of what remains, pushed behind the others where there is room. A C that is cut short is not taken.
 fn take_condition(rest: &[u8], marks: &mut [u16; MARKS], numbers: &mut [i64; NUMBERS])
-    requires { ⌜ (0 < length (now rest)) × (getD (now rest) 0 0 ≡ letterC) × RoomFor 0 0 0 0 (now marks) × (length (now numbers) ≡ NUMBERS) ⌝ }
+    requires { ⌜ (0 < length (now rest)) × (getD (now rest) 0 0 ≡ letterC) × PartsFit 0 0 0 0 (now marks) × (length (now numbers) ≡ NUMBERS) ⌝ }
     ensures { λ _. ⌜ ((restricted : Bool) → Takes restricted (commandAt (now (rest .entry)))
         (now (marks .entry)) (now (numbers .entry)) (now (marks .exit)) (now (numbers .exit))) ⌝ }
 {
@@ -270,7 +270,7 @@ fn take_condition(rest: &[u8], marks: &mut [u16; MARKS], numbers: &mut [i64; NUM
 
 // Likewise a P.
 fn take_mode_condition(rest: &[u8], marks: &mut [u16; MARKS])
-    requires { ⌜ (0 < length (now rest)) × (getD (now rest) 0 0 ≡ letterP) × RoomFor 0 0 0 0 (now marks) ⌝ }
+    requires { ⌜ (0 < length (now rest)) × (getD (now rest) 0 0 ≡ letterP) × PartsFit 0 0 0 0 (now marks) ⌝ }
     ensures { λ _. ⌜ ((restricted : Bool) (numbers : List ℤ) → Takes restricted (commandAt (now (rest .entry)))
         (now (marks .entry)) numbers (now (marks .exit)) numbers) ⌝ }
 {
@@ -284,7 +284,7 @@ fn take_mode_condition(rest: &[u8], marks: &mut [u16; MARKS])
 
 // Likewise an E.
 fn take_mode_effect(rest: &[u8], marks: &mut [u16; MARKS])
-    requires { ⌜ (0 < length (now rest)) × (getD (now rest) 0 0 ≡ letterE) × RoomFor 0 0 0 0 (now marks) ⌝ }
+    requires { ⌜ (0 < length (now rest)) × (getD (now rest) 0 0 ≡ letterE) × PartsFit 0 0 0 0 (now marks) ⌝ }
     ensures { λ _. ⌜ ((restricted : Bool) (numbers : List ℤ) → Takes restricted (commandAt (now (rest .entry)))
         (now (marks .entry)) numbers (now (marks .exit)) numbers) ⌝ }
 {
@@ -298,7 +298,7 @@ fn take_mode_effect(rest: &[u8], marks: &mut [u16; MARKS])
 
 // Likewise a + of a restricted action.
 fn take_addition(rest: &[u8], marks: &mut [u16; MARKS], numbers: &mut [i64; NUMBERS])
-    requires { ⌜ (0 < length (now rest)) × (getD (now rest) 0 0 ≡ plusSign) × RoomFor 0 0 0 0 (now marks) × (length (now numbers) ≡ NUMBERS) ⌝ }
+    requires { ⌜ (0 < length (now rest)) × (getD (now rest) 0 0 ≡ plusSign) × PartsFit 0 0 0 0 (now marks) × (length (now numbers) ≡ NUMBERS) ⌝ }
     ensures { λ _. ⌜ Takes true (commandAt (now (rest .entry))) (now (marks .entry)) (now (numbers .entry)) (now (marks .exit)) (now (numbers .exit)) ⌝ }
 {
     let Command::Add(variable, bits) = commands::read_add(rest) else {

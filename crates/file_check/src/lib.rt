@@ -86,7 +86,7 @@ const SOURCE_RELATIONS: u32 = 3;
 
 const RESTRICTED_RELATIONS: u32 = 3;
 
-pub fn source_limits() -> Limits
+fn source_limits() -> Limits
     ensures { λ r. ⌜ limitsOf r ≡ sourceLimits ⌝ }
 {
     Limits {
@@ -104,7 +104,7 @@ pub fn source_limits() -> Limits
     }
 }
 
-pub fn restricted_limits() -> Limits
+fn restricted_limits() -> Limits
     ensures { λ r. ⌜ limitsOf r ≡ restrictedLimits ⌝ }
 {
     Limits {

@@ -4,16 +4,14 @@
 use mathlib.Core.Path.{_≡_, refl, sym, ap, ap₂, _∙_}
 use Prim.Native.Nat.{ℕ, _≤_, _<_}
 use native.Mathlib.Omega.{arith}
-use mathlib.Core.Bool.{Bool, true, false}
+use mathlib.Core.Bool.{true, false}
 use mathlib.Core.List.{List, map}
 use lib.ListN.{length, take, length-map}
 use lib.Seq.{getD-take}
 use lib.IntN.{ℤ, pos}
 use Rattle.lists.specs.Answer.{given}
-use Rattle.commands.specs.declared.Command.{Command}
 use Rattle.model.specs.Tasks.{SourceVariable, SourceTask, RestrictedTask}
-use Rattle.model.specs.Limits.{sourceLimits, restrictedLimits}
-use Rattle.model.specs.Decoding.{modesOf, readSource, readRestricted}
+use Rattle.model.specs.Decoding.{readSource, readRestricted}
 use Rattle.model.specs.Steps.{integerAt}
 use Rattle.model.specs.TaskOk.{SourceTaskOk, RestrictedTaskOk}
 use Rattle.model.proofs.AcceptedOk.{accepted-source-ok, accepted-restricted-ok}

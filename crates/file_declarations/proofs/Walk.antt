@@ -11,7 +11,7 @@ use lib.Dec.{lit<, eqb, leb}
 use lib.IntN.{ℤ}
 use lib.ListN.{length, length-drop, getD, take, drop, List·getD-eq-default}
 use lib.Seq.{drop-drop, getD-drop, take-all}
-use borrow.Author.Tests.{eq-eqb, ne-eqb}
+use borrow.Author.Tests.{ne-eqb}
 use Rattle.commands.specs.Table.{rows, rowAt, letterV, letterU, letterM, sizeOfByte, sizeOfRow}
 use Rattle.commands.specs.Encoding.{byteOf}
 use Rattle.commands.specs.Reading.{commandAt, readRow}

@@ -54,7 +54,8 @@ Lent false lower upper start = (length lower ≡ length start) × (length upper 
 Lent true lower upper start = Unit
 
 -- ---- what the readers of a whole file ensure: of arrays that held lower, upper, .. they leave lower′, upper′, .., and they answer r
-pub record SourceStored (file : List ℕ) (lower upper start : List ℤ) (sizes values : List ℕ) (r : Declared) (lower′ upper′ start′ : List ℤ) (sizes′ values′ : List ℕ) : Type 0 where
+pub record SourceStored (file : List ℕ) (lower upper start : List ℤ) (sizes values : List ℕ) (r : Declared) (lower′ upper′ start′ : List ℤ)
+    (sizes′ values′ : List ℕ) : Type 0 where
   pub all : Stored false (declarations false file) 0 0 lower upper start sizes values (r .variables) (r .modes) lower′ upper′ start′ sizes′ values′
 
 pub record RestrictedStored (file : List ℕ) (start : List ℤ) (sizes values : List ℕ) (r : Declared) (start′ : List ℤ) (sizes′ values′ : List ℕ) : Type 0 where

@@ -11,9 +11,9 @@ use lib.IntN.{ℤ, pos}
 use Rattle.integers.specs.Relation.{relationOf}
 use Rattle.lists.specs.Each.{tabulate}
 use Rattle.lists.proofs.Each.{length-tabulate}
-use Rattle.model.specs.Tasks.{variable, NumericCondition, RestrictedAction}
+use Rattle.model.specs.Tasks.{variable, RestrictedAction}
 use Rattle.model.specs.Steps.{integerAt, naturalAt}
-use Rattle.file_parts.specs.Row.{conditionIn, modeConditionIn, modeEffectIn, additionIn, rowIs, RoomFor, Says}
+use Rattle.file_parts.specs.Row.{conditionIn, modeConditionIn, modeEffectIn, additionIn, rowIs, PartsFit, Says}
 use Rattle.file_parts.specs.With.{condition, blankAction, withCondition, withModeCondition, withModeEffect, withAddition}
 
 -- P and E alike: a mode and a value, counted at a place, with room for so many
@@ -44,7 +44,7 @@ grows : {A : Type 0} {n n′ : ℕ} (f f′ : ℕ → A) (x : A) → n′ ≡ n 
 grows {n = n} f f′ x e h is = ap (λ (z : ℕ). tabulate z f′) (e ∙ add-one n) ∙ tabulate-suc n f′ f h ∙ ap (λ z. tabulate n f ++ (z ∷ [])) is
 
 -- ---- rows of the same parts but for one kind
-module _ (marks marks′ : List ℕ) (numbers numbers′ : List ℤ) {c p e a : ℕ} (room : RoomFor c p e a marks) where
+module _ (marks marks′ : List ℕ) (numbers numbers′ : List ℤ) {c p e a : ℕ} (room : PartsFit c p e a marks) where
   same-conditions : ((j : ℕ) → j < 49 → naturalAt marks′ j ≡ naturalAt marks j) → ((j : ℕ) → j < 24 → integerAt numbers′ j ≡ integerAt numbers j)
       → rowIs marks′ numbers′ .conditions ≡ rowIs marks numbers .conditions
   same-conditions h g =
@@ -95,7 +95,7 @@ kept3 marks i j k x y z = length-set (set (set marks i x) j y) k z ∙ length-se
 
 -- ---- the pushes; n is how many there are, u one more
 module _ (marks : List ℕ) (long : length marks ≡ 116) (n u : ℕ) (more : u ≡ n + 1) where
-  is-condition : (numbers : List ℤ) → length numbers ≡ 40 → RoomFor 1 0 0 0 marks → n ≡ naturalAt marks 0 → (v r : ℕ) (c : ℤ)
+  is-condition : (numbers : List ℤ) → length numbers ≡ 40 → PartsFit 1 0 0 0 marks → n ≡ naturalAt marks 0 → (v r : ℕ) (c : ℤ)
       → rowIs (set (set (set marks (1 + n) v) (25 + n) r) 0 u) (set numbers n c) ≡ withCondition (rowIs marks numbers) (condition v r c)
   is-condition numbers wide room is v r c =
       let m = three 0 marks (1 + n) (25 + n) 0 v r u in
@@ -131,7 +131,7 @@ module _ (marks : List ℕ) (long : length marks ≡ 116) (n u : ℕ) (more : u 
       (first 0 marks (at + 1 + n) (at + 1 + size + n) at v w u (omega arith) (λ q. omega arith) (λ q. omega arith))
       (second 0 marks (at + 1 + n) (at + 1 + size + n) at v w u (omega arith) (λ q. omega arith))))
 
-  is-mode-condition : RoomFor 0 1 0 0 marks → n ≡ naturalAt marks 49 → (v w : ℕ) (numbers : List ℤ)
+  is-mode-condition : PartsFit 0 1 0 0 marks → n ≡ naturalAt marks 49 → (v w : ℕ) (numbers : List ℤ)
       → rowIs (set (set (set marks (50 + n) v) (66 + n) w) 49 u) numbers ≡ withModeCondition (rowIs marks numbers) (v, w)
   is-mode-condition room is v w numbers =
       let m = three 0 marks (50 + n) (66 + n) 49 v w u in
@@ -144,7 +144,7 @@ module _ (marks : List ℕ) (long : length marks ≡ 116) (n u : ℕ) (more : u 
       (same-pairs marks m numbers numbers room 82 8 (omega (arith, room .modeEffects)) (λ j h g. rest j (omega arith)))
       (same-additions marks m numbers numbers room (λ j h. rest j (omega arith)) (λ j h. refl))
 
-  is-mode-effect : RoomFor 0 0 1 0 marks → n ≡ naturalAt marks 82 → (v w : ℕ) (numbers : List ℤ)
+  is-mode-effect : PartsFit 0 0 1 0 marks → n ≡ naturalAt marks 82 → (v w : ℕ) (numbers : List ℤ)
       → rowIs (set (set (set marks (83 + n) v) (91 + n) w) 82 u) numbers ≡ withModeEffect (rowIs marks numbers) (v, w)
   is-mode-effect room is v w numbers =
       let m = three 0 marks (83 + n) (91 + n) 82 v w u in
@@ -157,7 +157,7 @@ module _ (marks : List ℕ) (long : length marks ≡ 116) (n u : ℕ) (more : u 
       (pairs-pushed 82 8 (omega arith) is (omega arith) v w)
       (same-additions marks m numbers numbers room rest (λ j h. refl))
 
-  is-addition : (numbers : List ℤ) → length numbers ≡ 40 → RoomFor 0 0 0 1 marks → n ≡ naturalAt marks 99 → (v : ℕ) (x : ℤ)
+  is-addition : (numbers : List ℤ) → length numbers ≡ 40 → PartsFit 0 0 0 1 marks → n ≡ naturalAt marks 99 → (v : ℕ) (x : ℤ)
       → rowIs (set (set marks (100 + n) v) 99 u) (set numbers (24 + n) x) ≡ withAddition (rowIs marks numbers) (v, x)
   is-addition numbers wide room is v x =
       let m = set (set marks (100 + n) v) 99 u in
@@ -176,7 +176,7 @@ module _ (marks : List ℕ) (long : length marks ≡ 116) (n u : ℕ) (more : u 
       (getD-set-other (set marks (100 + n) v) 99 (100 + n) u 0 (λ q. omega arith) ∙ getD-set-same marks (100 + n) v 0 (omega arith))
       (getD-set-same numbers (24 + n) x (pos 0) (omega arith)))))
 
-  pub pushed-condition : (numbers : List ℤ) → length numbers ≡ 40 → RoomFor 1 0 0 0 marks → n ≡ naturalAt marks 0 → (v r : ℕ) (c : ℤ)
+  pub pushed-condition : (numbers : List ℤ) → length numbers ≡ 40 → PartsFit 1 0 0 0 marks → n ≡ naturalAt marks 0 → (v r : ℕ) (c : ℤ)
       → Says (withCondition (rowIs marks numbers) (condition v r c)) (set (set (set marks (1 + n) v) (25 + n) r) 0 u) (set numbers n c)
   pushed-condition numbers broad room is v r c = record {
     marksLong = kept3 marks (1 + n) (25 + n) 0 v r u ∙ long;
@@ -184,15 +184,15 @@ module _ (marks : List ℕ) (long : length marks ≡ 116) (n u : ℕ) (more : u 
     is = is-condition numbers broad room is v r c;
   }
 
-  pub pushed-mode-condition : RoomFor 0 1 0 0 marks → n ≡ naturalAt marks 49 → (v w : ℕ) (numbers : List ℤ) → length numbers ≡ 40
+  pub pushed-mode-condition : PartsFit 0 1 0 0 marks → n ≡ naturalAt marks 49 → (v w : ℕ) (numbers : List ℤ) → length numbers ≡ 40
       → Says (withModeCondition (rowIs marks numbers) (v, w)) (set (set (set marks (50 + n) v) (66 + n) w) 49 u) numbers
   pushed-mode-condition room is v w numbers broad = record { marksLong = kept3 marks (50 + n) (66 + n) 49 v w u ∙ long; numbersLong = broad; is = is-mode-condition room is v w numbers }
 
-  pub pushed-mode-effect : RoomFor 0 0 1 0 marks → n ≡ naturalAt marks 82 → (v w : ℕ) (numbers : List ℤ) → length numbers ≡ 40
+  pub pushed-mode-effect : PartsFit 0 0 1 0 marks → n ≡ naturalAt marks 82 → (v w : ℕ) (numbers : List ℤ) → length numbers ≡ 40
       → Says (withModeEffect (rowIs marks numbers) (v, w)) (set (set (set marks (83 + n) v) (91 + n) w) 82 u) numbers
   pushed-mode-effect room is v w numbers broad = record { marksLong = kept3 marks (83 + n) (91 + n) 82 v w u ∙ long; numbersLong = broad; is = is-mode-effect room is v w numbers }
 
-  pub pushed-addition : (numbers : List ℤ) → length numbers ≡ 40 → RoomFor 0 0 0 1 marks → n ≡ naturalAt marks 99 → (v : ℕ) (x : ℤ)
+  pub pushed-addition : (numbers : List ℤ) → length numbers ≡ 40 → PartsFit 0 0 0 1 marks → n ≡ naturalAt marks 99 → (v : ℕ) (x : ℤ)
       → Says (withAddition (rowIs marks numbers) (v, x)) (set (set marks (100 + n) v) 99 u) (set numbers (24 + n) x)
   pushed-addition numbers broad room is v x = record {
     marksLong = length-set (set marks (100 + n) v) 99 u ∙ length-set marks (100 + n) v ∙ long;
@@ -239,8 +239,8 @@ module _ {x : RestrictedAction} {marks : List ℕ} {numbers : List ℤ} (h : Say
   pub additions-counted : naturalAt marks 99 ≡ length (x .additions)
   additions-counted = sym (length-tabulate (naturalAt marks 99) (additionIn marks numbers)) ∙ ap (λ (z : RestrictedAction). length (z .additions)) (h .is)
 
-  pub room-for : {c p e a : ℕ} → Sized c p e a x → RoomFor c p e a marks
-  room-for s = record {
+  pub parts-fit : {c p e a : ℕ} → Sized c p e a x → PartsFit c p e a marks
+  parts-fit s = record {
     long = h .marksLong;
     conditions = omega (arith, conditions-counted, s .conditions);
     modeConditions = omega (arith, mode-conditions-counted, s .modeConditions);

@@ -55,7 +55,7 @@ rowIs marks numbers = record {
 }
 
 -- ---- what a push asks: there is room for so many more C, P, E and +
-pub record RoomFor (c p e a : ℕ) (marks : List ℕ) : Type 0 where
+pub record PartsFit (c p e a : ℕ) (marks : List ℕ) : Type 0 where
   pub long : length marks ≡ MARKS
   pub conditions : naturalAt marks conditionCount + c ≤ conditionRoom
   pub modeConditions : naturalAt marks modeConditionCount + p ≤ modeConditionRoom

@@ -1,7 +1,7 @@
 -- Restricted actions made part by part.
 -- Assumes nothing.
 use Prim.Native.Nat.{ℕ}
-use mathlib.Core.List.{List, [], _∷_, _++_}
+use mathlib.Core.List.{[], _∷_, _++_}
 use lib.IntN.{ℤ}
 use Rattle.integers.specs.Relation.{relationOf}
 use Rattle.model.specs.Tasks.{variable, NumericCondition, SourceAction, RestrictedAction}

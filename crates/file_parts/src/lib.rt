@@ -8,7 +8,7 @@ ghost use mathlib.Core.List.{List};
 ghost use lib.ListN.{length};
 ghost use lib.IntN.{ℤ};
 ghost use Rattle.file_parts.specs.Layout.{MARKS, NUMBERS};
-ghost use Rattle.file_parts.specs.Row.{rowIs, RoomFor, Says};
+ghost use Rattle.file_parts.specs.Row.{rowIs, PartsFit, Says};
 ghost use Rattle.file_parts.specs.With.{condition, blankAction, withCondition, withModeCondition, withModeEffect, withAddition};
 
 // How long the rows of an action are.
@@ -90,7 +90,7 @@ pub fn push_condition(
     relation: u8,
     constant: i64,
 )
-    requires { ⌜ RoomFor 1 0 0 0 (now marks) × (length (now numbers) ≡ NUMBERS) ⌝ }
+    requires { ⌜ PartsFit 1 0 0 0 (now marks) × (length (now numbers) ≡ NUMBERS) ⌝ }
     ensures { λ _. ⌜ Says (withCondition (rowIs (now (marks .entry)) (now (numbers .entry))) (condition variable relation constant))
         (now (marks .exit)) (now (numbers .exit)) ⌝ }
 {
@@ -103,7 +103,7 @@ pub fn push_condition(
 
 // One P more.
 pub fn push_mode_condition(marks: &mut [u16; MARKS], mode: u8, value: u16)
-    requires { ⌜ RoomFor 0 1 0 0 (now marks) ⌝ }
+    requires { ⌜ PartsFit 0 1 0 0 (now marks) ⌝ }
     ensures { λ _. ⌜ ((numbers : List ℤ) → length numbers ≡ NUMBERS
         → Says (withModeCondition (rowIs (now (marks .entry)) numbers) (mode, value)) (now (marks .exit)) numbers) ⌝ }
 {
@@ -115,7 +115,7 @@ pub fn push_mode_condition(marks: &mut [u16; MARKS], mode: u8, value: u16)
 
 // One E more.
 pub fn push_mode_effect(marks: &mut [u16; MARKS], mode: u8, value: u16)
-    requires { ⌜ RoomFor 0 0 1 0 (now marks) ⌝ }
+    requires { ⌜ PartsFit 0 0 1 0 (now marks) ⌝ }
     ensures { λ _. ⌜ ((numbers : List ℤ) → length numbers ≡ NUMBERS
         → Says (withModeEffect (rowIs (now (marks .entry)) numbers) (mode, value)) (now (marks .exit)) numbers) ⌝ }
 {
@@ -132,7 +132,7 @@ pub fn push_addition(
     variable: u8,
     amount: i64,
 )
-    requires { ⌜ RoomFor 0 0 0 1 (now marks) × (length (now numbers) ≡ NUMBERS) ⌝ }
+    requires { ⌜ PartsFit 0 0 0 1 (now marks) × (length (now numbers) ≡ NUMBERS) ⌝ }
     ensures { λ _. ⌜ Says (withAddition (rowIs (now (marks .entry)) (now (numbers .entry))) (variable, amount)) (now (marks .exit)) (now (numbers .exit)) ⌝ }
 {
     let n = wide(marks[ADDITION_COUNT]);

@@ -1,3 +1,4 @@
 pub mod Lines
 pub mod Lining
 pub mod Listing
+pub mod Parts

@@ -8,20 +8,18 @@ use mathlib.Core.Bool.{Bool, true, false, cond}
 use mathlib.Core.Option.{none}
 use mathlib.Core.List.{List, [], _∷_, _++_}
 use lib.Dec.{ltb}
-use lib.ListN.{length, length-append, getElem?}
+use lib.ListN.{length, getElem?}
 use lib.IntN.{ℤ}
 use borrow.Author.Tests.{ltb-true, ltb-false}
 use Rattle.lists.specs.Answer.{Answer, given, refused, then}
-use Rattle.lists.specs.Written.{Lent}
-use Rattle.lists.specs.declared.Written.{Written}
 use Rattle.model.specs.Tasks.{SourceTask, State}
 use Rattle.model.specs.Plans.{planNumbers}
 use Rattle.model.specs.Steps.{sourceStart, stepSource}
 use Rattle.model.specs.Judging.{judgeSourceTask, priceTask}
-use Rattle.model.specs.Listing.{stepLine, stepLines, goalLine, refusedLine, textOf, listing}
+use Rattle.model.specs.Listing.{header, stepLine, stepLines, goalLine, refusedLine, textOf, listing}
 use Rattle.source_step.specs.Step.{state}
 use Rattle.source_step.specs.Table.{Table, declaredBy, takesBy, afterBy, priceBy, RowsOf, Inside}
-use Rattle.source_step.proofs.Tables.{price-agrees, step-agrees, inside-after}
+use Rattle.source_step.proofs.Tables.{price-agrees, step-agrees, inside-after, usables}
 use Rattle.source_walk.specs.declared.Task.{Task}
 use Rattle.source_walk.specs.declared.Verdict.{Verdict}
 use Rattle.source_walk.specs.declared.Verdict.the-variants.{Valid, Refused}
@@ -29,13 +27,9 @@ use Rattle.source_walk.specs.Opening.{opened, tableOf, Started}
 use Rattle.source_walk.specs.Walk.{Judging, judgeBy}
 use Rattle.source_walk.proofs.Opening.{refused-both, goes-on}
 use Rattle.source_walk.proofs.Judging.{answerWith, judged-is, priced-is}
-use Rattle.listing.specs.Listed.{textWith, listedWith, linesBy, listedBy}
-
-pub lent-as : {old : List ℕ} {a b : Answer (List ℕ)} {after : List ℕ} {r : Written} → a ≡ b → Lent old a after r → Lent old b after r
-lent-as {old} {after = after} {r} e l = subst (λ (c : Answer (List ℕ)). Lent old c after r) e l
-
-pub text-long : (lines : List ℕ) (total : ℕ) → length (textWith lines total) ≡ 24 + length lines + length (goalLine total)
-text-long lines total = omega (arith, length-append lines (goalLine total))
+use Rattle.listing.specs.Listed.{linesBy}
+use Rattle.listing.specs.declared.Rest.{Rest}
+use Rattle.listing.specs.Parts.{restWith, restBy, leftOf, Pending, Begun}
 
 -- ---- the lines by the rows of a task are those of its steps
 -- there is no action past the last
@@ -67,11 +61,11 @@ module _ {t : SourceTask} {T : Table} (R : RowsOf t T) where
       go false e b f ih = rw (no-step t (declaredBy T x) k (omega (arith, R .ready .counted, ltb-false k (T .count) e))) refl
 
 -- ---- what goes on from a task and a plan
-abbrev pub textFor : SourceTask → List ℕ → ℕ → List ℕ
-textFor t p total = textWith (stepLines t 0 p (sourceStart t)) total
+abbrev textWith : List ℕ → ℕ → List ℕ
+textWith lines total = header ++ (lines ++ goalLine total)
 
 abbrev withTotal : SourceTask → List ℕ → Answer ℕ → Answer (List ℕ)
-withTotal t p price = then price (λ total. given (textFor t p total))
+withTotal t p price = then price (λ total. given (textWith (stepLines t 0 p (sourceStart t)) total))
 
 abbrev goOn : SourceTask → List ℕ → Answer (List ℕ)
 goOn t p = then (judgeSourceTask t p) (λ v. withTotal t p (priceTask t false p))
@@ -103,13 +97,35 @@ module _ {file plan : List ℕ} {r : Task} {marks : List (List ℕ)} {numbers : 
   judged : (v : Verdict) → J .verdict ≡ v → judgeSourceTask t p ≡ answerWith v (declaredBy T (J .state))
   judged v e = judged-is S true ∙ ap (λ (u : Verdict). answerWith u (declaredBy T (J .state))) e
 
-  by-verdict : (v : Verdict) → J .verdict ≡ v → listedWith (linesBy T 0 p x) v (J .price) ≡ textOf (goOn t p)
+  by-verdict : (v : Verdict) → J .verdict ≡ v → leftOf (restWith r v (J .price)) p marks numbers values modes ≡ textOf (goOn t p)
   by-verdict (Valid n) e =
       ap (λ (lines : List ℕ). textWith lines (J .price)) steps-are
       ∙ sym (ap₂ (λ (a : Answer (ℕ × State)) (c : Answer ℕ). textOf (then a (λ v. withTotal t p c))) (judged (Valid n) e) (priced-is S n e false))
   by-verdict (Refused number place) e =
       sym (ap (λ (a : Answer (ℕ × State)). textOf (then a (λ v. withTotal t p (priceTask t false p)))) (judged (Refused number place) e))
 
-  pub listed-is : listedBy (tableOf r marks numbers) (planNumbers plan) (state values modes) ≡ listing file plan
+  all-left : leftOf (restBy r (judgeBy (tableOf r marks numbers) true (planNumbers plan) (state values modes))) (planNumbers plan) marks numbers values modes
+      ≡ listing file plan
   unfolding listing
-  listed-is = by-verdict (J .verdict) refl ∙ sym (ap textOf (goes-on goOn file plan t (S .reads) (S .planIs .planRead)))
+  all-left = by-verdict (J .verdict) refl ∙ sym (ap textOf (goes-on goOn file plan t (S .reads) (S .planIs .planRead)))
+
+  pending : (v : Verdict) (total : ℕ) → Pending (restWith r v total) p marks numbers values modes
+  pending (Refused number place) total = tt
+  pending (Valid n) total = record {
+    stepsAre = S .planIs .stepsAre;
+    listable = record {
+      usables = usables (S .rows);
+      ordered = omega arith;
+      inPlan = omega (arith, S .planIs .stepsAre);
+      few = S .planIs .few;
+      valuesLong = S .inside .shaped .valuesLong;
+      modesLong = S .inside .shaped .modesLong;
+    };
+  }
+
+  -- what judging leaves of the listing is all of it
+  pub begun : {rest : Rest} → rest ≡ restBy r (judgeBy (tableOf r marks numbers) true (planNumbers plan) (state values modes))
+      → Begun file plan rest marks numbers values modes
+  begun e =
+      subst (λ (rest : Rest). Begun file plan rest marks numbers values modes) (sym e)
+      (record { left = all-left; pending = pending (J .verdict) (J .price) })

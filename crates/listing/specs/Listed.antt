@@ -1,20 +1,17 @@
--- The lines of a plan's steps, each taken by the rows of a task, and what is listed of the plan from a state on.
+-- The lines of a plan's steps, each taken by the rows of a task, from a state on.
 -- Assumes nothing.
 use mathlib.Core.Path.{_≡_}
 use Prim.Native.Nat.{ℕ, suc, _+_, _-_, _*_, _≤_}
-use mathlib.Core.Bool.{true, cond}
+use mathlib.Core.Bool.{cond}
 use mathlib.Core.List.{List, [], _∷_, _++_}
 use lib.Dec.{ltb}
 use lib.ListN.{length, take, drop}
 use lib.IntN.{ℤ}
 use Rattle.lists.specs.Writing.{Wrote}
 use Rattle.model.specs.Tasks.{State}
-use Rattle.model.specs.Listing.{header, stepLine, goalLine, refusedLine}
+use Rattle.model.specs.Listing.{stepLine}
 use Rattle.source_step.specs.Step.{state}
 use Rattle.source_step.specs.Table.{Table, declaredBy, takesBy, afterBy, priceBy, Usables}
-use Rattle.source_walk.specs.declared.Verdict.{Verdict}
-use Rattle.source_walk.specs.declared.Verdict.the-variants.{Valid, Refused}
-use Rattle.source_walk.specs.Walk.{Judging, judgeBy}
 use Rattle.listing.specs.Lines.{LINE}
 use Rattle.listing.specs.declared.Lined.{Lined}
 
@@ -27,15 +24,6 @@ pub record Listable (T : Table) (p : List ℕ) (from until : ℕ) (values : List
   pub valuesLong : length values ≡ 8
   pub modesLong : length modes ≡ 4
 
--- the text of a valid plan
-abbrev pub textWith : List ℕ → ℕ → List ℕ
-textWith lines total = header ++ (lines ++ goalLine total)
-
--- what is listed of a plan with these lines that was judged
-abbrev pub listedWith : List ℕ → Verdict → ℕ → List ℕ
-listedWith lines (Valid steps) total = textWith lines total
-listedWith lines (Refused number place) total = refusedLine number place
-
 module _ (T : Table) where
   -- the lines of the steps from step i on, in state x
   unfoldable pub linesBy : ℕ → List ℕ → State → List ℕ
@@ -44,9 +32,6 @@ module _ (T : Table) where
       cond (ltb k (T .count))
       (cond (takesBy T x k) (stepLine i k (priceBy T x k) (declaredBy T (afterBy T x k)) ++ linesBy (suc i) ks (afterBy T x k)) [])
       []
-
-  abbrev pub listedBy : List ℕ → State → List ℕ
-  listedBy p x = let j : Judging = judgeBy T true p x in listedWith (linesBy 0 p x) (j .verdict) (j .price)
 
   -- the lines of the steps from one on and until another
   abbrev pub linesTo : ℕ → ℕ → List ℕ → State → List ℕ

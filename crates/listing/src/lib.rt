@@ -1,8 +1,9 @@
 // The listing of a plan: a header, a line for each step, and the goal with the total price; where the file or the plan is refused, one line
 // that names the refusal.
 //
-// The text is written into output that a caller lends, its length counted first by the functions that write it: into output of length 0 they
-// store nothing and only count. Nothing is written where the text does not fit.
+// It is written into output that a caller lends: whole by `list`, or part by part. `begin` judges the plan, and `put_part` writes the next part
+// of what is left, into as many bytes as hold every part. The functions that write store nothing into output of length 0 and only count there,
+// by which `list` knows the length first: it writes nothing where the text does not fit.
 use plan_strokes::STAGES;
 use source_step::MARKS;
 use source_step::MODES;
@@ -10,8 +11,10 @@ use source_step::NUMBERS;
 use source_step::VARIABLES;
 use source_walk::ROWS;
 ghost use mathlib.Core.Path.{_≡_};
-ghost use Prim.Native.Nat.{_+_, _-_, _*_, _≤_};
-ghost use lib.ListN.{length, take};
+ghost use Prim.Native.Nat.{_+_, _-_, _*_, _≤_, _<_};
+ghost use mathlib.Core.Bool.{true};
+ghost use lib.Dec.{ltb};
+ghost use lib.ListN.{length, take, replicate};
 ghost use lib.IntN.{pos};
 ghost use mathlib.Core.List.{flatMap};
 ghost use Rattle.lists.specs.Answer.{given};
@@ -20,28 +23,16 @@ ghost use Rattle.lists.specs.Written.{Lent};
 ghost use Rattle.model.specs.Listing.{fieldsOf, goalLine, refusedLine, listing};
 ghost use Rattle.model.specs.Plans.{planNumbers};
 ghost use Rattle.source_step.specs.Step.{state};
-ghost use Rattle.source_step.specs.Table.{table};
+ghost use Rattle.source_step.specs.Table.{table, Usables, ROWS};
+ghost use Rattle.source_step.specs.Sizes.{VARIABLES, MODES};
+ghost use Rattle.source_walk.specs.Opening.{tableOf};
+ghost use Rattle.source_walk.specs.Walk.{judgeBy};
 ghost use Rattle.listing.specs.Lines.{field, lineOf, LINE, RoomFor};
-ghost use Rattle.listing.specs.Listed.{Listable, LinedTo, linesBy, linesTo, textWith, listedBy};
-ghost use Rattle.source_step.specs.Sizes.{VARIABLES};
+ghost use Rattle.listing.specs.Listed.{Listable, LinedTo, linesTo};
+ghost use Rattle.listing.specs.Parts.{PART, linesLeft, restBy, Pending, Begun, headerAt, partEnd, partOf, PutPart, NextPart};
 
-// A text, byte for byte.
-fn put_text(out: &mut [u8], at: usize, text: &[u8]) -> usize
-    requires { ⌜ Room (now out) at (now text) ⌝ }
-    ensures { λ r. ⌜ Wrote (now (out .entry)) at (now (text .entry)) (now (out .exit)) r ⌝ }
-{
-    if out.len() == 0 {
-        return at + text.len();
-    }
-    let mut place = at;
-    let mut i: usize = 0;
-    while i < text.len() {
-        out[place] = text[i];
-        place += 1;
-        i += 1;
-    }
-    place
-}
+// The most lines of a plan: it has no more steps.
+const MOST_LINES: usize = 1_000_000;
 
 // A space, and a whole number.
 fn put_field(out: &mut [u8], at: usize, z: i64) -> usize
@@ -103,37 +94,25 @@ fn put_step_line(
     put_fields(out, values_at, values, n)
 }
 
-// The last line.
+// The last line: at most 26 bytes.
 fn put_goal_line(out: &mut [u8], at: usize, total: u64) -> usize
-    requires { ⌜ Room (now out) at (goalLine total) ⌝ }
-    ensures { λ r. ⌜ Wrote (now (out .entry)) at (goalLine total) (now (out .exit)) r ⌝ }
+    requires { ⌜ RoomFor (now out) at 26 (goalLine total) ⌝ }
+    ensures { λ r. ⌜ Wrote (now (out .entry)) at (goalLine total) (now (out .exit)) r × (r ≤ at + 26) ⌝ }
 {
-    let total_at = put_text(out, at, b"goal");
+    let total_at = lists::put_bytes(out, at, b"goal");
     let end = put_count(out, total_at, total);
     lists::put_number(out, end, 10, 1)
 }
 
-// The one line of a refusal.
+// The one line of a refusal: at most 50 bytes.
 fn put_refused_line(out: &mut [u8], at: usize, number: u64, place: u64) -> usize
-    requires { ⌜ Room (now out) at (refusedLine number place) ⌝ }
-    ensures { λ r. ⌜ Wrote (now (out .entry)) at (refusedLine number place) (now (out .exit)) r ⌝ }
+    requires { ⌜ RoomFor (now out) at 50 (refusedLine number place) ⌝ }
+    ensures { λ r. ⌜ Wrote (now (out .entry)) at (refusedLine number place) (now (out .exit)) r × (r ≤ at + 50) ⌝ }
 {
-    let number_at = put_text(out, at, b"refused");
+    let number_at = lists::put_bytes(out, at, b"refused");
     let place_at = put_count(out, number_at, number);
     let end = put_count(out, place_at, place);
     lists::put_number(out, end, 10, 1)
-}
-
-// The whole output where a task or a plan is refused; 8 where it is longer than the output lent.
-fn write_refusal(out: &mut [u8], number: u8, place: u64) -> lists::Written
-    ensures { λ r. ⌜ Lent (now (out .entry)) (given (refusedLine number place)) (now (out .exit)) r ⌝ }
-{
-    let length = put_refused_line(&mut out[..0], 0, number as u64, place);
-    if out.len() < length {
-        return lists::Written::Refused(8, length as u64);
-    }
-    put_refused_line(out, 0, number as u64, place);
-    lists::Written::Bytes(length)
 }
 
 // Where a walk over a plan stands: the place behind the lines written, and the step that comes next.
@@ -195,156 +174,222 @@ fn put_lines(
     Lined { place, next: until }
 }
 
-// The text of a valid plan, at the front of the output.
-fn put_listing(
-    out: &mut [u8],
-    plan: &[u8],
-    steps: usize,
-    count: usize,
-    marks: &[[u16; MARKS]],
-    numbers: &[[i64; NUMBERS]],
-    n: usize,
-    m: usize,
-    values: &mut [i64; VARIABLES],
-    modes: &mut [u16; MODES],
-    total: u64,
-) -> usize
-    requires { ⌜ (steps ≡ length (planNumbers (now plan)))
-        × Listable (table count (now marks) (now numbers) n m) (planNumbers (now plan)) 0 steps (now values) (now modes) ⌝ }
-    requires { ⌜ RoomFor (now out) 0 (50 + LINE * steps) (textWith (linesBy (table count (now marks) (now numbers) n m) 0
-        (planNumbers (now plan)) (state (now values) (now modes))) total) ⌝ }
-    ensures { λ r. ⌜ Wrote (now (out .entry)) 0
-        (textWith (linesBy (table count (now (marks .entry)) (now (numbers .entry)) n m) 0
-        (planNumbers (now (plan .entry))) (state (now (values .entry)) (now (modes .entry)))) total)
-        (now (out .exit)) r ⌝ }
-{
-    let lines_at = put_text(out, 0, b"step action cost values\n");
-    let lined = put_lines(
-        out,
-        lines_at,
-        plan,
-        0,
-        steps,
-        count,
-        marks,
-        numbers,
-        n,
-        m,
-        values,
-        modes,
-    );
-    put_goal_line(out, lined.place, total)
+// What is left of the listing of a valid plan: what was opened, the total price, and the step whose line comes next. The header is left where
+// that is the first.
+pub struct Sheet {
+    pub task: source_walk::Task,
+    pub total: u64,
+    pub next: usize,
 }
 
-// The same, its length counted first; 8 where it is longer than the output lent.
-fn write_listing(
-    out: &mut [u8],
-    plan: &[u8],
-    steps: usize,
-    count: usize,
-    marks: &[[u16; MARKS]],
-    numbers: &[[i64; NUMBERS]],
-    n: usize,
-    m: usize,
-    values: &mut [i64; VARIABLES],
-    modes: &mut [u16; MODES],
-    total: u64,
-) -> lists::Written
-    requires { ⌜ (steps ≡ length (planNumbers (now plan)))
-        × Listable (table count (now marks) (now numbers) n m) (planNumbers (now plan)) 0 steps (now values) (now modes) ⌝ }
-    ensures { λ r. ⌜ Lent (now (out .entry))
-        (given (textWith (linesBy (table count (now (marks .entry)) (now (numbers .entry)) n m) 0
-        (planNumbers (now (plan .entry))) (state (now (values .entry)) (now (modes .entry)))) total))
-        (now (out .exit)) r ⌝ }
+// What is left of a listing: the line of a refusal, the lines of a plan, or nothing.
+pub enum Rest {
+    Refusal(u8, u64),
+    Lines(Sheet),
+    Nothing,
+}
+
+// Whether anything is left.
+pub fn any_left(rest: Rest) -> bool
+    ensures { λ r. ⌜ r ≡ ltb 0 (linesLeft rest) ⌝ }
 {
-    let mut counted_values = *values;
-    let mut counted_modes = *modes;
-    let need = put_listing(
-        &mut out[..0],
-        plan,
-        steps,
-        count,
-        marks,
-        numbers,
-        n,
-        m,
-        &mut counted_values,
-        &mut counted_modes,
-        total,
-    );
-    if out.len() < need {
-        return lists::Written::Refused(8, need as u64);
+    match rest {
+        Rest::Nothing => false,
+        Rest::Refusal(_, _) => true,
+        Rest::Lines(_) => true,
     }
-    put_listing(
-        out,
-        plan,
-        steps,
-        count,
-        marks,
-        numbers,
-        n,
-        m,
-        values,
-        modes,
-        total,
-    );
-    lists::Written::Bytes(need)
 }
 
-// Judges a plan from a lent state on, and lists it, or writes the line of its refusal.
-fn list_ready(
-    out: &mut [u8],
+// Judges a plan from a state on: what its listing is.
+fn judge(
     plan: &[u8],
-    steps: usize,
-    count: usize,
+    task: source_walk::Task,
     marks: &[[u16; MARKS]],
     numbers: &[[i64; NUMBERS]],
-    n: usize,
-    m: usize,
-    values: &mut [i64; VARIABLES],
-    modes: &mut [u16; MODES],
-) -> lists::Written
-    requires { ⌜ (steps ≡ length (planNumbers (now plan)))
-        × Listable (table count (now marks) (now numbers) n m) (planNumbers (now plan)) 0 steps (now values) (now modes) ⌝ }
-    ensures { λ r. ⌜ Lent (now (out .entry))
-        (given (listedBy (table count (now (marks .entry)) (now (numbers .entry)) n m)
-        (planNumbers (now (plan .entry))) (state (now (values .entry)) (now (modes .entry)))))
-        (now (out .exit)) r ⌝ }
+    values: &[i64; VARIABLES],
+    modes: &[u16; MODES],
+) -> Rest
+    requires { ⌜ Usables (tableOf task (now marks) (now numbers)) × (task .steps ≡ length (planNumbers (now plan))) × (task .steps ≤ 1000000)
+        × (length (now modes) ≡ MODES) ⌝ }
+    ensures { λ r. ⌜ r ≡ restBy task (judgeBy (tableOf task (now (marks .entry)) (now (numbers .entry))) true (planNumbers (now (plan .entry)))
+        (state (now (values .entry)) (now (modes .entry)))) ⌝ }
 {
     let mut last_values = *values;
     let mut last_modes = *modes;
     let judged = source_walk::judge_steps(
         plan,
-        steps,
-        count,
+        task.steps,
+        task.actions,
         marks,
         numbers,
-        n,
-        m,
+        task.variables,
+        task.modes,
         true,
         &mut last_values,
         &mut last_modes,
     );
     let verdict = judged.verdict;
     match verdict {
-        source_walk::Verdict::Refused(number, place) => write_refusal(out, number, place),
-        source_walk::Verdict::Valid(_) => write_listing(
-            out,
-            plan,
-            steps,
-            count,
-            marks,
-            numbers,
-            n,
-            m,
-            values,
-            modes,
-            judged.price,
-        ),
+        source_walk::Verdict::Refused(number, place) => Rest::Refusal(number, place),
+        source_walk::Verdict::Valid(_) => Rest::Lines(Sheet {
+            task,
+            total: judged.price,
+            next: 0,
+        }),
     }
 }
 
-// The whole listing of a task and a plan, a refusal's line included. The only refusal is 8: the output lent is shorter than the text.
+// Opens a file and a plan into arrays of zeros, and judges the plan: all of its listing is left.
+pub fn begin(
+    file: &[u8],
+    plan: &[u8],
+    marks: &mut [[u16; MARKS]],
+    numbers: &mut [[i64; NUMBERS]],
+    values: &mut [i64; VARIABLES],
+    modes: &mut [u16; MODES],
+) -> Rest
+    requires { ⌜ (length (now marks) ≡ ROWS) × (length (now numbers) ≡ ROWS) × (now values ≡ replicate VARIABLES (pos 0)) × (now modes ≡ replicate MODES 0) ⌝ }
+    ensures { λ r. ⌜ Begun (now (file .entry)) (now (plan .entry)) r (now (marks .exit)) (now (numbers .exit)) (now (values .exit)) (now (modes .exit)) ⌝ }
+{
+    match source_walk::open(file, plan, marks, numbers, values, modes) {
+        source_walk::Opened::Refused(number, place) => Rest::Refusal(number, place),
+        source_walk::Opened::Ready(t) => judge(plan, t, marks, numbers, values, modes),
+    }
+}
+
+// A part of a listing that was written: how many bytes it has, and what is left behind it.
+pub struct Part {
+    pub count: usize,
+    pub rest: Rest,
+}
+
+// The header where the first line comes next.
+fn put_header(out: &mut [u8], next: usize) -> usize
+    requires { ⌜ Room (now out) 0 (headerAt next) ⌝ }
+    ensures { λ r. ⌜ Wrote (now (out .entry)) 0 (headerAt next) (now (out .exit)) r ⌝ }
+{
+    if 0 < next {
+        return 0;
+    }
+    lists::put_bytes(out, 0, b"step action cost values\n")
+}
+
+// The step up to which at most so many lines go from one on.
+fn part_end(next: usize, most: usize, steps: usize) -> usize
+    requires { ⌜ next ≤ steps ⌝ }
+    ensures { λ r. ⌜ r ≡ partEnd next most steps ⌝ }
+{
+    if most < steps - next {
+        return next + most;
+    }
+    steps
+}
+
+// At most so many lines of a plan, at the front of the output, with the header before the first of all and the goal's line behind the last.
+fn put_sheet(
+    out: &mut [u8],
+    plan: &[u8],
+    sheet: Sheet,
+    most: usize,
+    marks: &[[u16; MARKS]],
+    numbers: &[[i64; NUMBERS]],
+    values: &mut [i64; VARIABLES],
+    modes: &mut [u16; MODES],
+) -> Part
+    requires { ⌜ (0 < most) × Pending (Rest.Lines sheet) (planNumbers (now plan)) (now marks) (now numbers) (now values) (now modes) ⌝ }
+    requires { ⌜ RoomFor (now out) 0 (50 + LINE * most)
+        (partOf (Rest.Lines sheet) most (planNumbers (now plan)) (now marks) (now numbers) (now values) (now modes)) ⌝ }
+    ensures { λ r. ⌜ PutPart (Rest.Lines sheet) most (planNumbers (now (plan .entry))) (now (marks .entry)) (now (numbers .entry))
+        (now (values .entry)) (now (modes .entry)) (now (out .entry)) (now (out .exit)) r (now (values .exit)) (now (modes .exit)) ⌝ }
+{
+    let task = sheet.task;
+    let next = sheet.next;
+    let until = part_end(next, most, task.steps);
+    let lines_at = put_header(out, next);
+    let lined = put_lines(
+        out,
+        lines_at,
+        plan,
+        next,
+        until,
+        task.actions,
+        marks,
+        numbers,
+        task.variables,
+        task.modes,
+        values,
+        modes,
+    );
+    if until < task.steps {
+        return Part {
+            count: lined.place,
+            rest: Rest::Lines(Sheet {
+                task,
+                total: sheet.total,
+                next: lined.next,
+            }),
+        };
+    }
+    Part {
+        count: put_goal_line(out, lined.place, sheet.total),
+        rest: Rest::Nothing,
+    }
+}
+
+// What is left of a listing, with at most so many lines of a plan, at the front of the output.
+fn put_rest(
+    out: &mut [u8],
+    plan: &[u8],
+    rest: Rest,
+    most: usize,
+    marks: &[[u16; MARKS]],
+    numbers: &[[i64; NUMBERS]],
+    values: &mut [i64; VARIABLES],
+    modes: &mut [u16; MODES],
+) -> Part
+    requires { ⌜ (0 < most) × Pending rest (planNumbers (now plan)) (now marks) (now numbers) (now values) (now modes) ⌝ }
+    requires { ⌜ RoomFor (now out) 0 (50 + LINE * most) (partOf rest most (planNumbers (now plan)) (now marks) (now numbers) (now values) (now modes)) ⌝ }
+    ensures { λ r. ⌜ PutPart rest most (planNumbers (now (plan .entry))) (now (marks .entry)) (now (numbers .entry))
+        (now (values .entry)) (now (modes .entry)) (now (out .entry)) (now (out .exit)) r (now (values .exit)) (now (modes .exit)) ⌝ }
+{
+    match rest {
+        Rest::Nothing => Part {
+            count: 0,
+            rest: Rest::Nothing,
+        },
+        Rest::Refusal(number, place) => Part {
+            count: put_refused_line(out, 0, number as u64, place),
+            rest: Rest::Nothing,
+        },
+        Rest::Lines(sheet) => put_sheet(out, plan, sheet, most, marks, numbers, values, modes),
+    }
+}
+
+// The most lines of a plan in a part, and bytes that hold every part: 231 for each of those, and 50 for the header and the goal's line.
+const PART_LINES: usize = 128;
+
+pub const PART: usize = 29618;
+
+// The next part of what is left of a listing, at the front of the output: its bytes, and behind them what is left then, from the state that
+// the last of its steps leaves on. Where anything is left, fewer lines are left behind it.
+pub fn put_part(
+    out: &mut [u8],
+    plan: &[u8],
+    rest: Rest,
+    marks: &[[u16; MARKS]],
+    numbers: &[[i64; NUMBERS]],
+    values: &mut [i64; VARIABLES],
+    modes: &mut [u16; MODES],
+) -> Part
+    requires { ⌜ (PART ≤ length (now out)) × Pending rest (planNumbers (now plan)) (now marks) (now numbers) (now values) (now modes) ⌝ }
+    ensures { λ r. ⌜ NextPart rest (planNumbers (now (plan .entry))) (now (marks .entry)) (now (numbers .entry))
+        (now (values .entry)) (now (modes .entry)) (now (out .exit)) r (now (values .exit)) (now (modes .exit)) ⌝ }
+{
+    put_rest(out, plan, rest, PART_LINES, marks, numbers, values, modes)
+}
+
+// The whole listing of a task and a plan, a refusal's line included, its length counted first. The only refusal is 8: the output lent is
+// shorter than the text.
 pub fn list(file: &[u8], plan: &[u8], out: &mut [u8]) -> lists::Written
     ensures { λ r. ⌜ Lent (now (out .entry)) (given (listing (now (file .entry)) (now (plan .entry)))) (now (out .exit)) r ⌝ }
 {
@@ -352,26 +397,39 @@ pub fn list(file: &[u8], plan: &[u8], out: &mut [u8]) -> lists::Written
     let mut numbers = [[0i64; NUMBERS]; ROWS];
     let mut values = [0i64; VARIABLES];
     let mut modes = [0u16; MODES];
-    match source_walk::open(
+    let rest = begin(
         file,
         plan,
         &mut marks,
         &mut numbers,
         &mut values,
         &mut modes,
-    ) {
-        source_walk::Opened::Refused(number, place) => write_refusal(out, number, place),
-        source_walk::Opened::Ready(t) => list_ready(
-            out,
-            plan,
-            t.steps,
-            t.actions,
-            &marks,
-            &numbers,
-            t.variables,
-            t.modes,
-            &mut values,
-            &mut modes,
-        ),
+    );
+    let mut counted_values = values;
+    let mut counted_modes = modes;
+    let counted = put_rest(
+        &mut out[..0],
+        plan,
+        rest,
+        MOST_LINES,
+        &marks,
+        &numbers,
+        &mut counted_values,
+        &mut counted_modes,
+    );
+    let need = counted.count;
+    if out.len() < need {
+        return lists::Written::Refused(8, need as u64);
     }
+    put_rest(
+        out,
+        plan,
+        rest,
+        MOST_LINES,
+        &marks,
+        &numbers,
+        &mut values,
+        &mut modes,
+    );
+    lists::Written::Bytes(need)
 }

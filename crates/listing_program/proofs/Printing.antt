@@ -1,63 +1,24 @@
--- A text that fits is printed whole; and which text the program prints.
+-- Which text the program prints: `no file` comes first, then `too large`.
 -- Assumes nothing.
 use mathlib.Core.Path.{_≡_, refl, sym, ap, _∙_, subst}
-use Prim.Native.Nat.{ℕ, suc, _≤_}
+use Prim.Native.Nat.{ℕ, suc}
 use native.Mathlib.Omega.{arith}
 use mathlib.Core.Bool.{Bool, true, false, not, cond, _||_}
 use mathlib.Core.Option.{some}
-use mathlib.Core.List.{List, _++_}
-use lib.Dec.{leb, ltb}
-use lib.ListN.{length, take, drop, length-take}
+use mathlib.Core.List.{List, _++_, append-nil}
+use lib.Dec.{ltb}
+use lib.ListN.{length, take, length-take}
 use lib.Seq.{take-all}
-use borrow.Author.Tests.{le-leb, lt-ltb, ltb-true, ltb-false}
-use Rattle.lists.specs.Answer.{Answer, given, refused, lent}
-use Rattle.lists.specs.Writing.{Wrote}
-use Rattle.lists.specs.Written.{Lent}
-use Rattle.lists.specs.declared.Written.the-variants.{Bytes, Refused}
-use Rattle.lists.proofs.Lent.{written, front, beyond}
+use lib.IntN.{ℤ}
+use borrow.Author.Tests.{lt-ltb, ltb-true, ltb-false}
 use Rattle.model.specs.Systems.{provided}
 use Rattle.model.specs.Listing.{noFile, tooLarge, listing, listingProgram}
-use Rattle.model.proofs.Answers.{Gives, given-injective}
 use Rattle.model.proofs.ReadingLaws.{clash}
-use Rattle.listing_program.specs.Printed.{Printed}
+use Rattle.listing.specs.declared.Rest.{Rest}
+use Rattle.listing.specs.declared.Part.{Part}
+use Rattle.listing.specs.Parts.{leftOf, Pending}
+use Rattle.listing_program.specs.Printed.{OnlyLine, FirstPart}
 
--- what `lent` answers for a text, by whether it fits
-abbrev answered : List ℕ → List ℕ → Bool → Answer ℕ × List ℕ
-answered text old fits = cond fits (given (length text), text ++ drop (length text) old) (refused 8 (length text), old)
-
-module _ {text old after : List ℕ} where
-  lent-long : {r : ℕ} → Lent old (given text) after (Bytes r) → r ≡ length text
-  unfolding lent
-  lent-long {r} l = go (leb (length text) (length old)) (ap (λ (z : Answer ℕ × List ℕ). z .0) (l .meets))
-    where
-      go : (fits : Bool) → given r ≡ answered text old fits .0 → r ≡ length text
-      go true e = given-injective e
-      go false e = absurd (subst Gives e tt)
-
-  module _ (fits : length text ≤ length old) where
-    -- 8 does not come
-    pub never-short : {number place : ℕ} → Lent old (given text) after (Refused number place) → ⊥
-    unfolding lent
-    never-short {number} {place} l = go (leb (length text) (length old)) (le-leb (length text) (length old) fits) (ap (λ (z : Answer ℕ × List ℕ). z .0) (l .meets))
-      where
-        go : (b : Bool) → b ≡ true → refused number place ≡ answered text old b .0 → ⊥
-        go true h e = subst Gives (sym e) tt
-        go false h e = clash (sym h)
-
-    pub printed : {r : ℕ} → Lent old (given text) after (Bytes r) → Printed text old after r
-    printed {r} l =
-        let e : r ≡ length text = lent-long l in
-        let f : take r after ≡ text = rw e (front refl fits l) in
-        let c : length (take r after) ≡ r = ap length f ∙ sym e in
-        record { long = e; front = f; beyond = rw e (beyond refl l); counts = (omega (arith, c, length-take r after), sym c) }
-
-    pub wrote-printed : {r : ℕ} → Wrote old 0 text after r → Printed text old after r
-    wrote-printed w = printed (written refl (omega (arith, w .place)) (omega (arith, w .place)) w)
-
-pub printed-as : {text other old after : List ℕ} {r : ℕ} → text ≡ other → Printed text old after r → Printed other old after r
-printed-as {old = old} {after} {r} e p = subst (λ (s : List ℕ). Printed s old after r) e p
-
--- ---- which text: `no file` comes first
 module _ (task plan : List ℕ) where
   pub prints-no-file : (a b : Bool) → (not a || not b) ≡ true → noFile ≡ listingProgram (provided a task) (provided b plan)
   unfolding listingProgram
@@ -71,7 +32,8 @@ module _ (task plan : List ℕ) where
   opened true false e = absurd (clash e)
   opened false b e = absurd (clash e)
 
-  pub prints-too-large : (a b : Bool) → (not a || not b) ≡ false → (ltb 16_384 (length task) || ltb 32_768 (length plan)) ≡ true → tooLarge ≡ listingProgram (provided a task) (provided b plan)
+  pub prints-too-large : (a b : Bool) → (not a || not b) ≡ false → (ltb 16_384 (length task) || ltb 32_768 (length plan)) ≡ true
+      → tooLarge ≡ listingProgram (provided a task) (provided b plan)
   unfolding listingProgram
   prints-too-large a b e h = sym (opened a b e ∙ go (ltb 16_384 (length task)) (ltb 32_768 (length plan)) h)
     where
@@ -80,7 +42,8 @@ module _ (task plan : List ℕ) where
       go false true h = refl
       go false false h = absurd (clash (sym h))
 
-  pub prints-listing : (a b : Bool) → (not a || not b) ≡ false → (ltb 16_384 (length task) || ltb 32_768 (length plan)) ≡ false → listing task plan ≡ listingProgram (provided a task) (provided b plan)
+  pub prints-listing : (a b : Bool) → (not a || not b) ≡ false → (ltb 16_384 (length task) || ltb 32_768 (length plan)) ≡ false
+      → listing task plan ≡ listingProgram (provided a task) (provided b plan)
   unfolding listingProgram
   prints-listing a b e h = sym (opened a b e ∙ go (ltb 16_384 (length task)) (ltb 32_768 (length plan)) h)
     where
@@ -89,13 +52,17 @@ module _ (task plan : List ℕ) where
       go false true h = absurd (clash h)
       go false false h = refl
 
-  pub neither-too-large : (ltb 16_384 (length task) || ltb 32_768 (length plan)) ≡ false → (length task ≤ 16_384) × (length plan ≤ 32_768)
-  neither-too-large h = go (ltb 16_384 (length task)) (ltb 32_768 (length plan)) refl refl h
-    where
-      go : (c d : Bool) → ltb 16_384 (length task) ≡ c → ltb 32_768 (length plan) ≡ d → (c || d) ≡ false → (length task ≤ 16_384) × (length plan ≤ 32_768)
-      go true d e f h = absurd (clash h)
-      go false true e f h = absurd (clash h)
-      go false false e f h = (ltb-false 16_384 (length task) e, ltb-false 32_768 (length plan) f)
+-- ---- a line behind which nothing is left is the whole text
+module _ {line text : List ℕ} (e : line ≡ text) {after : List ℕ} {r : Part} (l : OnlyLine line after r) where
+  pub first-line : (p : List ℕ) (marks : List (List ℕ)) (numbers : List (List ℤ)) (values : List ℤ) (modes : List ℕ)
+      → FirstPart text p marks numbers values modes after r
+  first-line p marks numbers values modes = record {
+    left =
+        sym (l .front ∙ e) ∙ sym (append-nil (take (r .count) after))
+        ∙ ap (λ (z : Rest). take (r .count) after ++ leftOf z p marks numbers values modes) (sym (l .over));
+    counts = l .counts;
+    pending = subst (λ (z : Rest). Pending z p marks numbers values modes) (sym (l .over)) tt;
+  }
 
 -- ---- one byte more than the program takes is enough of a file
 more : (n : ℕ) (s : List ℕ) → ltb n (length s) ≡ true → ltb n (length (take (suc n) s)) ≡ true
@@ -109,7 +76,9 @@ unfolding listingProgram
 first-bytes-suffice task plan = go (ltb 16_384 (length task)) refl (ltb 32_768 (length plan)) refl
   where
     go : (c : Bool) → ltb 16_384 (length task) ≡ c → (d : Bool) → ltb 32_768 (length plan) ≡ d
-        → cond (ltb 16_384 (length (take 16_385 task))) tooLarge (cond (ltb 32_768 (length (take 32_769 plan))) tooLarge (listing (take 16_385 task) (take 32_769 plan))) ≡ cond c tooLarge (cond d tooLarge (listing task plan))
+        → cond (ltb 16_384 (length (take 16_385 task))) tooLarge
+        (cond (ltb 32_768 (length (take 32_769 plan))) tooLarge (listing (take 16_385 task) (take 32_769 plan)))
+        ≡ cond c tooLarge (cond d tooLarge (listing task plan))
     go true e d f = rw (more 16_384 task e)
     go false e true f = rw (whole 16_384 task e, e, more 32_768 plan f)
     go false e false f = rw (whole 16_384 task e, e, whole 32_768 plan f, f)

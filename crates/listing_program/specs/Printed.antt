@@ -1,15 +1,23 @@
--- What a program's text is, once it stands in lent output.
+-- What the program prints first, and what is left behind it.
 -- Assumes nothing.
 use mathlib.Core.Path.{_≡_}
 use Prim.Native.Nat.{ℕ}
-use mathlib.Core.List.{List}
-use lib.ListN.{length, take, drop}
+use mathlib.Core.List.{List, _++_}
+use lib.ListN.{take}
+use lib.IntN.{ℤ}
 use Rattle.io.specs.Counts.{Counts}
+use Rattle.listing.specs.declared.Part.{Part}
+use Rattle.listing.specs.declared.Rest.the-variants.{Nothing}
+use Rattle.listing.specs.Parts.{leftOf, Pending}
 
--- of output that held `old` and holds `after`: the text stands at its front, r bytes long, and the rest is as it was. (That r counts bytes of
--- the output follows; it is said for a caller that takes them.)
-pub record Printed (text old after : List ℕ) (r : ℕ) : Type 0 where
-  pub long : r ≡ length text
-  pub front : take r after ≡ text
-  pub beyond : drop r after ≡ drop r old
-  pub counts : Counts r after
+-- of output that holds `after`: the text stands at its front, and nothing is left behind it
+pub record OnlyLine (text after : List ℕ) (r : Part) : Type 0 where
+  pub front : take (r .count) after ≡ text
+  pub counts : Counts (r .count) after
+  pub over : r .rest ≡ Nothing
+
+-- a text is the first bytes of the output and what is left, by the numbers of the plan, the rows of the task and the state before the first step
+pub record FirstPart (text p : List ℕ) (marks : List (List ℕ)) (numbers : List (List ℤ)) (values : List ℤ) (modes after : List ℕ) (r : Part) : Type 0 where
+  pub left : text ≡ take (r .count) after ++ leftOf (r .rest) p marks numbers values modes
+  pub counts : Counts (r .count) after
+  pub pending : Pending (r .rest) p marks numbers values modes

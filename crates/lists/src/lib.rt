@@ -35,18 +35,17 @@ pub fn put_number(out: &mut [u8], at: usize, n: u32, width: usize) -> usize
     place
 }
 
-// The first n bytes of an array; 16, since no command is longer.
-pub fn put_bytes(out: &mut [u8], at: usize, bytes: [u8; 16], n: usize) -> usize
-    requires { ⌜ n ≤ 16 ⌝ }
-    requires { ⌜ Room (now out) at (take n bytes) ⌝ }
-    ensures { λ r. ⌜ Wrote (now (out .entry)) at (take n bytes) (now (out .exit)) r ⌝ }
+// Bytes as they are.
+pub fn put_bytes(out: &mut [u8], at: usize, bytes: &[u8]) -> usize
+    requires { ⌜ Room (now out) at (now bytes) ⌝ }
+    ensures { λ r. ⌜ Wrote (now (out .entry)) at (now (bytes .entry)) (now (out .exit)) r ⌝ }
 {
     if out.len() == 0 {
-        return at + n;
+        return at + bytes.len();
     }
     let mut place = at;
-    let mut i = 0;
-    while i < n {
+    let mut i: usize = 0;
+    while i < bytes.len() {
         out[place] = bytes[i];
         place += 1;
         i += 1;

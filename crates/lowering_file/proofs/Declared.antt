@@ -12,13 +12,13 @@ use Rattle.integers.specs.All.{All}
 use Rattle.integers.specs.Numbers.{Bytes}
 use Rattle.lists.specs.Answer.{given}
 use Rattle.lists.specs.Writing.{splice}
-use Rattle.model.specs.Tasks.{SourceVariable, NumericCondition, RestrictedAction, State}
+use Rattle.model.specs.Tasks.{SourceVariable, NumericCondition, State}
 use Rattle.model.specs.Limits.{sourceLimits}
 use Rattle.model.specs.Reading.{verdictOf}
 use Rattle.model.specs.Decoding.{sourceActionOf, readSource}
 use Rattle.model.specs.ActionBytes.{decodeAction}
 use Rattle.model.specs.TaskOk.{ConditionOk}
-use Rattle.model.specs.Steps.{integerAt, sizesOf, sourceStart}
+use Rattle.model.specs.Steps.{integerAt, sourceStart}
 use Rattle.model.proofs.AcceptedOk.{accepted-source-ok}
 use Rattle.model.proofs.LoweredOk.{lowered-task-ok}
 use Rattle.file_actions.specs.declared.SourceAction.{SourceAction as DecodedSource}
@@ -29,11 +29,10 @@ use Rattle.file_declarations.specs.declared.Declared.{Declared}
 use Rattle.file_declarations.specs.Holding.{HoldsSource}
 use Rattle.source_step.specs.Accepted.{AcceptedWith}
 use Rattle.source_step.proofs.Judging.{accepted-task, counted-task}
-use Rattle.file_parts.specs.Row.{rowIs}
-use Rattle.file_parts.proofs.Pushing.{room-for}
+use Rattle.file_parts.proofs.Pushing.{parts-fit}
 use Rattle.lowering_rows.specs.Macros.{Constant, Fit}
 use Rattle.lowering_file.specs.Parts.{modeAt, modesIn, Constants}
-use Rattle.lowering_file.specs.Held.{taskOf, PlacesOf, Declares, goalOf, GoalOf}
+use Rattle.lowering_file.specs.Held.{taskOf, PlacesOf, Declares, GoalOf}
 
 -- ---- lists
 front-small : (n : ℕ) (xs ys : List ℤ) (i : ℕ) → All (λ (z : ℤ). natAbs z ≤ n) (xs ++ ys) → i < length xs → natAbs (integerAt xs i) ≤ n
@@ -102,7 +101,7 @@ module _ (file : List ℕ) (count : ℕ) (bytes : Bytes file) (accepted : Accept
       let ok = accepted-source-ok file (taskOf file) is .goal in
       record {
         writable = record {
-          room = room-for says (record {
+          room = parts-fit says (record {
             conditions = omega (arith, ok .conditionsFew);
             modeConditions = omega (arith, ok .modeConditionsFew);
             modeEffects = omega arith;

@@ -1,7 +1,7 @@
 -- The lowered task's file by its parts, as they are written; that it is short enough to be counted; and what a file that is refused, or
 -- accepted, comes to.
 -- Assumes nothing.
-use mathlib.Core.Path.{_≡_, refl, sym, ap, ap₂, _∙_, subst}
+use mathlib.Core.Path.{_≡_, refl, sym, ap, ap₂, _∙_}
 use mathlib.Core.List.{List, [], _∷_, _++_, flatMap, append-assoc, append-nil}
 use Prim.Native.Nat.{ℕ, suc, _+_, _*_, _≤_, _<_}
 use native.Mathlib.Omega.{arith}
@@ -12,6 +12,7 @@ use Rattle.integers.specs.Numbers.{bitsOf}
 use Rattle.lists.specs.Answer.{Answer, given, refused, then}
 use Rattle.lists.proofs.Each.{flatMap-nil, flatMap-append, length-flatMap}
 use Rattle.lists.proofs.Writing.{joined, Left, start}
+use Rattle.commands.specs.Table.{letterA, letterG}
 use Rattle.commands.specs.Encoding.{encode, encodeAll}
 use Rattle.commands.specs.declared.Command.{Command}
 use Rattle.commands.specs.declared.Command.the-variants.{Start, Mode, Goal, End}
@@ -21,7 +22,7 @@ use Rattle.model.specs.TaskOk.{ValuesIn, keys, RestrictedActionOk, RestrictedTa
 use Rattle.model.specs.Reading.{Verdict, Rejected, verdictOf}
 use Rattle.model.specs.Decoding.{onVerdict, readSource}
 use Rattle.model.specs.Steps.{sizesOf, sourceStart}
-use Rattle.model.specs.Lowering.{startCommands, modeCommands, encodeFile, lowerTask, lowerFile}
+use Rattle.model.specs.Lowering.{startCommands, modeCommands, modeConditionCommands, conditionCommands, encodeFile, lowerTask, lowerFile}
 use Rattle.model.specs.Judging.{lowerBytes}
 use Rattle.model.proofs.AcceptedOk.{accepted-source-ok}
 use Rattle.model.proofs.LoweredOk.{lowered-task-ok}
@@ -33,8 +34,8 @@ use Rattle.lowering_rows.specs.Bytes.{modeConditionBytes, conditionBytes, modeE
 use Rattle.lowering_rows.proofs.Parts.{run-bytes, mode-conditions-bytes, conditions-bytes, actions-bytes}
 use Rattle.lowering_rows.proofs.Writing.{action-row}
 use Rattle.lowering_file.specs.declared.Declarations.{Declarations}
-use Rattle.lowering_file.specs.Parts.{startBytes, modeBytes, goalBytes, modesIn}
-use Rattle.lowering_file.specs.Held.{taskOf, Declares, goalOf, GoalOf, stagesOfTask, fileWith}
+use Rattle.lowering_file.specs.Parts.{startBytes, modeBytes, modesIn}
+use Rattle.lowering_file.specs.Held.{taskOf, Declares, GoalOf, stagesOfTask, fileWith}
 
 -- ---- the starts, the modes, and the whole file
 starts-bytes : (zs : List ℤ) (more : List Command) → encodeAll (startCommands zs more) ≡ flatMap startBytes zs ++ encodeAll more
@@ -51,6 +52,10 @@ pub modes-begun : (old : List ℕ) (at : ℕ) (ms : List (ℕ × ℕ)) (m : ℕ 
 unfolding flatMap
 modes-begun old at ms m = start old at (flatMap-append modeBytes ms (m ∷ []))
 
+-- a goal, up to the end of the file
+abbrev goalBytes : List (ℕ × ℕ) → List (NumericCondition ℕ) → List ℕ
+goalBytes ps cs = encodeAll (Goal ∷ modeConditionCommands ps (conditionCommands cs [])) ++ encode End
+
 abbrev fileParts : RestrictedTask → List (List ℕ)
 fileParts r = flatMap startBytes (r .starts) ∷ flatMap modeBytes (r .modes) ∷ flatMap restrictedActionBytes (r .actions) ∷ goalBytes (r .goalModes) (r .goalConditions) ∷ []
 
@@ -66,7 +71,7 @@ file-parts r =
     (sym (append-nil (goalBytes (r .goalModes) (r .goalConditions))))
 
 -- ---- a goal is written as a row with byte G, and the end behind it
-goal-bytes : (ps : List (ℕ × ℕ)) (cs : List (NumericCondition ℕ)) → goalBytes ps cs ≡ rowBytes 71 (record { modeConditions = ps; conditions = cs; modeEffects = []; additions = [] }) ++ encode End
+goal-bytes : (ps : List (ℕ × ℕ)) (cs : List (NumericCondition ℕ)) → goalBytes ps cs ≡ rowBytes letterG (record { modeConditions = ps; conditions = cs; modeEffects = []; additions = [] }) ++ encode End
 goal-bytes ps cs =
     ap (λ (z : List ℕ). (encode Goal ++ z) ++ encode End)
     (mode-conditions-bytes ps _ ∙ ap (λ (z : List ℕ). flatMap modeConditionBytes ps ++ z) (conditions-bytes cs [] ∙ ap (λ (z : List ℕ). flatMap conditionBytes cs ++ z) (sym none)))
@@ -81,7 +86,7 @@ goal-begun old at row = start old at (ap (λ (z : List ℕ). row ++ z) (sym (app
 abbrev taskParts : List ℤ → List (ℕ × ℕ) → ℕ → List RestrictedAction → RestrictedAction → ℕ → List (List ℕ)
 taskParts starts modes size acts goal control =
     flatMap startBytes (starts ++ (pos 0 ∷ pos 0 ∷ [])) ∷ flatMap modeBytes (modes ++ ((size, 0) ∷ [])) ∷ flatMap restrictedActionBytes acts
-    ∷ (rowBytes 71 (withModeCondition goal (control, 0)) ++ encode End) ∷ []
+    ∷ (rowBytes letterG (withModeCondition goal (control, 0)) ++ encode End) ∷ []
 
 abbrev pub partsOf : List ℕ → Declarations → DecodedSource → ℕ → List (List ℕ)
 partsOf file d g size =
@@ -107,7 +112,7 @@ module _ (file : List ℕ) (count : ℕ) (d : Declarations) (g : DecodedSource) 
 pub same-long : (file : List ℕ) (d : Declarations) (g : DecodedSource) (c c′ : ℕ) → length (fileWith file d g c) ≡ length (fileWith file d g c′)
 same-long file d g c c′ =
     by (flatMap startBytes (take (d .shape .variables) (d .starts) ++ (pos 0 ∷ pos 0 ∷ [])))
-    (flatMap restrictedActionBytes (lowerTask (taskOf file) .actions) ++ ((rowBytes 71 (withModeCondition (rowIs (g .marks) (g .numbers)) (d .shape .modes, 0)) ++ encode End) ++ []))
+    (flatMap restrictedActionBytes (lowerTask (taskOf file) .actions) ++ ((rowBytes letterG (withModeCondition (rowIs (g .marks) (g .numbers)) (d .shape .modes, 0)) ++ encode End) ++ []))
     (flatMap modeBytes (ms ++ ((c, 0) ∷ []))) (flatMap modeBytes (ms ++ ((c′, 0) ∷ []))) (long c ∙ sym (long c′))
   where
     ms : List (ℕ × ℕ)
@@ -144,7 +149,7 @@ module _ (n : ℕ) (sizes : List ℕ) (few : length sizes ≤ 8) where
   action-short a h = omega (
     arith,
     ap length (action-row a),
-    row-length 65 a,
+    row-length letterA a,
     h .conditionsOk .modeConditionsFew,
     h .conditionsOk .conditionsFew,
     few-distinct (length sizes) (keys (a .modeEffects)) (set-below (a .modeEffects) (h .modeEffectsIn)) (h .modeEffectsOnce),
@@ -170,8 +175,8 @@ file-short r h = omega (
   length-flatMap modeBytes 5 (λ y. refl) (r .modes),
   actions-short (length (r .starts)) (sizesOf (r .modes)) (omega (arith, h .modesFew, length-map (r .modes) (λ (m : ℕ × ℕ). m .0))) (r .actions) (h .actionsOk),
   ap length (goal-bytes (r .goalModes) (r .goalConditions)),
-  length-append (rowBytes 71 (record { modeConditions = r .goalModes; conditions = r .goalConditions; modeEffects = []; additions = [] })) (encode End),
-  row-length 71 (record { modeConditions = r .goalModes; conditions = r .goalConditions; modeEffects = []; additions = [] }),
+  length-append (rowBytes letterG (record { modeConditions = r .goalModes; conditions = r .goalConditions; modeEffects = []; additions = [] })) (encode End),
+  row-length letterG (record { modeConditions = r .goalModes; conditions = r .goalConditions; modeEffects = []; additions = [] }),
   h .startsFew,
   h .modesFew,
   h .actionsFew,

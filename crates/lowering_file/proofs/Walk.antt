@@ -29,6 +29,7 @@ use Rattle.file_actions.proofs.Accepted.{source-action-decoded, source-action-w
 use Rattle.lowering_stages.specs.declared.Shape.{Shape}
 use Rattle.file_parts.specs.Layout.{modeEffectCount}
 use Rattle.file_parts.specs.Row.{modeEffectIn, rowIs}
+use Rattle.lowering_stages.specs.Stages.{mostStages, stageNumbers}
 use Rattle.lowering_stages.specs.Shapes.{lowerOf, upperOf, Bounded}
 use Rattle.lowering_rows.specs.Macros.{Lowerable, stagesIn, macroIn, Sound}
 use Rattle.lowering_rows.proofs.Staging.{numbered-append, drop-get}
@@ -161,7 +162,7 @@ pub record Walk (file : List ℕ) (count : ℕ) (h : Shape) (k from : ℕ) : Typ
   pub held : Held file count h
   pub bound : k ≤ count
   pub low : 0 < from
-  pub high : from ≤ 1 + 10 * k
+  pub high : from ≤ 1 + mostStages * k
   pub sound : Sound (restAt file from k)
   pub stages : from + stageCount (lowerBounds (taskOf file)) (upperBounds (taskOf file)) (drop k (taskOf file .actions)) ≡ suc (stagesOfTask file)
 
@@ -174,13 +175,13 @@ module _ {file : List ℕ} {count : ℕ} {h : Shape} {k from : ℕ} (w : Walk fi
     macro-sound = sound-left (macroIn h from a) _ (subst Sound (rest-split (w .held) k below a decoded from (length (stagesIn h a)) refl) (w .sound))
 
     -- what a macro requires
-    pub macro-ready : Lowerable h a × (0 < from) × (from ≤ 1000) × Sound (macroIn h from a)
+    pub macro-ready : Lowerable h a × (0 < from) × (from ≤ stageNumbers) × Sound (macroIn h from a)
     macro-ready = (lowerable (w .held) k below a decoded, w .low, omega (arith, w .high, w .bound, few-actions (w .held)), macro-sound)
 
     pub walk-split : (s : ℕ) → s ≡ length (stagesIn h a) → restAt file from k ≡ macroIn h from a ++ restAt file (from + s) (k + 1)
     walk-split s e = rest-split (w .held) k below a decoded from s e
 
-    pub walk-next : (s : ℕ) → s ≡ length (stagesIn h a) → s ≤ 10 → Walk file count h (k + 1) (from + s)
+    pub walk-next : (s : ℕ) → s ≡ length (stagesIn h a) → s ≤ mostStages → Walk file count h (k + 1) (from + s)
     walk-next s e l = record {
       held = w .held;
       bound = omega arith;

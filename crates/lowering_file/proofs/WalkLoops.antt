@@ -12,6 +12,7 @@ use Rattle.model.specs.ActionBytes.{actionPart, decodeAction}
 use Rattle.file_actions.specs.declared.SourceAction.{SourceAction as DecodedSource}
 use Rattle.file_actions.specs.Views.{SourceDecoded, fittingSource}
 use Rattle.lowering_stages.specs.declared.Shape.{Shape}
+use Rattle.lowering_stages.specs.Stages.{mostStages}
 use Rattle.lowering_rows.specs.Bytes.{restrictedActionBytes}
 use Rattle.lowering_rows.specs.Macros.{stagesIn, macroIn}
 use Rattle.lowering_file.specs.Held.{Held, restAt}
@@ -41,7 +42,7 @@ module _ {file : List ℕ} {count : ℕ} {h : Shape} where
       pub putting-room : Room old at (flatMap restrictedActionBytes (restAt file 1 0)) → Room out place (flatMap restrictedActionBytes (macroIn h from a))
       putting-room r = room r parted
 
-      pub putting-next : {after : List ℕ} {next : ℕ} → s ≤ 10 → Wrote out place (flatMap restrictedActionBytes (macroIn h from a)) after next → Putting file count h old at after next (k + 1) (from + s)
+      pub putting-next : {after : List ℕ} {next : ℕ} → s ≤ mostStages → Wrote out place (flatMap restrictedActionBytes (macroIn h from a)) after next → Putting file count h old at after next (k + 1) (from + s)
       putting-next l w = record { walk = walk-next (p .walk) below a decoded s stages l; left = step parted w }
 
   pub putting-end : {old : List ℕ} {at : ℕ} {out : List ℕ} {place k from : ℕ} → Putting file count h old at out place k from → count ≤ k → Wrote old at (flatMap restrictedActionBytes (restAt file 1 0)) out place

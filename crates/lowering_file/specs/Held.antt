@@ -14,9 +14,11 @@ use Rattle.model.specs.Decoding.{sourceTaskOf, readSource}
 use Rattle.model.specs.Steps.{lowerBounds, upperBounds, sourceStart}
 use Rattle.model.specs.Stages.{lowerActions, stageCount}
 use Rattle.model.specs.Lowering.{numberedAll, lowerTask}
+use Rattle.commands.specs.Table.{letterG}
 use Rattle.commands.specs.Encoding.{encode}
 use Rattle.commands.specs.declared.Command.the-variants.{End}
 use Rattle.file_actions.specs.declared.SourceAction.{SourceAction as DecodedSource}
+use Rattle.source_step.specs.Sizes.{VARIABLES}
 use Rattle.lowering_stages.specs.declared.Shape.{Shape}
 use lib.IntN.{pos}
 use Rattle.file_parts.specs.Row.{rowIs}
@@ -46,7 +48,7 @@ PlacesOf file count places = (k : ℕ) → k ≤ count → getD places k 0 ≡ e
 -- besides, the starts and the modes that it declares
 pub record Declares (file : List ℕ) (count : ℕ) (d : Declarations) : Type 0 where
   pub held : Held file count (d .shape)
-  pub startsLong : length (d .starts) ≡ 8
+  pub startsLong : length (d .starts) ≡ VARIABLES
   pub startsIn : Constants (d .shape .variables) (d .starts)
   pub startsAre : take (d .shape .variables) (d .starts) ≡ sourceStart (taskOf file) .values
   pub modesAre : modesIn (d .shape .modes) (d .shape .sizes) (d .values) ≡ taskOf file .modes
@@ -75,4 +77,4 @@ fileWith file d g size =
     flatMap startBytes (take (d .shape .variables) (d .starts) ++ (pos 0 ∷ pos 0 ∷ []))
     ++ (flatMap modeBytes (modesIn (d .shape .modes) (d .shape .sizes) (d .values) ++ ((size, 0) ∷ []))
     ++ (flatMap restrictedActionBytes (lowerTask (taskOf file) .actions)
-    ++ ((rowBytes 71 (withModeCondition (rowIs (g .marks) (g .numbers)) (d .shape .modes, 0)) ++ encode End) ++ [])))
+    ++ ((rowBytes letterG (withModeCondition (rowIs (g .marks) (g .numbers)) (d .shape .modes, 0)) ++ encode End) ++ [])))

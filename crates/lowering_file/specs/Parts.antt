@@ -2,29 +2,24 @@
 -- Assumes nothing.
 use mathlib.Core.Path.{_≡_}
 use Prim.Native.Nat.{ℕ, _<_}
-use mathlib.Core.List.{List, [], _∷_, _++_}
+use mathlib.Core.List.{List}
 use lib.ListN.{length, getD}
 use lib.IntN.{ℤ, pos, natAbs}
 use Rattle.integers.specs.Numbers.{bitsOf}
 use Rattle.lists.specs.Each.{tabulate}
-use Rattle.commands.specs.Encoding.{encode, encodeAll}
-use Rattle.commands.specs.declared.Command.the-variants.{Start, Mode, Goal, End}
-use Rattle.model.specs.Tasks.{NumericCondition}
+use Rattle.commands.specs.Encoding.{encode}
+use Rattle.commands.specs.declared.Command.the-variants.{Start, Mode}
 use Rattle.model.specs.Steps.{naturalAt}
-use Rattle.model.specs.Lowering.{modeConditionCommands, conditionCommands}
 use Rattle.file_parts.specs.Layout.{NUMBERS}
-use Rattle.file_parts.specs.Row.{rowIs, RoomFor}
+use Rattle.file_parts.specs.Row.{rowIs, PartsFit}
 use Rattle.lowering_rows.specs.Macros.{Fit}
 
--- ---- the bytes of a U and of an M; and of a goal, up to the end of the file
+-- ---- the bytes of a U and of an M
 abbrev pub startBytes : ℤ → List ℕ
 startBytes z = encode (Start (bitsOf 4 z))
 
 abbrev pub modeBytes : ℕ × ℕ → List ℕ
 modeBytes m = encode (Mode (m .0) (m .1))
-
-abbrev pub goalBytes : List (ℕ × ℕ) → List (NumericCondition ℕ) → List ℕ
-goalBytes ps cs = encodeAll (Goal ∷ modeConditionCommands ps (conditionCommands cs [])) ++ encode End
 
 -- ---- modes as two arrays have them: sizes and values
 abbrev pub modeAt : List ℕ → List ℕ → ℕ → ℕ × ℕ
@@ -39,6 +34,6 @@ Constants count constants = (i : ℕ) → i < count → natAbs (getD constants i
 
 -- the rows of a goal, which has room for one P more
 pub record GoalWritable (marks : List ℕ) (numbers : List ℤ) : Type 0 where
-  pub room : RoomFor 0 1 0 0 marks
+  pub room : PartsFit 0 1 0 0 marks
   pub numbersLong : length numbers ≡ NUMBERS
   pub fit : Fit (rowIs marks numbers)

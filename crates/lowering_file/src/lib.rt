@@ -18,11 +18,13 @@ ghost use Rattle.model.specs.Limits.{sourceLimits};
 ghost use Rattle.model.specs.Reading.{verdictOf};
 ghost use Rattle.model.specs.Decoding.{sourceActionOf};
 ghost use Rattle.model.specs.ActionBytes.{actionPart, decodeAction};
+ghost use Rattle.commands.specs.Table.{letterG};
 ghost use Rattle.commands.specs.Encoding.{encode};
 ghost use Rattle.commands.specs.declared.Command.the-variants.{End};
 ghost use Rattle.file_actions.specs.Views.{SourceDecoded, fittingSource};
 ghost use Rattle.model.specs.Lowering.{lowerTask};
 ghost use Rattle.model.specs.Judging.{lowerBytes};
+ghost use Rattle.source_step.specs.Sizes.{VARIABLES, MODES, ACTIONS};
 ghost use Rattle.source_step.specs.Accepted.{AcceptedWith};
 ghost use Rattle.file_parts.specs.Row.{rowIs};
 ghost use Rattle.file_parts.specs.With.{withModeCondition};
@@ -52,7 +54,7 @@ fn find_places(file: &[u8], count: usize) -> [usize; PLACES]
 
 // Action k of a file with so many actions, which begin at these places.
 fn decode_action(file: &[u8], places: &[usize; PLACES], count: usize, k: usize) -> SourceAction
-    requires { ⌜ PlacesOf (now file) count (now places) × (k < count) × (count ≤ 32) ⌝ }
+    requires { ⌜ PlacesOf (now file) count (now places) × (k < count) × (count ≤ ACTIONS) ⌝ }
     ensures { λ r. ⌜ SourceDecoded (fittingSource (sourceActionOf (decodeAction (actionPart (now (file .entry)) k)))) r ⌝ }
 {
     let start = places[k];
@@ -139,7 +141,7 @@ fn read_goal(file: &[u8], count: usize) -> SourceAction
 
 // The U of the first n of an array.
 fn put_declared_starts(out: &mut [u8], at: usize, n: usize, starts: &[i64; VARIABLES]) -> usize
-    requires { ⌜ (n ≤ 8) × (length (now starts) ≡ 8) ⌝ }
+    requires { ⌜ (n ≤ VARIABLES) × (length (now starts) ≡ VARIABLES) ⌝ }
     requires { ⌜ Constants n (now starts) ⌝ }
     requires { ⌜ Room (now out) at (flatMap startBytes (take n (now starts))) ⌝ }
     ensures { λ r. ⌜ Wrote (now (out .entry)) at (flatMap startBytes (take n (now (starts .entry)))) (now (out .exit)) r ⌝ }
@@ -156,7 +158,7 @@ fn put_declared_starts(out: &mut [u8], at: usize, n: usize, starts: &[i64; VARIA
 
 // All U: those of n declared variables, then those of A and B.
 fn put_starts(out: &mut [u8], at: usize, n: usize, starts: &[i64; VARIABLES]) -> usize
-    requires { ⌜ (n ≤ 8) × (length (now starts) ≡ 8) ⌝ }
+    requires { ⌜ (n ≤ VARIABLES) × (length (now starts) ≡ VARIABLES) ⌝ }
     requires { ⌜ Constants n (now starts) ⌝ }
     requires { ⌜ Room (now out) at (flatMap startBytes (take n (now starts) ++ (pos 0 ∷ pos 0 ∷ []))) ⌝ }
     ensures { λ r. ⌜ Wrote (now (out .entry)) at (flatMap startBytes (take n (now (starts .entry)) ++ (pos 0 ∷ pos 0 ∷ []))) (now (out .exit)) r ⌝ }
@@ -174,7 +176,7 @@ fn put_declared_modes<'a>(
     sizes: &'a [u16; MODES],
     values: &'a [u16; MODES],
 ) -> usize
-    requires { ⌜ n ≤ 4 ⌝ }
+    requires { ⌜ n ≤ MODES ⌝ }
     requires { ⌜ Room (now out) at (flatMap modeBytes (modesIn n (now sizes) (now values))) ⌝ }
     ensures { λ r. ⌜ Wrote (now (out .entry)) at (flatMap modeBytes (modesIn n (now (sizes .entry)) (now (values .entry)))) (now (out .exit)) r ⌝ }
 {
@@ -196,7 +198,7 @@ fn put_modes<'a>(
     values: &'a [u16; MODES],
     control: u16,
 ) -> usize
-    requires { ⌜ n ≤ 4 ⌝ }
+    requires { ⌜ n ≤ MODES ⌝ }
     requires { ⌜ Room (now out) at (flatMap modeBytes (modesIn n (now sizes) (now values) ++ ((control, 0) ∷ []))) ⌝ }
     ensures { λ r. ⌜ Wrote (now (out .entry)) at (flatMap modeBytes (modesIn n (now (sizes .entry)) (now (values .entry)) ++ ((control, 0) ∷ [])))
         (now (out .exit)) r ⌝ }
@@ -208,8 +210,8 @@ fn put_modes<'a>(
 // The goal, control at 0 with it, and the end of the file.
 fn put_goal(out: &mut [u8], at: usize, goal: SourceAction, control: u8) -> usize
     requires { ⌜ GoalWritable (goal .marks) (goal .numbers) ⌝ }
-    requires { ⌜ Room (now out) at (rowBytes 71 (withModeCondition (rowIs (goal .marks) (goal .numbers)) (control, 0)) ++ encode End) ⌝ }
-    ensures { λ r. ⌜ Wrote (now (out .entry)) at (rowBytes 71 (withModeCondition (rowIs (goal .marks) (goal .numbers)) (control, 0)) ++ encode End)
+    requires { ⌜ Room (now out) at (rowBytes letterG (withModeCondition (rowIs (goal .marks) (goal .numbers)) (control, 0)) ++ encode End) ⌝ }
+    ensures { λ r. ⌜ Wrote (now (out .entry)) at (rowBytes letterG (withModeCondition (rowIs (goal .marks) (goal .numbers)) (control, 0)) ++ encode End)
         (now (out .exit)) r ⌝ }
 {
     let mut marks = goal.marks;

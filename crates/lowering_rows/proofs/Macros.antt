@@ -3,18 +3,18 @@
 use mathlib.Core.Path.{_≡_, refl, sym, ap, ap₂, _∙_}
 use mathlib.Core.Bool.{cond}
 use mathlib.Core.List.{List, [], _∷_, _++_, flatMap, append-nil}
-use Prim.Native.Nat.{ℕ, zero, suc, _≤_, _<_}
+use Prim.Native.Nat.{ℕ, zero, suc}
 use native.Mathlib.Omega.{arith}
 use borrow.Author.Tests.{ne-eqb}
 use lib.Dec.{eqb}
 use lib.ListN.{length}
-use lib.IntN.{ℤ, pos, negsuc, natAbs}
+use lib.IntN.{ℤ, pos, negsuc}
 use Rattle.integers.specs.All.{All}
 use Rattle.lists.proofs.Writing.{Left, start}
-use Rattle.model.specs.Tasks.{Measured, variable, weightedSum, NumericCondition, Effect, SourceAction, RestrictedAction}
+use Rattle.model.specs.Tasks.{Measured, variable, weightedSum, NumericCondition, SourceAction, RestrictedAction}
 use Rattle.model.specs.Limits.{restrictedLimits}
-use Rattle.model.specs.TaskOk.{AmountOk, ConditionOk, RestrictedActionOk}
-use Rattle.model.specs.Stages.{Name, Stage, onSource, onSourceTerms, onSourceVariables, addedBound, openingAdditions, openingAction, firstStage, stagesOf, stagesActions, macro}
+use Rattle.model.specs.TaskOk.{AmountOk, ConditionOk}
+use Rattle.model.specs.Stages.{Name, Stage, onSource, onSourceTerms, onSourceVariables, addedBound, openingAction, firstStage, stagesOf, stagesActions, macro}
 use Rattle.model.specs.Lowering.{numberedAdditions, numberedMeasure, numberedConditions, numbered, numberedAll}
 use Rattle.file_actions.specs.declared.Effect.{Effect as DecodedEffect}
 use Rattle.file_actions.specs.declared.Effect.the-variants.{None, Add, Linear, Quotient, Residue}
@@ -23,7 +23,7 @@ use Rattle.file_parts.specs.With.{sourcePart}
 use Rattle.lowering_stages.specs.Openings.{withOpening}
 use Rattle.lowering_stages.specs.Stages.{targetIs}
 use Rattle.lowering_rows.specs.Bytes.{restrictedActionBytes}
-use Rattle.lowering_rows.specs.Macros.{Constant, Amount, Fit, MacroFit, macroWith, Sound}
+use Rattle.lowering_rows.specs.Macros.{Constant, Amount, MacroFit, macroWith, Sound}
 
 -- ---- the source's conditions, numbered, are themselves
 terms-back : (n : ℕ) (ts : List (ℕ × ℤ)) → numberedAdditions n (onSourceTerms ts) ≡ ts

@@ -1,20 +1,17 @@
 -- The bytes of actions are those of their parts, one behind another.
 -- Assumes nothing.
-use mathlib.Core.Path.{_≡_, refl, sym, ap, ap₂, _∙_}
-use Prim.Native.Nat.{ℕ, _+_, _*_}
-use native.Mathlib.Omega.{arith}
-use mathlib.Core.List.{List, [], _∷_, _++_, append-assoc, append-nil, flatMap}
-use lib.ListN.{length, length-append}
+use mathlib.Core.Path.{_≡_, refl, sym, ap, _∙_}
+use Prim.Native.Nat.{ℕ}
+use mathlib.Core.List.{List, [], _∷_, _++_, append-assoc, flatMap}
 use lib.IntN.{ℤ}
-use Rattle.lists.proofs.Each.{flatMap-nil, flatMap-cons, flatMap-append, length-flatMap}
-use Rattle.lists.proofs.Writing.{joined, Left, start}
+use Rattle.lists.proofs.Writing.{joined}
 use Rattle.commands.specs.Encoding.{encode, encodeAll}
 use Rattle.commands.specs.declared.Command.{Command}
-use Rattle.commands.specs.declared.Command.the-variants.{Start, Mode, Action, Condition, ModeCondition, ModeEffect, Add, Goal, End}
+use Rattle.commands.specs.declared.Command.the-variants.{Action, Condition, ModeCondition, ModeEffect, Add}
 use Rattle.integers.specs.Numbers.{bitsOf}
 use Rattle.integers.specs.Relation.{relationNumber}
-use Rattle.model.specs.Tasks.{NumericCondition, RestrictedAction, RestrictedTask}
-use Rattle.model.specs.Lowering.{variableOf, startCommands, modeCommands, modeConditionCommands, conditionCommands, modeEffectCommands, additionCommands, actionCommands, actionsCommands, encodeFile}
+use Rattle.model.specs.Tasks.{NumericCondition, RestrictedAction}
+use Rattle.model.specs.Lowering.{variableOf, modeConditionCommands, conditionCommands, modeEffectCommands, additionCommands, actionCommands, actionsCommands}
 use Rattle.lowering_rows.specs.Bytes.{modeConditionBytes, conditionBytes, modeEffectBytes, additionBytes, restrictedActionBytes}
 
 -- ---- commands in front of others, one for each element of a list

@@ -1,7 +1,7 @@
 -- The rows of a stage can be written, and are those of the model.
 -- Assumes nothing.
 use mathlib.Core.Path.{_≡_, refl, sym, ap, ap₂, _∙_, subst}
-use Prim.Native.Nat.{ℕ, zero, suc, _+_, _<_, _≤_}
+use Prim.Native.Nat.{ℕ, zero, suc, _<_, _≤_}
 use native.Mathlib.Omega.{arith}
 use mathlib.Core.Bool.{Bool, true, false, cond}
 use mathlib.Core.List.{List, [], _∷_, _++_, flatMap}
@@ -9,20 +9,21 @@ use lib.Dec.{eqb, lit≤}
 use mathlib.Core.Option.{some}
 use lib.ListN.{length, getD, getElem?}
 use lib.IntN.{ℤ, pos, negsuc, natAbs, negℤ, _-ℤ_}
+use Rattle.commands.specs.Table.{letterA}
 use Rattle.integers.specs.All.{All}
 use Rattle.integers.proofs.Parts.{ints, abs, sub, neg}
 use Rattle.lists.specs.Each.{tabulate}
 use Rattle.lists.proofs.Each.{length-tabulate}
 use Rattle.lists.proofs.Writing.{Left, start}
-use Rattle.model.specs.Tasks.{NumericCondition, RestrictedAction}
+use Rattle.model.specs.Tasks.{RestrictedAction}
 use Rattle.model.specs.Steps.{naturalAt, integerAt}
 use Rattle.model.specs.Stages.{Stage as ModelStage, stageActions}
 use Rattle.model.specs.Lowering.{numberedAll}
 use Rattle.file_parts.specs.Layout.{conditionCount, additionCount}
-use Rattle.file_parts.specs.Row.{conditionIn, additionIn, rowIs, Says}
-use Rattle.file_parts.proofs.Pushing.{Sized, room-for}
+use Rattle.file_parts.specs.Row.{conditionIn, additionIn, Says}
+use Rattle.file_parts.proofs.Pushing.{Sized, parts-fit}
 use Rattle.lowering_stages.specs.declared.Stage.{Stage}
-use Rattle.lowering_stages.specs.Stages.{signed, signedAt, thresholdIs, addedIs, strokeIs, turnIs, Small, Stands}
+use Rattle.lowering_stages.specs.Stages.{signed, signedAt, thresholdIs, strokeIs, turnIs, Small, Stands}
 use Rattle.lowering_stages.proofs.Rows.{difference-small, asked-few, falling-is, rising-is, turn-is}
 use Rattle.lowering_rows.specs.Macros.{Constant, Amount, Fit}
 use Rattle.lowering_rows.specs.Bytes.{restrictedActionBytes, rowBytes, Writable, stageRows}
@@ -44,7 +45,7 @@ module _ {A : Type 0} (P : A → Type 0) where
 -- ---- an action that can be written
 pub writable : {x : RestrictedAction} {marks : List ℕ} {numbers : List ℤ} → Says x marks numbers → Sized 0 0 0 0 x → Fit x → Writable marks numbers
 writable {x} {marks} {numbers} h s f = record {
-  few = room-for h s;
+  few = parts-fit h s;
   constants = all-at Constant (naturalAt marks conditionCount) (conditionIn marks numbers) (subst (All Constant) (sym (ap (λ (z : RestrictedAction). z .conditions) (h .is))) (f .constants));
   amounts = all-at Amount (naturalAt marks additionCount) (additionIn marks numbers) (subst (All Amount) (sym (ap (λ (z : RestrictedAction). z .additions) (h .is))) (f .amounts));
 }
@@ -101,17 +102,17 @@ module _ (s : Stage) (h : Small s) (m n : ℕ) where
   }
 
 pub stage-begun : (old : List ℕ) (at a m n next : ℕ) (s : Stage)
-    → Left old at (flatMap (rowBytes 65) (stageRows a m n next s)) old at (rowBytes 65 (strokeIs true m n s) ∷ rowBytes 65 (strokeIs false m n s) ∷ rowBytes 65 (turnIs a m n next s) ∷ [])
+    → Left old at (flatMap (rowBytes letterA) (stageRows a m n next s)) old at (rowBytes letterA (strokeIs true m n s) ∷ rowBytes letterA (strokeIs false m n s) ∷ rowBytes letterA (turnIs a m n next s) ∷ [])
 unfolding flatMap
 stage-begun old at a m n next s = start old at refl
 
 -- ---- as the model has them
-same-bytes : (xs : List RestrictedAction) → flatMap (rowBytes 65) xs ≡ flatMap restrictedActionBytes xs
+same-bytes : (xs : List RestrictedAction) → flatMap (rowBytes letterA) xs ≡ flatMap restrictedActionBytes xs
 unfolding flatMap
 same-bytes [] = refl
 same-bytes (x ∷ xs) = ap₂ _++_ (action-row x) (same-bytes xs)
 
-pub stage-is : (a m n next : ℕ) {d : ModelStage} {s : Stage} → Stands a d s → eqb n next ≡ false → flatMap (rowBytes 65) (stageRows a m n next s) ≡ flatMap restrictedActionBytes (numberedAll a m (stageActions n d next))
+pub stage-is : (a m n next : ℕ) {d : ModelStage} {s : Stage} → Stands a d s → eqb n next ≡ false → flatMap (rowBytes letterA) (stageRows a m n next s) ≡ flatMap restrictedActionBytes (numberedAll a m (stageActions n d next))
 stage-is a m n next {d} {s} h e = same-bytes (stageRows a m n next s) ∙ ap (flatMap restrictedActionBytes) (rw (falling-is a m n h, rising-is a m n h, turn-is a m n h next e))
 
 -- ---- stage j of a list

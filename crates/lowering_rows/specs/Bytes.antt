@@ -1,9 +1,9 @@
 -- The bytes of a restricted file by its parts: what one element of a list of the task makes; and the bytes of a parts row.
 -- Assumes nothing.
 use mathlib.Core.Path.{_≡_}
-use Prim.Native.Nat.{ℕ, _+_, _<_}
+use Prim.Native.Nat.{ℕ, _+_, _<_, _≤_}
 use mathlib.Core.List.{List, [], _∷_, _++_, flatMap}
-use mathlib.Core.Bool.{true, false}
+use mathlib.Core.Bool.{Bool, true, false, cond}
 use lib.ListN.{length}
 use lib.IntN.{ℤ, natAbs}
 use Rattle.integers.specs.Numbers.{bytesOf, bitsOf}
@@ -15,8 +15,8 @@ use Rattle.commands.specs.declared.Command.the-variants.{Condition, ModeConditi
 use Rattle.model.specs.Tasks.{NumericCondition, RestrictedAction}
 use Rattle.model.specs.Steps.{integerAt, naturalAt}
 use Rattle.model.specs.Lowering.{variableOf, actionCommands}
-use Rattle.file_parts.specs.Layout.{MARKS, NUMBERS, conditionCount, modeConditionCount, modeEffectCount, additionCount, additionAmount}
-use Rattle.file_parts.specs.Row.{modeConditionIn, modeEffectIn, RoomFor}
+use Rattle.file_parts.specs.Layout.{MARKS, NUMBERS, conditionCount, additionCount, additionAmount}
+use Rattle.file_parts.specs.Row.{PartsFit}
 use Rattle.lowering_stages.specs.declared.Stage.{Stage}
 use Rattle.lowering_stages.specs.Stages.{strokeIs, turnIs}
 
@@ -29,6 +29,10 @@ conditionBytes c = encode (Condition (variableOf (c .measured)) (relationNumber 
 
 abbrev pub modeEffectBytes : ℕ × ℕ → List ℕ
 modeEffectBytes e = encode (ModeEffect (e .0) (e .1))
+
+-- of an E, or else of a P
+abbrev pub modePartBytes : Bool → ℕ × ℕ → List ℕ
+modePartBytes effect p = cond effect (modeEffectBytes p) (modeConditionBytes p)
 
 abbrev pub additionBytes : ℕ × ℤ → List ℕ
 additionBytes e = encode (Add (e .0) (bitsOf 4 (e .1)))
@@ -44,16 +48,20 @@ rowBytes b x =
     ++ (flatMap modeConditionBytes (x .modeConditions)
     ++ (flatMap conditionBytes (x .conditions) ++ (flatMap modeEffectBytes (x .modeEffects) ++ (flatMap additionBytes (x .additions) ++ []))))
 
--- its P and its E, which stand in its marks alone
-abbrev pub modeConditionsIn : List ℕ → List (ℕ × ℕ)
-modeConditionsIn marks = tabulate (naturalAt marks modeConditionCount) (modeConditionIn marks)
+-- ---- its P or its E, which stand in its marks alone, by three places: of their count, of the first mode, of the first value
+abbrev pub modePartsIn : List ℕ → ℕ → ℕ → ℕ → List (ℕ × ℕ)
+modePartsIn marks count mode value = tabulate (naturalAt marks count) (λ i. (naturalAt marks (mode + i), naturalAt marks (value + i)))
 
-abbrev pub modeEffectsIn : List ℕ → List (ℕ × ℕ)
-modeEffectsIn marks = tabulate (naturalAt marks modeEffectCount) (modeEffectIn marks)
+-- what their writer requires: they stand within the marks
+pub record ModePartsThere (marks : List ℕ) (count mode value : ℕ) : Type 0 where
+  pub long : length marks ≡ MARKS
+  pub counted : count < MARKS
+  pub modes : mode + naturalAt marks count ≤ MARKS
+  pub values : value + naturalAt marks count ≤ MARKS
 
 -- what its writer requires: constants and amounts fit the width of a file's
 pub record Writable (marks : List ℕ) (numbers : List ℤ) : Type 0 where
-  pub few : RoomFor 0 0 0 0 marks
+  pub few : PartsFit 0 0 0 0 marks
   pub constants : (i : ℕ) → i < naturalAt marks conditionCount → natAbs (integerAt numbers i) < 2147483648
   pub amounts : (i : ℕ) → i < naturalAt marks additionCount → natAbs (integerAt numbers (additionAmount + i)) < 2147483648
 

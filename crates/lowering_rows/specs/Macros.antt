@@ -1,6 +1,5 @@
 -- What a source action becomes, from its rows and from its task; and what is known of both when it is lowered.
 -- Assumes nothing.
-use mathlib.Core.Path.{_≡_}
 use Prim.Native.Nat.{ℕ, _≤_, _<_}
 use mathlib.Core.List.{List, [], _∷_}
 use lib.ListN.{length}
@@ -12,7 +11,7 @@ use Rattle.model.specs.TaskOk.{EffectOk, RestrictedActionOk}
 use Rattle.model.specs.Stages.{Stage, firstStage, stagesOf, stagesActions, macro}
 use Rattle.model.specs.Lowering.{numberedAll}
 use Rattle.file_actions.specs.declared.SourceAction.{SourceAction as DecodedSource}
-use Rattle.file_actions.specs.Views.{sourceActionIs}
+use Rattle.file_actions.specs.Views.{termRoom, sourceActionIs}
 use Rattle.lowering_stages.specs.declared.Shape.{Shape}
 use Rattle.file_parts.specs.Row.{Says}
 use Rattle.file_parts.specs.With.{sourcePart}
@@ -45,10 +44,10 @@ MacroFit (x ∷ xs) = Fit x
 pub record Lowerable (h : Shape) (a : DecodedSource) : Type 0 where
   pub bounded : Bounded h
   pub parts : Says (sourcePart (sourceActionIs a)) (a .marks) (a .numbers)
-  pub termsFew : a .«term_count» ≤ 4
-  pub conditionsFew : length (sourceActionIs a .conditions) ≤ 8
-  pub modeConditionsFew : length (sourceActionIs a .modeConditions) ≤ 8
-  pub modeEffectsFew : length (sourceActionIs a .modeEffects) ≤ 4
+  pub termsFew : a .«term_count» ≤ termRoom
+  pub conditionsFew : length (sourceActionIs a .conditions) ≤ sourceLimits .conditions
+  pub modeConditionsFew : length (sourceActionIs a .modeConditions) ≤ sourceLimits .modeConditions
+  pub modeEffectsFew : length (sourceActionIs a .modeEffects) ≤ sourceLimits .modes
   pub effectOk : EffectOk sourceLimits (h .variables) (sourceActionIs a .effect)
 
 -- its stages, and what it becomes, its stages being numbered from `from`
@@ -62,5 +61,5 @@ macroIn h from a = numberedAll (h .variables) (h .modes) (macro (lowerOf h) (upp
 pub record Sound (acts : List RestrictedAction) : Type 0 where
   pub variables : ℕ
   pub sizes : List ℕ
-  pub few : length sizes ≤ 8
+  pub few : length sizes ≤ restrictedLimits .modes
   pub ok : All (RestrictedActionOk restrictedLimits variables sizes) acts

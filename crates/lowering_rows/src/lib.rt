@@ -28,17 +28,19 @@ ghost use mathlib.Core.Bool.{cond};
 ghost use mathlib.Core.List.{[], flatMap};
 ghost use lib.Dec.{eqb};
 ghost use Rattle.lists.specs.Writing.{Room, Wrote};
+ghost use Rattle.commands.specs.Table.{letterA};
+ghost use Rattle.source_step.specs.Sizes.{VARIABLES};
 ghost use Rattle.file_parts.specs.Layout.{MARKS, NUMBERS};
-ghost use Rattle.file_parts.specs.Row.{rowIs, RoomFor};
+ghost use Rattle.file_parts.specs.Row.{rowIs, PartsFit};
 ghost use Rattle.model.specs.Stages.{stagesActions};
 ghost use Rattle.model.specs.Lowering.{numberedAll};
-ghost use Rattle.lowering_rows.specs.Bytes.{modeConditionBytes, conditionBytes, modeEffectBytes, additionBytes, restrictedActionBytes};
-ghost use Rattle.file_actions.specs.Views.{effectIs, termsIs};
+ghost use Rattle.lowering_rows.specs.Bytes.{conditionBytes, modePartBytes, additionBytes, restrictedActionBytes};
+ghost use Rattle.file_actions.specs.Views.{termRoom, effectIs, termsIs};
 ghost use Rattle.lowering_stages.specs.Openings.{Moderate, withOpening};
 ghost use Rattle.lowering_rows.specs.Macros.{Fit, MacroFit, macroWith, Lowerable, macroIn, Sound};
-ghost use Rattle.lowering_rows.specs.Bytes.{modeConditionsIn, modeEffectsIn, rowBytes, Writable, stageRows, WroteRows};
+ghost use Rattle.lowering_rows.specs.Bytes.{ModePartsThere, modePartsIn, rowBytes, Writable, stageRows, WroteRows};
 ghost use lib.ListN.{length};
-ghost use Rattle.lowering_stages.specs.Stages.{Small, BoundsSmall, StagesSmall, stagesWith};
+ghost use Rattle.lowering_stages.specs.Stages.{Small, BoundsSmall, StagesSmall, stagesWith, mostStages, stageNumbers};
 
 fn wide(x: u16) -> usize
     ensures { λ r. ⌜ r ≡ x ⌝ }
@@ -64,37 +66,39 @@ fn known_relation(relation: u16) -> u8
     }
 }
 
-// The P of a row.
-fn put_mode_conditions(out: &mut [u8], at: usize, marks: &[u16; MARKS]) -> usize
-    requires { ⌜ RoomFor 0 0 0 0 (now marks) ⌝ }
-    requires { ⌜ Room (now out) at (flatMap modeConditionBytes (modeConditionsIn (now marks))) ⌝ }
-    ensures { λ r. ⌜ Wrote (now (out .entry)) at (flatMap modeConditionBytes (modeConditionsIn (now (marks .entry)))) (now (out .exit)) r ⌝ }
+// An E, or else a P.
+fn put_mode_part(out: &mut [u8], at: usize, effect: bool, mode: u8, value: u16) -> usize
+    requires { ⌜ Room (now out) at (modePartBytes effect (mode, value)) ⌝ }
+    ensures { λ r. ⌜ Wrote (now (out .entry)) at (modePartBytes effect (mode, value)) (now (out .exit)) r ⌝ }
 {
-    let count = wide(marks[MODE_CONDITION_COUNT]);
-    let mut place = at;
-    let mut i: usize = 0;
-    while i < count {
-        let mode = low(marks[MODE_CONDITION_MODE + i]);
-        let value = marks[MODE_CONDITION_VALUE + i];
-        place = commands::put_mode_condition(out, place, mode, value);
-        i += 1;
+    if effect {
+        return commands::put_mode_effect(out, at, mode, value);
     }
-    place
+    commands::put_mode_condition(out, at, mode, value)
 }
 
-// The E of a row.
-fn put_mode_effects(out: &mut [u8], at: usize, marks: &[u16; MARKS]) -> usize
-    requires { ⌜ RoomFor 0 0 0 0 (now marks) ⌝ }
-    requires { ⌜ Room (now out) at (flatMap modeEffectBytes (modeEffectsIn (now marks))) ⌝ }
-    ensures { λ r. ⌜ Wrote (now (out .entry)) at (flatMap modeEffectBytes (modeEffectsIn (now (marks .entry)))) (now (out .exit)) r ⌝ }
+// The E of a row, or else its P, by three places in the marks: of their count, of the first mode and of the first value.
+fn put_mode_parts(
+    out: &mut [u8],
+    at: usize,
+    marks: &[u16; MARKS],
+    effects: bool,
+    counted: usize,
+    modes: usize,
+    values: usize,
+) -> usize
+    requires { ⌜ ModePartsThere (now marks) counted modes values ⌝ }
+    requires { ⌜ Room (now out) at (flatMap (modePartBytes effects) (modePartsIn (now marks) counted modes values)) ⌝ }
+    ensures { λ r. ⌜ Wrote (now (out .entry)) at (flatMap (modePartBytes effects) (modePartsIn (now (marks .entry)) counted modes values))
+        (now (out .exit)) r ⌝ }
 {
-    let count = wide(marks[MODE_EFFECT_COUNT]);
+    let count = wide(marks[counted]);
     let mut place = at;
     let mut i: usize = 0;
     while i < count {
-        let mode = low(marks[MODE_EFFECT_MODE + i]);
-        let value = marks[MODE_EFFECT_VALUE + i];
-        place = commands::put_mode_effect(out, place, mode, value);
+        let mode = low(marks[modes + i]);
+        let value = marks[values + i];
+        place = put_mode_part(out, place, effects, mode, value);
         i += 1;
     }
     place
@@ -156,9 +160,25 @@ pub fn put_row(
     ensures { λ r. ⌜ Wrote (now (out .entry)) at (rowBytes byte (rowIs (now (marks .entry)) (now (numbers .entry)))) (now (out .exit)) r ⌝ }
 {
     let modes = lists::put_number(out, at, byte as u32, 1);
-    let conditions = put_mode_conditions(out, modes, marks);
+    let conditions = put_mode_parts(
+        out,
+        modes,
+        marks,
+        false,
+        MODE_CONDITION_COUNT,
+        MODE_CONDITION_MODE,
+        MODE_CONDITION_VALUE,
+    );
     let effects = put_conditions(out, conditions, marks, numbers);
-    let additions = put_mode_effects(out, effects, marks);
+    let additions = put_mode_parts(
+        out,
+        effects,
+        marks,
+        true,
+        MODE_EFFECT_COUNT,
+        MODE_EFFECT_MODE,
+        MODE_EFFECT_VALUE,
+    );
     put_additions(out, additions, marks, numbers)
 }
 
@@ -175,8 +195,8 @@ fn put_stage(
     next: u16,
 ) -> usize
     requires { ⌜ (length (now marks) ≡ MARKS) × (length (now numbers) ≡ NUMBERS) × Small s ⌝ }
-    requires { ⌜ Room (now out) at (flatMap (rowBytes 65) (stageRows a control number next s)) ⌝ }
-    ensures { λ r. ⌜ WroteRows (now (out .entry)) at (flatMap (rowBytes 65) (stageRows a control number next s)) (now (out .exit)) r
+    requires { ⌜ Room (now out) at (flatMap (rowBytes letterA) (stageRows a control number next s)) ⌝ }
+    ensures { λ r. ⌜ WroteRows (now (out .entry)) at (flatMap (rowBytes letterA) (stageRows a control number next s)) (now (out .exit)) r
         (now (marks .exit)) (now (numbers .exit)) ⌝ }
 {
     lowering_stages::push_stroke(marks, numbers, s, true, control, number);
@@ -203,8 +223,8 @@ fn put_stages(
     control: u8,
     from: u16,
 ) -> usize
-    requires { ⌜ (length (now marks) ≡ MARKS) × (length (now numbers) ≡ NUMBERS) × (k ≤ 4) × StagesSmall effect k terms × BoundsSmall lower upper ⌝ }
-    requires { ⌜ (count ≡ length (stagesWith effect k terms lower upper)) × (count ≤ 10) × (a ≤ 8) × (0 < from) × (from ≤ 1000) ⌝ }
+    requires { ⌜ (length (now marks) ≡ MARKS) × (length (now numbers) ≡ NUMBERS) × (k ≤ termRoom) × StagesSmall effect k terms × BoundsSmall lower upper ⌝ }
+    requires { ⌜ (count ≡ length (stagesWith effect k terms lower upper)) × (count ≤ mostStages) × (a ≤ VARIABLES) × (0 < from) × (from ≤ stageNumbers) ⌝ }
     requires { ⌜ Room (now out) at (flatMap restrictedActionBytes (numberedAll a control (stagesActions from (stagesWith effect k terms lower upper)))) ⌝ }
     ensures { λ r. ⌜ Wrote (now (out .entry)) at (flatMap restrictedActionBytes (numberedAll a control
         (stagesActions from (stagesWith effect k terms lower upper)))) (now (out .exit)) r ⌝ }
@@ -245,10 +265,10 @@ fn put_opening(
     control: u8,
     next: u16,
 ) -> usize
-    requires { ⌜ RoomFor 1 1 1 1 (now marks) × (length (now numbers) ≡ NUMBERS) × BoundsSmall lower upper × Moderate effect ⌝ }
+    requires { ⌜ PartsFit 1 1 1 1 (now marks) × (length (now numbers) ≡ NUMBERS) × BoundsSmall lower upper × Moderate effect ⌝ }
     requires { ⌜ Fit (withOpening a control next lower upper (effectIs effect []) (rowIs (now marks) (now numbers))) ⌝ }
-    requires { ⌜ Room (now out) at (rowBytes 65 (withOpening a control next lower upper (effectIs effect []) (rowIs (now marks) (now numbers)))) ⌝ }
-    ensures { λ r. ⌜ WroteRows (now (out .entry)) at (rowBytes 65 (withOpening a control next lower upper (effectIs effect [])
+    requires { ⌜ Room (now out) at (rowBytes letterA (withOpening a control next lower upper (effectIs effect []) (rowIs (now marks) (now numbers)))) ⌝ }
+    ensures { λ r. ⌜ WroteRows (now (out .entry)) at (rowBytes letterA (withOpening a control next lower upper (effectIs effect [])
         (rowIs (now (marks .entry)) (now (numbers .entry))))) (now (out .exit)) r (now (marks .exit)) (now (numbers .exit)) ⌝ }
 {
     lowering_stages::push_opening(marks, numbers, effect, lower, upper, a, control, next);
@@ -270,8 +290,8 @@ fn put_effect(
     control: u8,
     from: u16,
 ) -> usize
-    requires { ⌜ RoomFor 1 1 1 1 (now marks) × (length (now numbers) ≡ NUMBERS) × BoundsSmall lower upper × Moderate effect ⌝ }
-    requires { ⌜ (k ≤ 4) × StagesSmall effect k terms × (a ≤ 8) × (0 < from) × (from ≤ 1000) × MacroFit (macroWith a control from
+    requires { ⌜ PartsFit 1 1 1 1 (now marks) × (length (now numbers) ≡ NUMBERS) × BoundsSmall lower upper × Moderate effect ⌝ }
+    requires { ⌜ (k ≤ termRoom) × StagesSmall effect k terms × (a ≤ VARIABLES) × (0 < from) × (from ≤ stageNumbers) × MacroFit (macroWith a control from
         (rowIs (now marks) (now numbers)) (effectIs effect (termsIs k terms)) lower upper) ⌝ }
     requires { ⌜ Room (now out) at (flatMap restrictedActionBytes (macroWith a control from (rowIs (now marks) (now numbers))
         (effectIs effect (termsIs k terms)) lower upper)) ⌝ }
@@ -311,7 +331,7 @@ fn put_effect(
 
 // What a source action becomes, its stages being numbered from `from`.
 pub fn put_macro(out: &mut [u8], at: usize, action: SourceAction, shape: Shape, from: u16) -> usize
-    requires { ⌜ Lowerable shape action × (0 < from) × (from ≤ 1000) × Sound (macroIn shape from action) ⌝ }
+    requires { ⌜ Lowerable shape action × (0 < from) × (from ≤ stageNumbers) × Sound (macroIn shape from action) ⌝ }
     requires { ⌜ Room (now out) at (flatMap restrictedActionBytes (macroIn shape from action)) ⌝ }
     ensures { λ r. ⌜ Wrote (now (out .entry)) at (flatMap restrictedActionBytes (macroIn shape from action)) (now (out .exit)) r ⌝ }
 {

@@ -1,6 +1,6 @@
 -- The numbers of each kind of stage are those of the model's.
 -- Assumes nothing.
-use mathlib.Core.Path.{_≡_, refl, ap, ap₂, _∙_}
+use mathlib.Core.Path.{_≡_, refl, ap}
 use Prim.Native.Nat.{ℕ, zero, suc, _+_, _≤_}
 use native.Mathlib.Numerals.{add-one}
 use native.Mathlib.Omega.{arith}
@@ -14,7 +14,7 @@ use Rattle.model.specs.Steps.{integerAt}
 use Rattle.model.specs.Stages.{Name, drain, refill, divide, empty, move}
 use Rattle.model.specs.Lowering.{numberOfName}
 use Rattle.lowering_stages.specs.declared.Stage.{Stage as Numbers}
-use Rattle.lowering_stages.specs.Stages.{addedIs, Small, Stands}
+use Rattle.lowering_stages.specs.Stages.{Small, Stands}
 
 abbrev numbersOf : ℕ → ℤ → ℕ → List ℕ → List ℤ → Numbers
 numbersOf counter unit added variables amounts = record {

@@ -3,26 +3,23 @@
 use mathlib.Core.Path.{_≡_, refl, sym, ap, ap₂, _∙_}
 use mathlib.Core.Bool.{Bool, true, false, cond}
 use mathlib.Core.List.{List, [], _∷_, _++_, append-nil}
-use Prim.Native.Nat.{ℕ, zero, suc, _+_, _≤_, _<_}
+use Prim.Native.Nat.{ℕ, zero, suc, _≤_}
 use native.Mathlib.Omega.{arith}
-use borrow.Author.Tests.{eq-eqb, ne-eqb}
+use borrow.Author.Tests.{ne-eqb}
 use lib.Dec.{eqb, lit≤}
 use lib.ListN.{length, length-append}
-use lib.IntN.{ℤ, pos, negsuc, natAbs, _-ℤ_}
+use lib.IntN.{ℤ, pos, negsuc, _-ℤ_}
 use lib.Signed.{ltZ}
-use Rattle.model.specs.Tasks.{Measured, variable, weightedSum, NumericCondition, Effect, noEffect, addEffect, linearEffect, quotientEffect, residueEffect, SourceAction, RestrictedAction}
+use Rattle.model.specs.Tasks.{NumericCondition, Effect, noEffect, addEffect, linearEffect, quotientEffect, residueEffect, RestrictedAction}
 use Rattle.integers.specs.Relation.{atMost, atLeast}
-use Rattle.model.specs.Stages.{Name, Stage, source, when, onSource, onSourceTerms, onSourceVariables, addedBound, openingAdditions, openingAction, firstStage, stagesOf}
-use Rattle.model.specs.Lowering.{numberedAdditions, numberedMeasure, numberedConditions, numbered}
-use Rattle.file_actions.specs.declared.Effect.{Effect as DecodedEffect}
-use Rattle.file_actions.specs.declared.Effect.the-variants.{None, Add, Linear, Quotient, Residue}
-use Rattle.file_actions.specs.Views.{effectIs}
-use Rattle.file_parts.specs.Row.{rowIs, RoomFor, Says}
-use Rattle.file_parts.specs.With.{condition, withCondition, withModeCondition, withModeEffect, withAddition, sourcePart}
-use Rattle.file_parts.proofs.Pushing.{Sized, room-for, pushed}
-use Rattle.lowering_stages.specs.Stages.{givenIs, withAdditions, targetIs}
+use Rattle.model.specs.Stages.{source, when, addedBound, openingAdditions}
+use Rattle.model.specs.Lowering.{numberedAdditions, numberedConditions}
+use Rattle.file_parts.specs.Row.{rowIs, PartsFit, Says}
+use Rattle.file_parts.specs.With.{condition, withCondition, withModeCondition, withModeEffect, withAddition}
+use Rattle.file_parts.proofs.Pushing.{Sized, parts-fit}
+use Rattle.lowering_stages.specs.Stages.{givenIs, withAdditions}
 use Rattle.lowering_stages.specs.Openings.{boundIs, withNumeric, withOpening}
-use Rattle.lowering_stages.proofs.Rows.{sized, said, something-given, same-additions}
+use Rattle.lowering_stages.proofs.Rows.{sized, said}
 
 -- ---- what an effect needs and adds
 module _ (a : ℕ) (lower upper : ℤ) where
@@ -56,7 +53,7 @@ module _ (a : ℕ) (lower upper : ℤ) where
 -- ---- room
 module _ {marks : List ℕ} where
   -- for fewer
-  pub room-less : {c p e a c′ p′ e′ a′ : ℕ} → RoomFor c p e a marks → c′ ≤ c → p′ ≤ p → e′ ≤ e → a′ ≤ a → RoomFor c′ p′ e′ a′ marks
+  pub room-less : {c p e a c′ p′ e′ a′ : ℕ} → PartsFit c p e a marks → c′ ≤ c → p′ ≤ p → e′ ≤ e → a′ ≤ a → PartsFit c′ p′ e′ a′ marks
   room-less r k l m n = record {
     long = r .long;
     conditions = omega (arith, r .conditions, k);
@@ -66,10 +63,10 @@ module _ {marks : List ℕ} where
   }
 
   -- for the + behind a bound
-  pub bound-room : (numbers : List ℤ) (y : NumericCondition ℕ) {marks′ : List ℕ} {numbers′ : List ℤ} → RoomFor 1 0 0 1 marks → Says (withCondition (rowIs marks numbers) y) marks′ numbers′ → RoomFor 0 0 0 1 marks′
+  pub bound-room : (numbers : List ℤ) (y : NumericCondition ℕ) {marks′ : List ℕ} {numbers′ : List ℤ} → PartsFit 1 0 0 1 marks → Says (withCondition (rowIs marks numbers) y) marks′ numbers′ → PartsFit 0 0 0 1 marks′
   bound-room numbers y r w =
       let z = sized numbers r in
-      room-for w (record {
+      parts-fit w (record {
         conditions = omega (arith, z .conditions, length-append (rowIs marks numbers .conditions) (y ∷ []));
         modeConditions = z .modeConditions;
         modeEffects = z .modeEffects;
@@ -77,10 +74,10 @@ module _ {marks : List ℕ} where
       })
 
   -- for an effect, control being asked
-  pub asked-room : (numbers : List ℤ) (p : ℕ × ℕ) {marks′ : List ℕ} → RoomFor 1 1 1 1 marks → Says (withModeCondition (rowIs marks numbers) p) marks′ numbers → RoomFor 1 0 0 1 marks′
+  pub asked-room : (numbers : List ℤ) (p : ℕ × ℕ) {marks′ : List ℕ} → PartsFit 1 1 1 1 marks → Says (withModeCondition (rowIs marks numbers) p) marks′ numbers → PartsFit 1 0 0 1 marks′
   asked-room numbers p r w =
       let z = sized numbers r in
-      room-for w (record {
+      parts-fit w (record {
         conditions = z .conditions;
         modeConditions = omega (arith, z .modeConditions, length-append (rowIs marks numbers .modeConditions) (p ∷ []));
         modeEffects = omega (arith, z .modeEffects);
@@ -88,7 +85,7 @@ module _ {marks : List ℕ} where
       })
 
   -- and for control, the effect being there
-  module _ (numbers : List ℤ) (r : RoomFor 1 1 1 1 marks) (a : ℕ) (lower upper : ℤ) where
+  module _ (numbers : List ℤ) (r : PartsFit 1 1 1 1 marks) (a : ℕ) (lower upper : ℤ) where
     bound-few : (y : Effect) → length (numberedConditions a (addedBound (λ t. lower) (λ t. upper) y)) ≤ 1
     bound-few noEffect = lit≤ tt
     bound-few (addEffect t c) = lit≤ tt
@@ -115,9 +112,9 @@ module _ {marks : List ℕ} where
       asked-few : (p : ℕ × ℕ) → length (rowIs marks numbers .modeConditions ++ (p ∷ [])) ≤ 16
       asked-few p = let z = sized numbers r in omega (arith, z .modeConditions, length-append (rowIs marks numbers .modeConditions) (p ∷ []))
 
-      pub opened-room : (p : ℕ × ℕ) {marks′ : List ℕ} {numbers′ : List ℤ} → Says (withNumeric a lower upper y (withModeCondition (rowIs marks numbers) p)) marks′ numbers′ → RoomFor 0 0 1 0 marks′
+      pub opened-room : (p : ℕ × ℕ) {marks′ : List ℕ} {numbers′ : List ℤ} → Says (withNumeric a lower upper y (withModeCondition (rowIs marks numbers) p)) marks′ numbers′ → PartsFit 0 0 1 0 marks′
       opened-room p w =
-          room-for w (record {
+          parts-fit w (record {
             conditions = omega (arith, conditions-few);
             modeConditions = omega (arith, asked-few p);
             modeEffects = sized numbers r .modeEffects;

@@ -3,7 +3,6 @@
 use mathlib.Core.Path.{_≡_, refl, sym, ap, ap₂, _∙_, subst}
 use Prim.Native.Nat.{ℕ, zero, suc, _+_, _<_, _≤_}
 use native.Mathlib.Numerals.{add-one}
-use native.Mathlib.Nat.{add-zero}
 use native.Mathlib.Omega.{arith}
 use mathlib.Core.Bool.{Bool, true, false, cond}
 use mathlib.Core.List.{List, [], _∷_, _++_, append-assoc, append-nil}
@@ -22,12 +21,12 @@ use Rattle.model.specs.Steps.{naturalAt}
 use Rattle.model.specs.Stages.{Stage, Name, leftOver, opposite, falling, rising, turn}
 use Rattle.model.specs.Lowering.{numberOfName, numberedAdditions, numbered}
 use Rattle.file_parts.specs.Layout.{MARKS, NUMBERS, conditionCount, modeConditionCount, modeEffectCount, additionCount}
-use Rattle.file_parts.specs.Row.{conditionIn, modeConditionIn, modeEffectIn, additionIn, rowIs, RoomFor, Says}
+use Rattle.file_parts.specs.Row.{conditionIn, modeConditionIn, modeEffectIn, additionIn, rowIs, PartsFit, Says}
 use Rattle.file_parts.specs.With.{condition, withCondition, withAddition}
-use Rattle.file_parts.proofs.Pushing.{Sized, room-for, pushed}
+use Rattle.file_parts.proofs.Pushing.{Sized, parts-fit, pushed}
 use Rattle.lowering_stages.proofs.Numbers.{one-less}
 use Rattle.lowering_stages.specs.declared.Stage.{Stage as Numbers}
-use Rattle.lowering_stages.specs.Stages.{signed, signedAt, addedIs, askedIs, givenIs, strokeIs, turnIs, Small, Stands, withConditions, withAdditions}
+use Rattle.lowering_stages.specs.Stages.{signedAt, addedIs, askedIs, givenIs, strokeIs, turnIs, Stands, withConditions, withAdditions}
 
 -- ---- nothing more, and one more
 pub same-additions : (x : RestrictedAction) → x ≡ withAdditions x []
@@ -63,7 +62,7 @@ unfolding tabulate
 adding-start {marks} {numbers} falls s h g = record { counted = refl; within = omega arith; says = said (same-additions (rowIs marks numbers)) (own h g) }
 
 -- of rows with a room, the sizes of what they say
-module _ {marks₀ : List ℕ} (numbers₀ : List ℤ) {c p e a : ℕ} (r : RoomFor c p e a marks₀) where
+module _ {marks₀ : List ℕ} (numbers₀ : List ℤ) {c p e a : ℕ} (r : PartsFit c p e a marks₀) where
   pub sized : Sized c p e a (rowIs marks₀ numbers₀)
   sized = record {
     conditions = omega (arith, r .conditions, length-tabulate (naturalAt marks₀ conditionCount) (conditionIn marks₀ numbers₀));
@@ -73,11 +72,11 @@ module _ {marks₀ : List ℕ} (numbers₀ : List ℤ) {c p e a : ℕ} (r : Room
   }
 
 module _ {marks₀ : List ℕ} {numbers₀ : List ℤ} {falls : Bool} {s : Numbers} {count i : ℕ} {marks : List ℕ} {numbers : List ℤ} (h : Adding marks₀ numbers₀ falls s count i marks numbers) where
-  pub adding-room : i < count → RoomFor 0 0 0 (s .added) marks₀ → RoomFor 0 0 0 1 marks
+  pub adding-room : i < count → PartsFit 0 0 0 (s .added) marks₀ → PartsFit 0 0 0 1 marks
   adding-room l r =
       let z = sized numbers₀ r in
       let f = signedAt falls (s .variables) (s .amounts) in
-      room-for (h .says) (record {
+      parts-fit (h .says) (record {
         conditions = z .conditions;
         modeConditions = z .modeConditions;
         modeEffects = z .modeEffects;
@@ -110,10 +109,10 @@ known h e d f = given h d (sym e ∙ f)
 
 -- ---- the bounds of a target, and what a turn gives
 module _ (marks : List ℕ) (numbers : List ℤ) (c : NumericCondition ℕ) {marks′ : List ℕ} {numbers′ : List ℤ} where
-  pub bounds-room : RoomFor 2 0 0 0 marks → Says (withCondition (rowIs marks numbers) c) marks′ numbers′ → RoomFor 1 0 0 0 marks′
+  pub bounds-room : PartsFit 2 0 0 0 marks → Says (withCondition (rowIs marks numbers) c) marks′ numbers′ → PartsFit 1 0 0 0 marks′
   bounds-room r w =
       let z = sized numbers r in
-      room-for w (record {
+      parts-fit w (record {
         conditions = omega (arith, z .conditions, length-append (rowIs marks numbers .conditions) (c ∷ []));
         modeConditions = z .modeConditions;
         modeEffects = z .modeEffects;

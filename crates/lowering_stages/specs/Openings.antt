@@ -36,11 +36,15 @@ withNumeric a lower upper e x = record {
   additions = x .additions ++ numberedAdditions a (openingAdditions e);
 }
 
--- besides, control: mode m, at 0 before and at `next` after
-abbrev pub withOpening : ℕ → ℕ → ℕ → ℤ → ℤ → Effect → RestrictedAction → RestrictedAction
-withOpening a m next lower upper e x = record {
+-- an action with control, mode m, at 0 before it and at `next` after
+abbrev pub withControl : ℕ → ℕ → RestrictedAction → RestrictedAction
+withControl m next x = record {
   modeConditions = x .modeConditions ++ ((m, 0) ∷ []);
-  conditions = x .conditions ++ numberedConditions a (addedBound (λ t. lower) (λ t. upper) e);
+  conditions = x .conditions;
   modeEffects = x .modeEffects ++ cond (eqb 0 next) [] ((m, next) ∷ []);
-  additions = x .additions ++ numberedAdditions a (openingAdditions e);
+  additions = x .additions;
 }
+
+-- with both: the opening or single action
+abbrev pub withOpening : ℕ → ℕ → ℕ → ℤ → ℤ → Effect → RestrictedAction → RestrictedAction
+withOpening a m next lower upper e x = withControl m next (withNumeric a lower upper e x)

@@ -1,7 +1,7 @@
 -- A stage of a macro as numbers, in the words of the model; and the actions that it says.
 -- Assumes nothing.
 use mathlib.Core.Path.{_≡_}
-use Prim.Native.Nat.{ℕ, suc, _<_, _≤_}
+use Prim.Native.Nat.{ℕ, suc, _+_, _*_, _<_, _≤_}
 use mathlib.Core.Bool.{Bool, true, cond}
 use mathlib.Core.List.{List, [], _∷_, _++_}
 use mathlib.Core.Option.{some}
@@ -18,7 +18,7 @@ use Rattle.model.specs.Lowering.{numberOfName, numberedAdditions, numberedCondi
 use Rattle.file_actions.specs.declared.Term.{Term}
 use Rattle.file_actions.specs.declared.Effect.{Effect}
 use Rattle.file_actions.specs.declared.Effect.the-variants.{None, Add, Linear, Quotient, Residue}
-use Rattle.file_actions.specs.Views.{termsIs, effectIs}
+use Rattle.file_actions.specs.Views.{termRoom, termsIs, effectIs}
 use Rattle.file_parts.specs.With.{condition}
 use Rattle.lowering_stages.specs.declared.Stage.{Stage as Numbers}
 
@@ -59,15 +59,19 @@ turnIs a control number next s = record {
   additions = givenIs a (s .gives);
 }
 
+-- ---- the most that a stroke adds
+abbrev pub ADDED : ℕ
+ADDED = 4
+
 -- ---- the numbers are those of a source file
 pub record Small (s : Numbers) : Type 0 where
-  pub unit : natAbs (s .unit) ≤ 10000
-  pub deep : natAbs (s .deep) ≤ 10000
-  pub few : s .added ≤ 4
-  pub amounts : (i : ℕ) → natAbs (integerAt (s .amounts) i) ≤ 10000
-  pub lower : natAbs (s .lower) ≤ 10000
-  pub upper : natAbs (s .upper) ≤ 10000
-  pub gives : natAbs (s .gives) ≤ 10000
+  pub unit : InRange sourceLimits (s .unit)
+  pub deep : InRange sourceLimits (s .deep)
+  pub few : s .added ≤ ADDED
+  pub amounts : (i : ℕ) → InRange sourceLimits (integerAt (s .amounts) i)
+  pub lower : InRange sourceLimits (s .lower)
+  pub upper : InRange sourceLimits (s .upper)
+  pub gives : InRange sourceLimits (s .gives)
 
 -- ---- the numbers of a stage of the model, A being variable a
 pub record Stands (a : ℕ) (d : Stage) (s : Numbers) : Type 0 where
@@ -98,10 +102,19 @@ linearStages t ts lower upper = drainTerms ts (clear t ∷ move t helperA lower 
 abbrev pub divisionStages : ℕ → ℕ → ℤ → Name → Name → ℤ → ℤ → List Stage
 divisionStages t y c emptied moved lower upper = drain y (pos 1) ∷ refill y ∷ divide c ∷ empty emptied ∷ clear t ∷ move t moved lower upper ∷ []
 
--- the stages of an effect with k terms, its target's bounds given; and its target, 0 where there is none
+-- the stages of an effect with k terms, its target's bounds given
 abbrev pub stagesWith : Effect → ℕ → List Term → ℤ → ℤ → List Stage
 stagesWith e k terms lower upper = stagesOf (λ t. lower) (λ t. upper) (effectIs e (termsIs k terms))
 
+-- the most stages that an effect has: those of an L with all its terms
+abbrev pub mostStages : ℕ
+mostStages = 2 * termRoom + 2
+
+-- a number that the stages of no task reach
+abbrev pub stageNumbers : ℕ
+stageNumbers = 1000
+
+-- the target of an effect, 0 where there is none
 abbrev pub targetIs : Effect → ℕ
 targetIs None = 0
 targetIs (Add t c) = t
@@ -111,7 +124,7 @@ targetIs (Residue t y c) = t
 
 -- ---- the numbers of an effect are those of a source file: the bounds of its target, the weights of its first k terms, its constant
 abbrev pub BoundsSmall : ℤ → ℤ → Type 0
-BoundsSmall lower upper = (natAbs lower ≤ 10000) × (natAbs upper ≤ 10000)
+BoundsSmall lower upper = InRange sourceLimits lower × InRange sourceLimits upper
 
 abbrev pub WeightsSmall : ℕ → List Term → Type 0
 WeightsSmall k terms = (i : ℕ) (d : Term) → i < k → InRange sourceLimits (getD terms i d .weight)

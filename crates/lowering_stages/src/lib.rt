@@ -16,18 +16,19 @@ ghost use lib.ListN.{length};
 ghost use lib.IntN.{ℤ, pos, natAbs, negℤ, _-ℤ_};
 ghost use Rattle.integers.specs.Division.{unitLess, sign};
 ghost use Rattle.model.specs.Limits.{sourceLimits};
-ghost use Rattle.model.specs.TaskOk.{Factor};
+ghost use Rattle.model.specs.TaskOk.{InRange, Factor};
 ghost use Rattle.model.specs.Stages.{Name, drain, refill, divide, empty, move, stagesOf};
 ghost use Rattle.model.specs.Lowering.{numberOfName};
+ghost use Rattle.source_step.specs.Sizes.{VARIABLES};
 ghost use Rattle.file_parts.specs.Layout.{MARKS, NUMBERS};
-ghost use Rattle.file_parts.specs.Row.{rowIs, RoomFor, Says};
+ghost use Rattle.file_parts.specs.Row.{rowIs, PartsFit, Says};
 ghost use Rattle.file_parts.specs.With.{withCondition};
 ghost use Rattle.lowering_stages.specs.Stages.{signed, addedIs, askedIs, givenIs, thresholdIs, strokeIs, turnIs, Small, Stands};
 ghost use Rattle.lowering_stages.specs.Stages.{withConditions, withAdditions, StandsAt, divisionStages};
-ghost use Rattle.file_actions.specs.Views.{effectIs, termsIs};
+ghost use Rattle.file_actions.specs.Views.{termRoom, effectIs, termsIs};
 ghost use Rattle.lowering_stages.specs.Openings.{boundIs, withNumeric, withOpening, Moderate};
 ghost use Rattle.lowering_stages.specs.Shapes.{lowerOf, upperOf, nextNumber};
-ghost use Rattle.lowering_stages.specs.Stages.{BoundsSmall, WeightsSmall, linearStages, StagesSmall, stagesWith, targetIs};
+ghost use Rattle.lowering_stages.specs.Stages.{BoundsSmall, WeightsSmall, linearStages, StagesSmall, stagesWith, mostStages, stageNumbers, targetIs};
 
 // What the lowering must know of a task: its variables with their bounds, and its modes with their sizes.
 pub struct Shape {
@@ -39,7 +40,7 @@ pub struct Shape {
 }
 
 // The most that a stroke adds.
-pub const ADDED: usize = 4;
+const ADDED: usize = 4;
 
 // A stage: its counter; what falling takes from it; how deep it may stay below 0 at the turn; what falling adds, the counter's own loss
 // among it, the first `added` of two arrays; the bounds of a target that the turn tests, where it does; what the turn adds to A.
@@ -59,7 +60,7 @@ pub struct Stage {
 
 // −z.
 fn negated(z: i64) -> i64
-    requires { ⌜ natAbs z ≤ 10000 ⌝ }
+    requires { ⌜ InRange sourceLimits z ⌝ }
     ensures { λ r. ⌜ r ≡ negℤ z ⌝ }
 {
     0 - z
@@ -68,7 +69,7 @@ fn negated(z: i64) -> i64
 // |c|, of a c that is not 0.
 fn unit_of(c: i64) -> i64
     requires { ⌜ Factor sourceLimits c ⌝ }
-    ensures { λ r. ⌜ (r ≡ pos (suc (unitLess c))) × (natAbs r ≤ 10000) ⌝ }
+    ensures { λ r. ⌜ (r ≡ pos (suc (unitLess c))) × InRange sourceLimits r ⌝ }
 {
     if 0 < c {
         return c;
@@ -78,7 +79,7 @@ fn unit_of(c: i64) -> i64
 
 // 1 or −1, the sign of c.
 fn sign_of(c: i64) -> i64
-    ensures { λ r. ⌜ (r ≡ sign c) × (natAbs r ≤ 10000) ⌝ }
+    ensures { λ r. ⌜ (r ≡ sign c) × InRange sourceLimits r ⌝ }
 {
     if c < 0 {
         return -1;
@@ -87,8 +88,8 @@ fn sign_of(c: i64) -> i64
 }
 
 // Drain of a variable.
-pub fn drain_of(a: u8, t: u8, w: i64) -> Stage
-    requires { ⌜ (a ≤ 8) × (natAbs w ≤ 10000) ⌝ }
+fn drain_of(a: u8, t: u8, w: i64) -> Stage
+    requires { ⌜ (a ≤ VARIABLES) × InRange sourceLimits w ⌝ }
     ensures { λ r. ⌜ Stands a (drain t w) r ⌝ }
 {
     let b = a + 1;
@@ -108,8 +109,8 @@ pub fn drain_of(a: u8, t: u8, w: i64) -> Stage
 }
 
 // Refill of a variable.
-pub fn refill_of(a: u8, t: u8) -> Stage
-    requires { ⌜ a ≤ 8 ⌝ }
+fn refill_of(a: u8, t: u8) -> Stage
+    requires { ⌜ a ≤ VARIABLES ⌝ }
     ensures { λ r. ⌜ Stands a (refill t) r ⌝ }
 {
     let b = a + 1;
@@ -129,8 +130,8 @@ pub fn refill_of(a: u8, t: u8) -> Stage
 }
 
 // Divide by c.
-pub fn divide_of(a: u8, c: i64) -> Stage
-    requires { ⌜ (a ≤ 8) × Factor sourceLimits c ⌝ }
+fn divide_of(a: u8, c: i64) -> Stage
+    requires { ⌜ (a ≤ VARIABLES) × Factor sourceLimits c ⌝ }
     ensures { λ r. ⌜ Stands a (divide c) r ⌝ }
 {
     let b = a + 1;
@@ -153,7 +154,7 @@ pub fn divide_of(a: u8, c: i64) -> Stage
 }
 
 // Empty of A or B, or Clear of a target: the variable with this number.
-pub fn empty_of(v: u8) -> Stage
+fn empty_of(v: u8) -> Stage
     ensures { λ r. ⌜ ((a : ℕ) (name : Name) → v ≡ numberOfName a name → Stands a (empty name) r) ⌝ }
 {
     Stage {
@@ -172,8 +173,8 @@ pub fn empty_of(v: u8) -> Stage
 }
 
 // Move from A or B, the variable with this number, to a target with these bounds.
-pub fn move_of(t: u8, v: u8, lower: i64, upper: i64) -> Stage
-    requires { ⌜ (natAbs lower ≤ 10000) × (natAbs upper ≤ 10000) ⌝ }
+fn move_of(t: u8, v: u8, lower: i64, upper: i64) -> Stage
+    requires { ⌜ BoundsSmall lower upper ⌝ }
     ensures { λ r. ⌜ ((a : ℕ) (name : Name) → v ≡ numberOfName a name → Stands a (move t name lower upper) r) ⌝ }
 {
     Stage {
@@ -201,7 +202,7 @@ fn linear_stage(
     upper: i64,
     j: usize,
 ) -> Stage
-    requires { ⌜ (a ≤ 8) × (k ≤ 4) × (j < 2 * k + 2) × WeightsSmall k terms × BoundsSmall lower upper ⌝ }
+    requires { ⌜ (a ≤ VARIABLES) × (k ≤ termRoom) × (j < 2 * k + 2) × WeightsSmall k terms × BoundsSmall lower upper ⌝ }
     ensures { λ r. ⌜ StandsAt a (linearStages t (termsIs k terms) lower upper) j r ⌝ }
 {
     if j == 2 * k {
@@ -230,7 +231,7 @@ fn division_stage(
     upper: i64,
     j: usize,
 ) -> Stage
-    requires { ⌜ (a ≤ 8) × (j < 6) × Factor sourceLimits c × BoundsSmall lower upper ⌝ }
+    requires { ⌜ (a ≤ VARIABLES) × (j < 6) × Factor sourceLimits c × BoundsSmall lower upper ⌝ }
     ensures { λ r. ⌜ ((e m : Name) → emptied ≡ numberOfName a e → moved ≡ numberOfName a m → StandsAt a (divisionStages t y c e m lower upper) j r) ⌝ }
 {
     match j {
@@ -253,7 +254,8 @@ pub fn stage_at(
     a: u8,
     j: usize,
 ) -> Stage
-    requires { ⌜ (a ≤ 8) × (k ≤ 4) × StagesSmall effect k terms × BoundsSmall lower upper × (j < length (stagesWith effect k terms lower upper)) ⌝ }
+    requires { ⌜ (a ≤ VARIABLES) × (k ≤ termRoom) × StagesSmall effect k terms × BoundsSmall lower upper
+        × (j < length (stagesWith effect k terms lower upper)) ⌝ }
     ensures { λ r. ⌜ StandsAt a (stagesWith effect k terms lower upper) j r ⌝ }
 {
     let b = a + 1;
@@ -281,8 +283,8 @@ pub fn target_of(effect: Effect) -> u8
 
 // How many stages an effect with k terms has.
 pub fn stage_count(effect: Effect, k: usize) -> usize
-    requires { ⌜ k ≤ 4 ⌝ }
-    ensures { λ r. ⌜ ((lower upper : ℕ → ℤ) (ts : List (ℕ × ℤ)) → length ts ≡ k → r ≡ length (stagesOf lower upper (effectIs effect ts))) × (r ≤ 10) ⌝ }
+    requires { ⌜ k ≤ termRoom ⌝ }
+    ensures { λ r. ⌜ ((lower upper : ℕ → ℤ) (ts : List (ℕ × ℤ)) → length ts ≡ k → r ≡ length (stagesOf lower upper (effectIs effect ts))) × (r ≤ mostStages) ⌝ }
 {
     match effect {
         Effect::None => 0,
@@ -295,7 +297,7 @@ pub fn stage_count(effect: Effect, k: usize) -> usize
 
 // What the turn of a stage sets control to, so many stages following.
 pub fn next_stage(number: u16, following: usize) -> u16
-    requires { ⌜ number ≤ 2000 ⌝ }
+    requires { ⌜ number ≤ 2 * stageNumbers ⌝ }
     ensures { λ r. ⌜ r ≡ nextNumber number following ⌝ }
 {
     if following == 0 {
@@ -306,7 +308,7 @@ pub fn next_stage(number: u16, following: usize) -> u16
 
 // The bounds of a variable.
 pub fn lower_of(shape: Shape, variable: u8) -> i64
-    requires { ⌜ shape .variables ≤ 8 ⌝ }
+    requires { ⌜ shape .variables ≤ VARIABLES ⌝ }
     ensures { λ r. ⌜ r ≡ lowerOf shape variable ⌝ }
 {
     let lower = shape.lower;
@@ -314,7 +316,7 @@ pub fn lower_of(shape: Shape, variable: u8) -> i64
 }
 
 pub fn upper_of(shape: Shape, variable: u8) -> i64
-    requires { ⌜ shape .variables ≤ 8 ⌝ }
+    requires { ⌜ shape .variables ≤ VARIABLES ⌝ }
     ensures { λ r. ⌜ r ≡ upperOf shape variable ⌝ }
 {
     let upper = shape.upper;
@@ -337,7 +339,7 @@ fn relation_of(falls: bool) -> u8
 }
 
 fn threshold(falls: bool, unit: i64, deep: i64) -> i64
-    requires { ⌜ (natAbs unit ≤ 10000) × (natAbs deep ≤ 10000) ⌝ }
+    requires { ⌜ InRange sourceLimits unit × InRange sourceLimits deep ⌝ }
     ensures { λ r. ⌜ r ≡ thresholdIs falls unit deep ⌝ }
 {
     if falls {
@@ -347,7 +349,7 @@ fn threshold(falls: bool, unit: i64, deep: i64) -> i64
 }
 
 fn signed_by(falls: bool, x: i64) -> i64
-    requires { ⌜ natAbs x ≤ 10000 ⌝ }
+    requires { ⌜ InRange sourceLimits x ⌝ }
     ensures { λ r. ⌜ r ≡ signed falls x ⌝ }
 {
     if falls {
@@ -358,7 +360,7 @@ fn signed_by(falls: bool, x: i64) -> i64
 
 // What a stroke adds.
 fn push_added(marks: &mut [u16; MARKS], numbers: &mut [i64; NUMBERS], falls: bool, s: Stage)
-    requires { ⌜ RoomFor 0 0 0 (s .added) (now marks) × (length (now numbers) ≡ NUMBERS) × Small s ⌝ }
+    requires { ⌜ PartsFit 0 0 0 (s .added) (now marks) × (length (now numbers) ≡ NUMBERS) × Small s ⌝ }
     ensures { λ _. ⌜ Says (withAdditions (rowIs (now (marks .entry)) (now (numbers .entry))) (addedIs falls s)) (now (marks .exit)) (now (numbers .exit)) ⌝ }
 {
     let count = s.added;
@@ -392,7 +394,7 @@ pub fn push_stroke(
 
 // What the turn asks of a target.
 fn push_bounds(marks: &mut [u16; MARKS], numbers: &mut [i64; NUMBERS], s: Stage)
-    requires { ⌜ RoomFor 2 0 0 0 (now marks) × (length (now numbers) ≡ NUMBERS) ⌝ }
+    requires { ⌜ PartsFit 2 0 0 0 (now marks) × (length (now numbers) ≡ NUMBERS) ⌝ }
     ensures { λ _. ⌜ Says (withConditions (rowIs (now (marks .entry)) (now (numbers .entry))) (askedIs s)) (now (marks .exit)) (now (numbers .exit)) ⌝ }
 {
     let bounded = s.bounded;
@@ -405,7 +407,7 @@ fn push_bounds(marks: &mut [u16; MARKS], numbers: &mut [i64; NUMBERS], s: Stage)
 
 // What the turn adds to A.
 fn push_given(marks: &mut [u16; MARKS], numbers: &mut [i64; NUMBERS], a: u8, x: i64)
-    requires { ⌜ RoomFor 0 0 0 1 (now marks) × (length (now numbers) ≡ NUMBERS) ⌝ }
+    requires { ⌜ PartsFit 0 0 0 1 (now marks) × (length (now numbers) ≡ NUMBERS) ⌝ }
     ensures { λ _. ⌜ Says (withAdditions (rowIs (now (marks .entry)) (now (numbers .entry))) (givenIs a x)) (now (marks .exit)) (now (numbers .exit)) ⌝ }
 {
     if x == 0 {
@@ -449,7 +451,7 @@ fn push_bound(
     lower: i64,
     upper: i64,
 )
-    requires { ⌜ RoomFor 1 0 0 0 (now marks) × (length (now numbers) ≡ NUMBERS) × BoundsSmall lower upper × (natAbs c ≤ 10000) ⌝ }
+    requires { ⌜ PartsFit 1 0 0 0 (now marks) × (length (now numbers) ≡ NUMBERS) × BoundsSmall lower upper × InRange sourceLimits c ⌝ }
     ensures { λ _. ⌜ Says (withCondition (rowIs (now (marks .entry)) (now (numbers .entry))) (boundIs t c lower upper))
         (now (marks .exit)) (now (numbers .exit)) ⌝ }
 {
@@ -471,7 +473,7 @@ fn push_numeric(
     upper: i64,
     a: u8,
 )
-    requires { ⌜ RoomFor 1 0 0 1 (now marks) × (length (now numbers) ≡ NUMBERS) × BoundsSmall lower upper × Moderate effect ⌝ }
+    requires { ⌜ PartsFit 1 0 0 1 (now marks) × (length (now numbers) ≡ NUMBERS) × BoundsSmall lower upper × Moderate effect ⌝ }
     ensures { λ _. ⌜ Says (withNumeric a lower upper (effectIs effect []) (rowIs (now (marks .entry)) (now (numbers .entry))))
         (now (marks .exit)) (now (numbers .exit)) ⌝ }
 {
@@ -498,7 +500,7 @@ pub fn push_opening(
     control: u8,
     next: u16,
 )
-    requires { ⌜ RoomFor 1 1 1 1 (now marks) × (length (now numbers) ≡ NUMBERS) × BoundsSmall lower upper × Moderate effect ⌝ }
+    requires { ⌜ PartsFit 1 1 1 1 (now marks) × (length (now numbers) ≡ NUMBERS) × BoundsSmall lower upper × Moderate effect ⌝ }
     ensures { λ _. ⌜ Says (withOpening a control next lower upper (effectIs effect []) (rowIs (now (marks .entry)) (now (numbers .entry))))
         (now (marks .exit)) (now (numbers .exit)) ⌝ }
 {

@@ -67,7 +67,8 @@ fn step_at(plan: &[u8], place: usize) -> u64
 // Four numbers from a place on, as one of 64 bits: a single read of the machine.
 fn four_at(plan: &[u8], place: usize) -> u64
     requires { ⌜ place + 7 < length (now plan) ⌝ }
-    ensures { λ r. ⌜ (r ≡ fourAt (now (plan .entry)) place) × Small (now (plan .entry)) place × Small (now (plan .entry)) (place + 2) × Small (now (plan .entry)) (place + 4) × Small (now (plan .entry)) (place + 6) ⌝ }
+    ensures { λ r. ⌜ (r ≡ fourAt (now (plan .entry)) place) × Small (now (plan .entry)) place × Small (now (plan .entry)) (place + 2)
+        × Small (now (plan .entry)) (place + 4) × Small (now (plan .entry)) (place + 6) ⌝ }
 {
     step_at(plan, place)
         + 65536 * step_at(plan, place + 2)

@@ -1,34 +1,30 @@
 -- The expansion of a plan by rows is the task's; it is as long as the price says; where it is as long as the plan, it is the openings alone.
 -- Assumes nothing.
 use mathlib.Core.Path.{_≡_, refl, sym, ap, ap₂, _∙_}
-use Prim.Native.Nat.{ℕ, zero, suc, _+_, _*_, _≤_, _<_}
+use Prim.Native.Nat.{ℕ, zero, suc, _+_, _≤_, _<_}
 use native.Mathlib.Omega.{arith}
 use native.Mathlib.Numerals.{add-one}
 use mathlib.Core.Bool.{Bool, true, false, cond, _&&_}
 use mathlib.Core.Option.{Option, some}
 use mathlib.Core.List.{List, [], _∷_, _++_, map}
 use lib.Dec.{ltb}
-use lib.ListN.{length, length-append, getElem?, getD}
+use lib.ListN.{length, length-append}
 use lib.IntN.{ℤ}
 use borrow.Author.Tests.{ltb-true}
-use Rattle.lists.specs.Answer.{Answer, given, refused, then}
-use Rattle.lists.specs.declared.Written.{Written}
-use Rattle.lists.specs.declared.Written.the-variants.{Bytes, Refused}
 use Rattle.lists.proofs.Loops.{and-left, and-right}
 use Rattle.model.specs.Tasks.{Effect, SourceAction, SourceTask, State}
 use Rattle.model.specs.Systems.{orEmpty, expandFrom, provided}
-use Rattle.model.specs.Steps.{integerAt, lowerBounds, upperBounds, stepSource}
+use Rattle.model.specs.Steps.{lowerBounds, upperBounds, stepSource}
 use Rattle.model.specs.Stages.{stagesOf, opening}
 use Rattle.model.specs.Expansion.{openedValues, stageWalk, stageStepsFrom}
-use Rattle.source_walk.specs.declared.Progress.{Progress}
 use Rattle.source_walk.specs.declared.Progress.the-variants.{Through, Stopped}
 use Rattle.source_step.specs.Ready.{numbersOf}
 use Rattle.source_step.specs.Table.{Table, declaredBy, takesBy, afterBy, effectBy, valuesBy, priceBy, RowsOf, Inside}
 use Rattle.source_step.proofs.Tables.{step-agrees, inside-after}
-use Rattle.plan_strokes.specs.Strokes.{strokesOf, macroSteps, stepNumbers, priceOfStrokes}
+use Rattle.plan_strokes.specs.Strokes.{strokesOf, macroSteps}
 use Rattle.plan_strokes.specs.Opening.{Marked, Opened}
 use Rattle.plan_strokes.proofs.Walks.{walk-is, steps-length, price-is}
-use Rattle.source_walk.specs.Walk.{Walk, firstPassing, costBy, walkFrom}
+use Rattle.source_walk.specs.Walk.{Walk, firstPassing, walkFrom}
 use Rattle.plan_expand.specs.Expanding.{openingIn, Named, goesBy, numbersBy, expansionBy}
 
 not-through : (number place : ℕ) → Stopped number place ≡ Through → ⊥

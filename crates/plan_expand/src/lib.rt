@@ -58,12 +58,15 @@ fn put_turn(
     values: &mut [i64; VARIABLES],
     modes: &mut [u16; MODES],
 ) -> usize
-    requires { ⌜ (opening ≤ 65000) × (n ≤ VARIABLES) × (m ≤ MODES) × (length (now modes) ≡ MODES) × (length (now times) ≡ STAGES) × Usable n (now marks) (now numbers) ⌝ }
+    requires { ⌜ (opening ≤ 65000) × (n ≤ VARIABLES) × (m ≤ MODES) × (length (now modes) ≡ MODES) × (length (now times) ≡ STAGES)
+        × Usable n (now marks) (now numbers) ⌝ }
     requires { ⌜ held n m (now marks) (now numbers) (now values) (now modes) ≡ true ⌝ }
     requires { ⌜ Room (now out) at (planBytes (stepNumbers opening (strokesOf (effectAt (now marks) (now numbers)) (integerAt (take n (now values)))))) ⌝ }
-    ensures { λ r. ⌜ Wrote (now (out .entry)) at (planBytes (stepNumbers opening (strokesOf (effectAt (now (marks .entry)) (now (numbers .entry))) (integerAt (take n (now (values .entry)))))))
+    ensures { λ r. ⌜ Wrote (now (out .entry)) at (planBytes (stepNumbers opening
+        (strokesOf (effectAt (now (marks .entry)) (now (numbers .entry))) (integerAt (take n (now (values .entry)))))))
         (now (out .exit)) r ⌝ }
-    ensures { λ r. ⌜ TurnTaken n m (now (marks .entry)) (now (numbers .entry)) (now (values .entry)) (now (modes .entry)) (now (values .exit)) (now (modes .exit)) ⌝ }
+    ensures { λ r. ⌜ TurnTaken n m (now (marks .entry)) (now (numbers .entry)) (now (values .entry)) (now (modes .entry))
+        (now (values .exit)) (now (modes .exit)) ⌝ }
     ensures { λ r. ⌜ length (now (times .exit)) ≡ STAGES ⌝ }
 {
     let count = plan_strokes::put_strokes(times, values, n, marks, numbers);
@@ -87,10 +90,13 @@ fn put_plan(
     values: &mut [i64; VARIABLES],
     modes: &mut [u16; MODES],
 ) -> usize
-    requires { ⌜ Usables (table count (now marks) (now numbers) n m) × OpeningsFew count (now openings) × (steps ≡ length (planNumbers (now plan))) × (length (now modes) ≡ MODES) ⌝ }
+    requires { ⌜ Usables (table count (now marks) (now numbers) n m) × OpeningsFew count (now openings) × (steps ≡ length (planNumbers (now plan)))
+        × (length (now modes) ≡ MODES) ⌝ }
     requires { ⌜ goesBy (table count (now marks) (now numbers) n m) (planNumbers (now plan)) (state (now values) (now modes)) ≡ true ⌝ }
-    requires { ⌜ Room (now out) 0 (planBytes (expansionBy (table count (now marks) (now numbers) n m) (now openings) (planNumbers (now plan)) (state (now values) (now modes)))) ⌝ }
-    ensures { λ r. ⌜ Wrote (now (out .entry)) 0 (planBytes (expansionBy (table count (now (marks .entry)) (now (numbers .entry)) n m) (now (openings .entry)) (planNumbers (now (plan .entry)))
+    requires { ⌜ Room (now out) 0 (planBytes (expansionBy (table count (now marks) (now numbers) n m) (now openings) (planNumbers (now plan))
+        (state (now values) (now modes)))) ⌝ }
+    ensures { λ r. ⌜ Wrote (now (out .entry)) 0 (planBytes (expansionBy (table count (now (marks .entry)) (now (numbers .entry)) n m) (now (openings .entry))
+        (planNumbers (now (plan .entry)))
         (state (now (values .entry)) (now (modes .entry))))) (now (out .exit)) r ⌝ }
 {
     let mut times = [0i64; STAGES];
@@ -150,9 +156,11 @@ fn write_expansion(
     modes: &mut [u16; MODES],
     out: &mut [u8],
 ) -> Written
-    requires { ⌜ Usables (table count (now marks) (now numbers) n m) × (steps ≡ length (planNumbers (now plan))) × (steps ≤ 1000000) × (length (now modes) ≡ MODES) ⌝ }
+    requires { ⌜ Usables (table count (now marks) (now numbers) n m) × (steps ≡ length (planNumbers (now plan))) × (steps ≤ 1000000)
+        × (length (now modes) ≡ MODES) ⌝ }
     requires { ⌜ Expandable (table count (now marks) (now numbers) n m) (planNumbers (now plan)) (state (now values) (now modes)) needed ⌝ }
-    ensures { λ r. ⌜ ExpandedTo (table count (now (marks .entry)) (now (numbers .entry)) n m) (planNumbers (now (plan .entry))) (state (now (values .entry)) (now (modes .entry)))
+    ensures { λ r. ⌜ ExpandedTo (table count (now (marks .entry)) (now (numbers .entry)) n m) (planNumbers (now (plan .entry)))
+        (state (now (values .entry)) (now (modes .entry)))
         needed (now (out .entry)) (now (out .exit)) r ⌝ }
 {
     match needed {

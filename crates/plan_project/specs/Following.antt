@@ -65,7 +65,8 @@ module _ (n m : ℕ) (marks : List ℕ) (numbers : List ℤ) (values : List ℤ)
   -- what the plan comes to from place i on, the action being the one that stands there, whether or not it applied
   abbrev pub turned : ℕ → ℕ → List ℕ → ℕ → Bool → (ℕ → List ℕ → Answer (List ℕ)) → Answer (List ℕ)
   turned total i q opening applied onward =
-      cond applied (pastMacro total (numbersAt opening) i (drop i q) onward) (cond opensAt (intoMacro total (allButLast (numbersAt opening)) i (drop i q)) (refused 12 i))
+      cond applied (pastMacro total (numbersAt opening) i (drop i q) onward)
+      (cond opensAt (intoMacro total (allButLast (numbersAt opening)) i (drop i q)) (refused 12 i))
 
   -- it was taken there, and the plan compared with its numbers
   pub record Advanced (total i : ℕ) (q : List ℕ) (opening : ℕ) (r : Next) (values′ : List ℤ) (modes′ : List ℕ) : Type 0 where
@@ -88,7 +89,8 @@ module _ (T : Table) where
 
   -- what a plan projects to by them from step i on, in state x; the restricted task has `total` actions
   abbrev pub projectBy : ℕ → List ℕ → (ℕ → ℕ) → ℕ → ℕ → List ℕ → State → Answer (List ℕ)
-  projectBy total sources opening = projectOver total stepIn (goalBy T) (sourceIn sources) (numbersIn opening) (λ x k. allButLast (numbersIn opening x k)) opensIn
+  projectBy total sources opening = projectOver total stepIn (goalBy T) (sourceIn sources) (numbersIn opening)
+      (λ x k. allButLast (numbersIn opening x k)) opensIn
 
 -- ---- the first source numbers that are found, noted in a list of 512
 abbrev pub notedAt : List ℕ → ℕ → ℕ → List ℕ

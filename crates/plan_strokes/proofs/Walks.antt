@@ -1,8 +1,8 @@
 -- The strokes of an effect are those of the walk through its stages: each stage is gone through as often as the unit goes into its counter,
--- and what the stages make of the values is known stage by stage. So the walk, its length and the size of a macro are read off the strokes.
+-- and what the stages make of the values is known stage by stage. So the walk and its length are read off the strokes.
 -- Assumes nothing.
 use mathlib.Core.Path.{_≡_, refl, sym, ap, ap₂, _∙_, subst}
-use Prim.Native.Nat.{ℕ, suc, _+_, _*_}
+use Prim.Native.Nat.{ℕ, suc, _+_}
 use native.Mathlib.Omega.{arith}
 use mathlib.Core.List.{List, [], _∷_, _++_}
 use lib.ListN.{length, length-append, length-replicate}
@@ -11,7 +11,7 @@ use Rattle.integers.specs.Division.{unitLess, floor, quotientOf, residueOf}
 use Rattle.integers.proofs.Parts.{ints, sum-parts, mul-up, mul-down}
 use Rattle.model.specs.Tasks.{Effect, noEffect, addEffect, linearEffect, quotientEffect, residueEffect, SourceAction}
 use Rattle.model.specs.Steps.{linear}
-use Rattle.model.specs.Stages.{Name, helperA, helperB, StageKind, byOne, byUnit, Stage, turnPlace, countActions, drain, refill, divide, empty, clear, move, drainTerms, openingAdditions, stagesOf, macroSize}
+use Rattle.model.specs.Stages.{Name, helperA, helperB, StageKind, byOne, byUnit, Stage, turnPlace, drain, refill, divide, empty, clear, move, drainTerms, openingAdditions, stagesOf}
 use Rattle.model.specs.Expansion.{plus, unitsIn, afterStage, namedValues, strokes, stageWalk, openedValues, priceOfEffect}
 use Rattle.model.proofs.StageValues.{updated-itself, drained, refilled, divided, emptiedA, emptiedB, cleared, started, effect}
 use Rattle.model.proofs.MacroPlace.{walk-length}
@@ -20,7 +20,6 @@ use Rattle.plan_strokes.specs.Strokes.{termStrokes, strokesOf, macroStep
 -- ---- the walk through stages, from the values v, as strokes
 record Walks (ds : List Stage) (v : Name → ℤ) (zs : List ℤ) : Type 0 where
   steps : (b : ℕ) → stageWalk b ds v ≡ macroSteps b zs
-  size : countActions ds ≡ 3 * length zs
 
 turn-last : (k : StageKind) → turnPlace k ≡ 2
 turn-last byOne = refl
@@ -28,7 +27,7 @@ turn-last (byUnit u) = refl
 
 ends : (v : Name → ℤ) → Walks [] v []
 unfolding macroSteps
-ends v = record { steps = λ b. refl; size = refl }
+ends v = record { steps = λ b. refl }
 
 goes : (d : Stage) {ds : List Stage} {v v₁ : Name → ℤ} {z : ℤ} {zs : List ℤ} → unitsIn (d .kind) (v (d .counter)) ≡ z → afterStage d v ≡ v₁ → Walks ds v₁ zs → Walks (d ∷ ds) v (z ∷ zs)
 unfolding macroSteps
@@ -38,7 +37,6 @@ goes d {ds} {v} {v₁} {z} {zs} e h w = record {
       let l : suc (b + turnPlace (d .kind)) ≡ b + 3 = omega (arith, k) in
       ap₂ (λ (x : ℤ) (xs : List ℕ). strokes b x ++ xs) e
       (ap₂ (λ (n : ℕ) (xs : List ℕ). n ∷ xs) k (ap₂ (λ (n : ℕ) (u : Name → ℤ). stageWalk n ds u) l h ∙ w .steps (b + 3)));
-  size = omega (arith, turn-last (d .kind), w .size);
 }
 
 onto : (z : ℤ) → pos 0 +ℤ z *ℤ pos 1 ≡ z
@@ -77,10 +75,6 @@ module _ (lower upper : ℕ → ℤ) where
   -- the steps behind an opening are those of the strokes
   pub walk-is : (a : SourceAction) (b : ℕ) (v : ℕ → ℤ) → stageWalk b (stagesOf lower upper (a .effect)) (openedValues a v) ≡ macroSteps b (strokesOf (a .effect) v)
   walk-is a b v = effect-walks (a .effect) v .steps b
-
-  -- a macro has three actions for each
-  pub size-is : (a : SourceAction) (v : ℕ → ℤ) → macroSize lower upper a ≡ 1 + 3 * length (strokesOf (a .effect) v)
-  size-is a v = omega (arith, effect-walks (a .effect) v .size)
 
 -- ---- how many steps there are
 strokes-length : (b : ℕ) (z : ℤ) → length (strokes b z) ≡ natAbs z

@@ -2,7 +2,7 @@
 -- Assumes nothing.
 use mathlib.Core.Path.{_≡_}
 use Prim.Native.Nat.{ℕ, _+_, _≤_}
-use mathlib.Core.Bool.{Bool, cond}
+use mathlib.Core.Bool.{cond}
 use mathlib.Core.List.{List, [], _∷_, _++_}
 use lib.ListN.{length, take, replicate}
 use lib.IntN.{ℤ, natAbs}
@@ -39,7 +39,8 @@ abbrev pub divisionStrokes : ℤ → ℤ → ℤ → ℤ → ℤ → List ℤ
 divisionStrokes target y c emptied moved = y ∷ y ∷ floor y (unitLess c) ∷ emptied ∷ target ∷ moved ∷ []
 
 -- a step by rows was taken, and priced where their test holds
-pub record Turned (n m : ℕ) (marks : List ℕ) (numbers : List ℤ) (values : List ℤ) (modes : List ℕ) (r : Turn) (values′ : List ℤ) (modes′ : List ℕ) : Type 0 where
+pub record Turned (n m : ℕ) (marks : List ℕ) (numbers : List ℤ) (values : List ℤ) (modes : List ℕ) (r : Turn) (values′ : List ℤ)
+    (modes′ : List ℕ) : Type 0 where
   pub stepped : Stepped n m marks numbers values modes (r .applied) values′ modes′
   pub price : r .price ≡ cond (held n m marks numbers values modes) (priceOfEffect (effectAt marks numbers) (integerAt (take n values))) 0
   pub few : r .price ≤ 20_000_000_000

@@ -25,5 +25,6 @@ pub record Marked (acts : List SourceAction) (marks : List (List ℕ)) (k : ℕ)
 
 -- the numbers of the openings of actions with these marks, and behind them the count of all actions
 pub record Opened (marks : List (List ℕ)) (count : ℕ) (openings : List ℕ) : Type 0 where
-  pub is : (acts : List SourceAction) → ((k : ℕ) → k < count → Marked acts marks k) → (lower upper : ℕ → ℤ) (k : ℕ) → k ≤ count → getD openings k 0 ≡ opening lower upper acts k
+  pub is : (acts : List SourceAction) → ((k : ℕ) → k < count → Marked acts marks k) → (lower upper : ℕ → ℤ) (k : ℕ) → k ≤ count → getD openings k 0
+      ≡ opening lower upper acts k
   pub few : (k : ℕ) → k ≤ count → getD openings k 0 ≤ 31 * k

@@ -65,7 +65,8 @@ fn put_linear(
     numbers: &[i64; NUMBERS],
 ) -> usize
     requires { ⌜ (length (now times) ≡ STAGES) × Reads n (now values) (now marks) (now numbers) ⌝ }
-    ensures { λ r. ⌜ Listed (strokesOf (linearEffect (targetAt (now (marks .entry))) (constantAt (now (numbers .entry))) (termsAt (now (marks .entry)) (now (numbers .entry))))
+    ensures { λ r. ⌜ Listed (strokesOf (linearEffect (targetAt (now (marks .entry))) (constantAt (now (numbers .entry)))
+        (termsAt (now (marks .entry)) (now (numbers .entry))))
         (integerAt (take n (now (values .entry))))) (now (times .exit)) r ⌝ }
 {
     let k = source_step::lesser(TERMS, source_step::wide16(marks[COUNT]));
@@ -123,7 +124,8 @@ fn put_divided(
     numbers: &[i64; NUMBERS],
 ) -> usize
     requires { ⌜ (length (now times) ≡ STAGES) × Reads n (now values) (now marks) (now numbers) × (3 ≤ kindAt (now marks)) ⌝ }
-    ensures { λ r. ⌜ Listed (strokesOf (effectAt (now (marks .entry)) (now (numbers .entry))) (integerAt (take n (now (values .entry))))) (now (times .exit)) r ⌝ }
+    ensures { λ r. ⌜ Listed (strokesOf (effectAt (now (marks .entry)) (now (numbers .entry))) (integerAt (take n (now (values .entry)))))
+        (now (times .exit)) r ⌝ }
 {
     let target = source_step::value_of(values, n, marks[TARGET]);
     let y = source_step::value_of(values, n, marks[OPERAND]);
@@ -146,7 +148,8 @@ pub fn put_strokes(
     numbers: &[i64; NUMBERS],
 ) -> usize
     requires { ⌜ (length (now times) ≡ STAGES) × Reads n (now values) (now marks) (now numbers) ⌝ }
-    ensures { λ r. ⌜ Listed (strokesOf (effectAt (now (marks .entry)) (now (numbers .entry))) (integerAt (take n (now (values .entry))))) (now (times .exit)) r ⌝ }
+    ensures { λ r. ⌜ Listed (strokesOf (effectAt (now (marks .entry)) (now (numbers .entry))) (integerAt (take n (now (values .entry)))))
+        (now (times .exit)) r ⌝ }
 {
     let kind = marks[KIND];
     if kind <= ADD {
@@ -181,7 +184,8 @@ pub fn result_from(
     marks: &[u16; MARKS],
     numbers: &[i64; NUMBERS],
 ) -> i64
-    requires { ⌜ Reads n (now values) (now marks) (now numbers) × Listed (strokesOf (effectAt (now marks) (now numbers)) (integerAt (take n (now values)))) (now times) count ⌝ }
+    requires { ⌜ Reads n (now values) (now marks) (now numbers)
+        × Listed (strokesOf (effectAt (now marks) (now numbers)) (integerAt (take n (now values)))) (now times) count ⌝ }
     ensures { λ r. ⌜ ResultIs n (now (marks .entry)) (now (numbers .entry)) (now (values .entry)) r ⌝ }
 {
     if count == 0 {
@@ -209,7 +213,8 @@ pub fn take_priced(
     times: &mut [i64; STAGES],
 ) -> Turn
     requires { ⌜ (n ≤ VARIABLES) × (m ≤ MODES) × (length (now modes) ≡ MODES) × (length (now times) ≡ STAGES) × Usable n (now marks) (now numbers) ⌝ }
-    ensures { λ r. ⌜ Turned n m (now (marks .entry)) (now (numbers .entry)) (now (values .entry)) (now (modes .entry)) r (now (values .exit)) (now (modes .exit)) ⌝ }
+    ensures { λ r. ⌜ Turned n m (now (marks .entry)) (now (numbers .entry)) (now (values .entry)) (now (modes .entry)) r
+        (now (values .exit)) (now (modes .exit)) ⌝ }
     ensures { λ r. ⌜ length (now (times .exit)) ≡ STAGES ⌝ }
 {
     if !source_step::holds(values, modes, n, m, marks, numbers) {

@@ -2,7 +2,7 @@
 -- what the definition answers.
 -- Assumes nothing.
 use mathlib.Core.Path.{_≡_, refl, sym, ap, ap₂, _∙_, subst}
-use Prim.Native.Nat.{ℕ, suc, _+_, _≤_, _<_}
+use Prim.Native.Nat.{ℕ, suc, _≤_, _<_}
 use native.Mathlib.Omega.{arith}
 use mathlib.Core.Bool.{Bool, true, false, _&&_, cond}
 use mathlib.Core.List.{List, [], _∷_, _++_}
@@ -34,7 +34,7 @@ use Rattle.file_declarations.proofs.Accepted.{restricted-starts, restricted-mod
 use Rattle.file_parts.specs.Row.{rowIs, Says}
 use Rattle.file_actions.specs.Places.{edgesOf, goalPart}
 use Rattle.file_actions.specs.Views.{fittingRestricted}
-use Rattle.file_actions.proofs.Accepted.{restricted-edges, places-at, restricted-goal, restricted-goal-decoded}
+use Rattle.file_actions.proofs.Accepted.{restricted-edges, places-at, restricted-goal, restricted-goal-ok, restricted-goal-decoded}
 use Rattle.restricted_step.specs.Sizes.{VARIABLES, MODES}
 use Rattle.restricted_step.specs.Steps.{stateOf}
 use Rattle.restricted_step.specs.Usable.{Usable}
@@ -133,7 +133,7 @@ module _ {file plan : List ℕ} {count steps : ℕ} (input : AcceptedPlan file p
       (subst (λ (s : List ℕ). Says (fittingRestricted (restrictedActionOf (decodeAction s))) marks numbers) (part ∙ ap (goalPart file) (input .countIs)) says) .is
 
   goal-ok : RestrictedActionOk restrictedLimits (length (t .starts)) (sizesOf (t .modes)) goal
-  goal-ok = record { conditionsOk = task-ok .goal; modeEffectsIn = tt; modeEffectsOnce = tt; additionsFew = omega arith; additionsIn = tt; additionsOnce = tt }
+  goal-ok = restricted-goal-ok file (input .bytes) t (input .accepted)
 
   pub goal-usable : Usable marks numbers
   goal-usable = usable (length (t .starts)) (sizesOf (t .modes)) marks numbers (task-ok .startsFew) (omega (arith, task-ok .modesFew, sizes-many t))

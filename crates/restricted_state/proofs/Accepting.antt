@@ -1,12 +1,12 @@
 -- From bytes to a step by itself: what the readers leave of an accepted file, and what the step then answers.
 -- Assumes nothing.
 use mathlib.Core.Path.{_≡_, sym, ap, ap₂, _∙_, subst}
-use Prim.Native.Nat.{ℕ, suc, _≤_, _<_}
+use Prim.Native.Nat.{ℕ, _≤_, _<_}
 use native.Mathlib.Omega.{arith}
 use mathlib.Core.Bool.{Bool, cond}
 use mathlib.Core.Option.{Option, none, some}
-use mathlib.Core.List.{List, [], _∷_}
-use lib.ListN.{length, take, getD, getElem?, replicate, length-replicate, length-map}
+use mathlib.Core.List.{List}
+use lib.ListN.{length, take, getElem?, replicate, length-replicate, length-map}
 use lib.IntN.{ℤ, pos}
 use borrow.Author.Tests.{lt-ltb, le-ltb}
 use Rattle.integers.specs.Numbers.{Bytes}
@@ -35,11 +35,6 @@ use Rattle.restricted_step.specs.Whole.{taskIn, stepOf}
 use Rattle.restricted_step.proofs.Whole.{action-ok, step-by-number}
 use Rattle.restricted_state.specs.Step.{RowFor, handedBack, stepped}
 use Rattle.restricted_state.specs.Alone.{stepVerdict, refusalIs, stepAnswerOf}
-
--- ---- a slice of bytes, one by one
-pub bytes-of : (s : List ℕ) → ((i : ℕ) → getD s i 0 < 256) → Bytes s
-bytes-of [] h = tt
-bytes-of (b ∷ s) h = (h 0, bytes-of s (λ i. h (suc i)))
 
 -- ---- what is declared, read into arrays of zeros
 pub zero-room : RestrictedRoom (replicate VARIABLES (pos 0)) (replicate MODES 0) (replicate MODES 0)

@@ -3,13 +3,12 @@
 -- Assumes nothing.
 use mathlib.Core.Path.{_≡_}
 use Prim.Native.Nat.{ℕ}
-use mathlib.Core.List.{List, [], _∷_}
-use lib.ListN.{length}
+use mathlib.Core.List.{List, [], _∷_, _++_}
+use lib.ListN.{length, drop}
 use lib.IntN.{ℤ}
 use Rattle.lists.specs.Answer.{Answer, given, refused}
 use Rattle.model.specs.Tasks.{State}
 use Rattle.model.specs.Reading.{Verdict, Accepted, Rejected}
-use Rattle.model.specs.Judging.{withRest}
 
 abbrev pub codeOf : {A : Type 0} → Answer A → ℕ
 codeOf (given a) = 0
@@ -43,6 +42,13 @@ itself a = a
 abbrev pub stateOf : List ℤ → List ℕ → State
 stateOf values modes = record { values = values; modes = modes }
 
+-- in front of zeros: as a list stands in an array that has room for more, and a state in two
+abbrev pub over : {A : Type 0} → List A → List A → List A
+over zeros l = l ++ drop (length l) zeros
+
+abbrev pub stateOver : State → State → State
+stateOver zeros x = stateOf (over (zeros .values) (x .values)) (over (zeros .modes) (x .modes))
+
 -- judging: the count of steps, and the end state in front of zeros
 abbrev pub endOver : State → ℕ × State → ℕ × State
-endOver zeros v = (v .0, withRest (length (v .1 .values)) (length (v .1 .modes)) zeros (v .1))
+endOver zeros v = (v .0, stateOver zeros (v .1))

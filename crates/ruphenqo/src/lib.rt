@@ -7,14 +7,29 @@ ghost use Rattle.lists.specs.Written.{answerOf};
 ghost use Rattle.model.specs.Limits.{sourceLimits, restrictedLimits};
 ghost use Rattle.model.specs.Reading.{verdictOf};
 ghost use Rattle.model.specs.ActionBytes.{actionPlace};
-ghost use Rattle.model.specs.Judging.{judgeSource, judgeRestricted, stepRestrictedAlone, stepSourceAlone, priceStep, pricePlan, lowerBytes, expandBytes, projectBytes};
+ghost use Rattle.model.specs.Judging.{judgeSource, judgeRestricted, stepRestrictedAlone, stepSourceAlone, priceStep, pricePlan};
+ghost use Rattle.model.specs.Judging.{lowerBytes, expandBytes, projectBytes};
 ghost use Rattle.model.specs.Listing.{listing};
 ghost use Rattle.file_check.specs.Views.{verdictIs};
 ghost use Rattle.file_actions.specs.Places.{placedIs};
 ghost use Rattle.source_state.specs.Priced.{pricedIs};
 ghost use Rattle.restricted_judge.specs.Judging.{zeros};
 ghost use Rattle.source_walk.specs.Answers.{zeros as sourceZeros};
-ghost use Rattle.ruphenqo.specs.Told.{Told, countsOf, itself, stateOf, endOver};
+ghost use Rattle.refusals.specs.Texts.{refusalText};
+ghost use Rattle.ruphenqo.specs.Told.{Told, countsOf, itself, stateOf, stateOver, endOver};
+ghost use Rattle.ruphenqo.specs.Start.{declaresOf, declaresOver, startSource, startRestricted};
+ghost use Rattle.ruphenqo.specs.Version.{VERSION};
+
+// major * 10000 + minor * 100 + patch
+const VERSION: u32 = 10_000;
+
+// The version of the library.
+#[no_mangle]
+pub extern "C" fn ruphenqo_version() -> u32
+    ensures { λ r. ⌜ r ≡ VERSION ⌝ }
+{
+    VERSION
+}
 
 fn tell_counts(verdict: file_check::Verdict, counts: &mut [u64; 3], place: &mut u64) -> u32
     ensures { λ r. ⌜ Told (countsOf (verdictIs verdict)) itself (now (counts .entry)) r (now (place .exit)) (now (counts .exit)) ⌝ }
@@ -47,9 +62,70 @@ pub extern "C" fn ruphenqo_read_restricted(
     counts: &mut [u64; 3],
     place: &mut u64,
 ) -> u32
-    ensures { λ r. ⌜ Told (countsOf (verdictOf restrictedLimits (now (task .entry)))) itself (now (counts .entry)) r (now (place .exit)) (now (counts .exit)) ⌝ }
+    ensures { λ r. ⌜ Told (countsOf (verdictOf restrictedLimits (now (task .entry)))) itself (now (counts .entry))
+        r (now (place .exit)) (now (counts .exit)) ⌝ }
 {
     tell_counts(file_check::check_restricted(task), counts, place)
+}
+
+// The state before any step of a source task, the bounds of its variables and the sizes of its modes, each in front of zeros.
+#[no_mangle]
+pub extern "C" fn ruphenqo_source_start(
+    task: &[u8],
+    values: &mut [i64; 8],
+    modes: &mut [u16; 4],
+    lower: &mut [i64; 8],
+    upper: &mut [i64; 8],
+    sizes: &mut [u16; 4],
+    place: &mut u64,
+) -> u32
+    ensures { λ r. ⌜ Told (startSource (now (task .entry))) (declaresOver sourceZeros)
+        (declaresOf (stateOf (now (values .entry)) (now (modes .entry))) (now (lower .entry)) (now (upper .entry)) (now (sizes .entry))) r (now (place .exit))
+        (declaresOf (stateOf (now (values .exit)) (now (modes .exit))) (now (lower .exit)) (now (upper .exit)) (now (sizes .exit))) ⌝ }
+{
+    match file_check::check_source(task) {
+        file_check::Verdict::Rejected(number, at) => {
+            *place = at;
+            number as u32
+        }
+        file_check::Verdict::Accepted(_, _, _) => {
+            *place = 0;
+            *values = [0; 8];
+            *modes = [0; 4];
+            *lower = [0; 8];
+            *upper = [0; 8];
+            *sizes = [0; 4];
+            file_declarations::read_source(task, lower, upper, values, sizes, modes);
+            0
+        }
+    }
+}
+
+// The state before any step of a restricted task, in front of zeros.
+#[no_mangle]
+pub extern "C" fn ruphenqo_restricted_start(
+    task: &[u8],
+    values: &mut [i64; 64],
+    modes: &mut [u16; 8],
+    place: &mut u64,
+) -> u32
+    ensures { λ r. ⌜ Told (startRestricted (now (task .entry))) (stateOver zeros) (stateOf (now (values .entry)) (now (modes .entry)))
+        r (now (place .exit)) (stateOf (now (values .exit)) (now (modes .exit))) ⌝ }
+{
+    match file_check::check_restricted(task) {
+        file_check::Verdict::Rejected(number, at) => {
+            *place = at;
+            number as u32
+        }
+        file_check::Verdict::Accepted(_, _, _) => {
+            *place = 0;
+            *values = [0; 64];
+            *modes = [0; 8];
+            let mut sizes = [0u16; 8];
+            file_declarations::read_restricted(task, values, &mut sizes, modes);
+            0
+        }
+    }
 }
 
 fn tell_place(placed: file_actions::Placed, start: &mut u64, end: &mut u64, place: &mut u64) -> u32
@@ -78,7 +154,8 @@ pub extern "C" fn ruphenqo_source_action(
     end: &mut u64,
     place: &mut u64,
 ) -> u32
-    ensures { λ r. ⌜ Told (actionPlace sourceLimits (now (task .entry)) k) itself (now (start .entry), now (end .entry)) r (now (place .exit)) (now (start .exit), now (end .exit)) ⌝ }
+    ensures { λ r. ⌜ Told (actionPlace sourceLimits (now (task .entry)) k) itself (now (start .entry), now (end .entry))
+        r (now (place .exit)) (now (start .exit), now (end .exit)) ⌝ }
 {
     tell_place(
         file_actions::place_source_action(task, k as usize),
@@ -97,7 +174,8 @@ pub extern "C" fn ruphenqo_restricted_action(
     end: &mut u64,
     place: &mut u64,
 ) -> u32
-    ensures { λ r. ⌜ Told (actionPlace restrictedLimits (now (task .entry)) k) itself (now (start .entry), now (end .entry)) r (now (place .exit)) (now (start .exit), now (end .exit)) ⌝ }
+    ensures { λ r. ⌜ Told (actionPlace restrictedLimits (now (task .entry)) k) itself (now (start .entry), now (end .entry))
+        r (now (place .exit)) (now (start .exit), now (end .exit)) ⌝ }
 {
     tell_place(
         file_actions::place_restricted_action(task, k as usize),
@@ -117,7 +195,9 @@ pub extern "C" fn ruphenqo_judge_source(
     modes: &mut [u16; 4],
     place: &mut u64,
 ) -> u32
-    ensures { λ r. ⌜ Told (judgeSource (now (task .entry)) (now (plan .entry))) (endOver sourceZeros) (now (steps .entry), stateOf (now (values .entry)) (now (modes .entry))) r (now (place .exit)) (now (steps .exit), stateOf (now (values .exit)) (now (modes .exit))) ⌝ }
+    ensures { λ r. ⌜ Told (judgeSource (now (task .entry)) (now (plan .entry)))
+        (endOver sourceZeros) (now (steps .entry), stateOf (now (values .entry)) (now (modes .entry)))
+        r (now (place .exit)) (now (steps .exit), stateOf (now (values .exit)) (now (modes .exit))) ⌝ }
 {
     let judgement = source_walk::judge(task, plan);
     let verdict = judgement.verdict;
@@ -149,7 +229,9 @@ pub extern "C" fn ruphenqo_judge_restricted(
     modes: &mut [u16; 8],
     place: &mut u64,
 ) -> u32
-    ensures { λ r. ⌜ Told (judgeRestricted (now (task .entry)) (now (plan .entry))) (endOver zeros) (now (steps .entry), stateOf (now (values .entry)) (now (modes .entry))) r (now (place .exit)) (now (steps .exit), stateOf (now (values .exit)) (now (modes .exit))) ⌝ }
+    ensures { λ r. ⌜ Told (judgeRestricted (now (task .entry)) (now (plan .entry)))
+        (endOver zeros) (now (steps .entry), stateOf (now (values .entry)) (now (modes .entry)))
+        r (now (place .exit)) (now (steps .exit), stateOf (now (values .exit)) (now (modes .exit))) ⌝ }
 {
     let judgement = restricted_judge::judge(task, plan);
     let verdict = judgement.verdict;
@@ -180,7 +262,9 @@ pub extern "C" fn ruphenqo_step_restricted(
     k: u64,
     place: &mut u64,
 ) -> u32
-    ensures { λ r. ⌜ Told (stepRestrictedAlone (now (task .entry)) (stateOf (now (values .entry)) (now (modes .entry))) k) itself (stateOf (now (values .entry)) (now (modes .entry))) r (now (place .exit)) (stateOf (now (values .exit)) (now (modes .exit))) ⌝ }
+    ensures { λ r. ⌜ Told (stepRestrictedAlone (now (task .entry)) (stateOf (now (values .entry)) (now (modes .entry))) k)
+        itself (stateOf (now (values .entry)) (now (modes .entry)))
+        r (now (place .exit)) (stateOf (now (values .exit)) (now (modes .exit))) ⌝ }
 {
     let before = restricted_state::State {
         values: *values,
@@ -214,7 +298,9 @@ pub extern "C" fn ruphenqo_step_source(
     k: u64,
     place: &mut u64,
 ) -> u32
-    ensures { λ r. ⌜ Told (stepSourceAlone (now (task .entry)) (stateOf (now (values .entry)) (now (modes .entry))) k) itself (stateOf (now (values .entry)) (now (modes .entry))) r (now (place .exit)) (stateOf (now (values .exit)) (now (modes .exit))) ⌝ }
+    ensures { λ r. ⌜ Told (stepSourceAlone (now (task .entry)) (stateOf (now (values .entry)) (now (modes .entry))) k)
+        itself (stateOf (now (values .entry)) (now (modes .entry)))
+        r (now (place .exit)) (stateOf (now (values .exit)) (now (modes .exit))) ⌝ }
 {
     let before = source_state::State {
         values: *values,
@@ -265,7 +351,8 @@ pub extern "C" fn ruphenqo_price_step(
     price: &mut u64,
     place: &mut u64,
 ) -> u32
-    ensures { λ r. ⌜ Told (priceStep (now (task .entry)) (stateOf (now (values .entry)) (now (modes .entry))) k) itself (now (price .entry)) r (now (place .exit)) (now (price .exit)) ⌝ }
+    ensures { λ r. ⌜ Told (priceStep (now (task .entry)) (stateOf (now (values .entry)) (now (modes .entry))) k) itself (now (price .entry))
+        r (now (place .exit)) (now (price .exit)) ⌝ }
 {
     let before = source_state::State {
         values: *values,
@@ -315,7 +402,8 @@ pub extern "C" fn ruphenqo_lower(
     length: &mut u64,
     place: &mut u64,
 ) -> u32
-    ensures { λ r. ⌜ Told (lent (now (out .entry)) (lowerBytes (now (task .entry))) .0) itself (now (length .entry)) r (now (place .exit)) (now (length .exit)) ⌝ }
+    ensures { λ r. ⌜ Told (lent (now (out .entry)) (lowerBytes (now (task .entry))) .0) itself (now (length .entry))
+        r (now (place .exit)) (now (length .exit)) ⌝ }
     ensures { λ _. ⌜ now (out .exit) ≡ lent (now (out .entry)) (lowerBytes (now (task .entry))) .1 ⌝ }
 {
     tell_written(lowering_file::lower(task, out), length, place)
@@ -330,7 +418,8 @@ pub extern "C" fn ruphenqo_expand(
     length: &mut u64,
     place: &mut u64,
 ) -> u32
-    ensures { λ r. ⌜ Told (lent (now (out .entry)) (expandBytes (now (task .entry)) (now (plan .entry))) .0) itself (now (length .entry)) r (now (place .exit)) (now (length .exit)) ⌝ }
+    ensures { λ r. ⌜ Told (lent (now (out .entry)) (expandBytes (now (task .entry)) (now (plan .entry))) .0) itself (now (length .entry))
+        r (now (place .exit)) (now (length .exit)) ⌝ }
     ensures { λ _. ⌜ now (out .exit) ≡ lent (now (out .entry)) (expandBytes (now (task .entry)) (now (plan .entry))) .1 ⌝ }
 {
     tell_written(plan_expand::expand(task, plan, out), length, place)
@@ -345,7 +434,8 @@ pub extern "C" fn ruphenqo_list(
     length: &mut u64,
     place: &mut u64,
 ) -> u32
-    ensures { λ r. ⌜ Told (lent (now (out .entry)) (given (listing (now (task .entry)) (now (plan .entry)))) .0) itself (now (length .entry)) r (now (place .exit)) (now (length .exit)) ⌝ }
+    ensures { λ r. ⌜ Told (lent (now (out .entry)) (given (listing (now (task .entry)) (now (plan .entry)))) .0) itself (now (length .entry))
+        r (now (place .exit)) (now (length .exit)) ⌝ }
     ensures { λ _. ⌜ now (out .exit) ≡ lent (now (out .entry)) (given (listing (now (task .entry)) (now (plan .entry)))) .1 ⌝ }
 {
     tell_written(listing::list(task, plan, out), length, place)
@@ -360,8 +450,23 @@ pub extern "C" fn ruphenqo_project(
     length: &mut u64,
     place: &mut u64,
 ) -> u32
-    ensures { λ r. ⌜ Told (lent (now (out .entry)) (projectBytes (now (task .entry)) (now (plan .entry))) .0) itself (now (length .entry)) r (now (place .exit)) (now (length .exit)) ⌝ }
+    ensures { λ r. ⌜ Told (lent (now (out .entry)) (projectBytes (now (task .entry)) (now (plan .entry))) .0) itself (now (length .entry))
+        r (now (place .exit)) (now (length .exit)) ⌝ }
     ensures { λ _. ⌜ now (out .exit) ≡ lent (now (out .entry)) (projectBytes (now (task .entry)) (now (plan .entry))) .1 ⌝ }
 {
     tell_written(plan_project::project(task, plan, out), length, place)
+}
+
+// The text of an answer's number, written into lent output. The only refusal is 8.
+#[no_mangle]
+pub extern "C" fn ruphenqo_refusal_text(
+    number: u32,
+    out: &mut [u8],
+    length: &mut u64,
+    place: &mut u64,
+) -> u32
+    ensures { λ r. ⌜ Told (lent (now (out .entry)) (given (refusalText number)) .0) itself (now (length .entry)) r (now (place .exit)) (now (length .exit)) ⌝ }
+    ensures { λ _. ⌜ now (out .exit) ≡ lent (now (out .entry)) (given (refusalText number)) .1 ⌝ }
+{
+    tell_written(refusals::write_text(number, out), length, place)
 }

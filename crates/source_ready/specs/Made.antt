@@ -43,7 +43,8 @@ headMarks kind target operand count l = set (set (set (set l KIND kind) TARGET t
 abbrev pub headNumbers : ℤ → ℤ → ℤ → List ℤ → List ℤ
 headNumbers c least most l = set (set (set l CONSTANT c) LOWER least) UPPER most
 
-pub record HeadPut (n : ℕ) (lower upper : List ℤ) (kind target operand count : ℕ) (c : ℤ) (marks : List ℕ) (numbers : List ℤ) (marks′ : List ℕ) (numbers′ : List ℤ) : Type 0 where
+pub record HeadPut (n : ℕ) (lower upper : List ℤ) (kind target operand count : ℕ) (c : ℤ) (marks : List ℕ) (numbers : List ℤ) (marks′ : List ℕ)
+    (numbers′ : List ℤ) : Type 0 where
   pub marksAre : marks′ ≡ headMarks kind target operand count marks
   pub numbersAre : numbers′ ≡ headNumbers c (integerAt (take n lower) target) (integerAt (take n upper) target) numbers
 

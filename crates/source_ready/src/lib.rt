@@ -84,7 +84,8 @@ fn put_head(
     constant: i64,
 )
     requires { ⌜ n ≤ VARIABLES ⌝ }
-    ensures { λ _. ⌜ HeadPut n (now (lower .entry)) (now (upper .entry)) kind target operand count constant (now (marks .entry)) (now (numbers .entry)) (now (marks .exit)) (now (numbers .exit)) ⌝ }
+    ensures { λ _. ⌜ HeadPut n (now (lower .entry)) (now (upper .entry)) kind target operand count constant (now (marks .entry)) (now (numbers .entry))
+        (now (marks .exit)) (now (numbers .exit)) ⌝ }
 {
     marks[KIND] = kind;
     marks[TARGET] = wide(target);
@@ -108,7 +109,8 @@ fn put_linear(
     terms: [Term; TERMS],
 )
     requires { ⌜ (n ≤ VARIABLES) × Blank (now marks) (now numbers) × EffectOk sourceLimits n (linearEffect target constant (termsIs count terms)) ⌝ }
-    ensures { λ _. ⌜ EffectPut n (now (lower .entry)) (now (upper .entry)) (linearEffect target constant (termsIs count terms)) (now (marks .entry)) (now (numbers .entry)) (now (marks .exit)) (now (numbers .exit)) ⌝ }
+    ensures { λ _. ⌜ EffectPut n (now (lower .entry)) (now (upper .entry)) (linearEffect target constant (termsIs count terms)) (now (marks .entry))
+        (now (numbers .entry)) (now (marks .exit)) (now (numbers .exit)) ⌝ }
 {
     let k = source_step::lesser(TERMS, count);
     put_terms(marks, numbers, k, terms);
@@ -138,7 +140,8 @@ fn put_effect(
     terms: [Term; TERMS],
 )
     requires { ⌜ (n ≤ VARIABLES) × Blank (now marks) (now numbers) × EffectOk sourceLimits n (effectIs effect (termsIs count terms)) ⌝ }
-    ensures { λ _. ⌜ EffectPut n (now (lower .entry)) (now (upper .entry)) (effectIs effect (termsIs count terms)) (now (marks .entry)) (now (numbers .entry)) (now (marks .exit)) (now (numbers .exit)) ⌝ }
+    ensures { λ _. ⌜ EffectPut n (now (lower .entry)) (now (upper .entry)) (effectIs effect (termsIs count terms)) (now (marks .entry)) (now (numbers .entry))
+        (now (marks .exit)) (now (numbers .exit)) ⌝ }
 {
     match effect {
         Effect::None => {}
@@ -230,8 +233,10 @@ pub fn prepare(
     marks: &mut [[u16; MARKS]],
     numbers: &mut [[i64; NUMBERS]],
 )
-    requires { ⌜ AcceptedWith (verdictOf sourceLimits (now file)) count × Declares (now file) n (now lower) (now upper) m (now sizes) × (length (now marks) ≡ ROWS) × (length (now numbers) ≡ ROWS) ⌝ }
-    ensures { λ _. ⌜ Prepared (now (file .entry)) count n (now (lower .entry)) (now (upper .entry)) m (now (sizes .entry)) (now (marks .exit)) (now (numbers .exit)) ⌝ }
+    requires { ⌜ AcceptedWith (verdictOf sourceLimits (now file)) count × Declares (now file) n (now lower) (now upper) m (now sizes)
+        × (length (now marks) ≡ ROWS) × (length (now numbers) ≡ ROWS) ⌝ }
+    ensures { λ _. ⌜ Prepared (now (file .entry)) count n (now (lower .entry)) (now (upper .entry)) m (now (sizes .entry)) (now (marks .exit))
+        (now (numbers .exit)) ⌝ }
 {
     let mut places = [0usize; PLACES];
     file_actions::action_places(file, &mut places);

@@ -18,10 +18,7 @@ use Rattle.integers.proofs.Parts.{ints, abs}
 use Rattle.integers.proofs.Products.{mul-abs}
 use Rattle.lists.proofs.Loops.{and-left, and-right}
 use Rattle.model.proofs.StepBounds.{abs-sum}
-use mathlib.Core.List.{List}
-use Rattle.lists.specs.Loops.{every}
-use Rattle.model.specs.Tasks.{linearEffect, quotientEffect}
-use Rattle.source_step.specs.Parts.{small, divides, termFits, effectFits}
+use Rattle.source_step.specs.Parts.{small, divides}
 
 pub small-is : (z : ℤ) → small z ≡ true → natAbs z ≤ 10_000
 small-is z e = leb-true (natAbs z) 10_000 e

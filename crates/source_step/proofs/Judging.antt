@@ -1,10 +1,10 @@
 -- What is read of an accepted file is its task: the actions, the goal, what is declared.
 -- Assumes nothing.
 use mathlib.Core.Path.{_≡_, refl, sym, ap, _∙_, subst}
-use Prim.Native.Nat.{ℕ, suc, _≤_, _<_}
+use Prim.Native.Nat.{ℕ, _≤_}
 use native.Mathlib.Omega.{arith}
-use mathlib.Core.List.{List, [], _∷_}
-use lib.ListN.{length, getD, replicate, length-replicate, length-map}
+use mathlib.Core.List.{List}
+use lib.ListN.{length, replicate, length-replicate, length-map}
 use lib.IntN.{ℤ, pos}
 use Rattle.integers.specs.Numbers.{Bytes}
 use Rattle.lists.specs.Answer.{given}
@@ -23,11 +23,6 @@ use Rattle.file_declarations.specs.Holding.{SourceRoom}
 use Rattle.file_declarations.proofs.Accepted.{source-variables, source-modes}
 use Rattle.source_step.specs.Step.{Kept}
 use Rattle.source_step.specs.Accepted.{AcceptedWith}
-
--- the bytes of a slice
-pub bytes-of : (s : List ℕ) → ((i : ℕ) → getD s i 0 < 256) → Bytes s
-bytes-of [] h = tt
-bytes-of (b ∷ s) h = (h 0, bytes-of s (λ i. h (suc i)))
 
 -- an accepted file has a task, with so many actions
 module _ (file : List ℕ) (count : ℕ) where

@@ -16,7 +16,7 @@ use Rattle.integers.specs.Relation.{between}
 use Rattle.lists.specs.Each.{tabulate}
 use Rattle.lists.specs.Loops.{every}
 use Rattle.lists.proofs.Loops.{and-left, and-right}
-use Rattle.model.specs.Steps.{integerAt, naturalAt, valuesWithinBounds, modesBelowSizes, withinBounds, putResult, setAll}
+use Rattle.model.specs.Steps.{integerAt, naturalAt, valuesWithinBounds, modesBelowSizes, withinBounds, putResult}
 use Rattle.source_step.specs.Parts.{valuesBetween, modesBelow}
 use Rattle.source_step.specs.Step.{setAt, settled}
 
@@ -77,25 +77,6 @@ length-setAt n l i x = go (ltb i n)
     go : (b : Bool) → length (cond b (set l i x) l) ≡ length l
     go true = length-set l i x
     go false = refl
-
-module _ {A : Type 0} (n : ℕ) (l : List A) (i : ℕ) (x : A) where
-  set-front : take n (setAt n l i x) ≡ set (take n l) i x
-  set-front = go (ltb i n) refl
-    where
-      go : (b : Bool) → ltb i n ≡ b → take n (cond b (set l i x) l) ≡ set (take n l) i x
-      go true e = take-set-lt n l i x (ltb-true i n e)
-      go false e = let h : n ≤ i = ltb-false i n e in sym (set-out (take n l) i x (omega (arith, take-short n l)))
-
-  set-rest : drop n (setAt n l i x) ≡ drop n l
-  set-rest = go (ltb i n) refl
-    where
-      go : (b : Bool) → ltb i n ≡ b → drop n (cond b (set l i x) l) ≡ drop n l
-      go true e = drop-set-lt n l i x (ltb-true i n e)
-      go false e = refl
-
--- one E, and then the rest
-pub setting : (n : ℕ) (l new : List ℕ) (i x : ℕ) → new ≡ setAt n l i x → (rest : List (ℕ × ℕ)) → setAll rest (take n new) ++ drop n new ≡ setAll rest (set (take n l) i x) ++ drop n l
-setting n l new i x e rest = rw (e, set-front n l i x, set-rest n l i x)
 
 pub settled-is : (n : ℕ) (o : Option (ℕ × ℤ)) (l : List ℤ) → settled n o l ≡ putResult o (take n l) ++ drop n l
 settled-is n none l = sym (take-append-drop n l)

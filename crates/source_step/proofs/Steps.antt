@@ -6,7 +6,7 @@ use native.Mathlib.Omega.{arith}
 use mathlib.Core.Bool.{Bool, true, false, cond, not, false≢true, _&&_}
 use mathlib.Core.Option.{Option, none, some}
 use mathlib.Core.List.{List, [], _∷_, map}
-use lib.ListN.{length, getD, take, getElem?}
+use lib.ListN.{length, getD, getElem?}
 use Rattle.integers.specs.All.{All}
 use lib.IntN.{ℤ, natAbs}
 use lib.Signed.{leZ}
@@ -21,9 +21,6 @@ use Rattle.lists.specs.Loops.{every}
 use Rattle.model.specs.Tasks.{Effect, noEffect, addEffect, linearEffect, quotientEffect, residueEffect, SourceAction, SourceVariable, SourceTask, State}
 use Rattle.model.specs.Systems.{bind, provided}
 use Rattle.model.specs.Steps.{integerAt, naturalAt, modesHold, conditionsHold, withinBounds, result, putResult, setAll, trySource, valuesWithinBounds, modesBelowSizes, soundSource, lowerBounds, upperBounds, sizesOf, stepSource}
-use Rattle.file_actions.specs.declared.Effect.{Effect as DecodedEffect}
-use Rattle.file_actions.specs.declared.Effect.the-variants.{None, Add, Linear, Quotient, Residue}
-use Rattle.file_actions.specs.Views.{effectIs, fittingEffect, termRoom}
 use Rattle.source_step.specs.Parts.{small, termFits, effectFits}
 use Rattle.source_step.specs.Step.{stepOf}
 use Rattle.source_step.proofs.Sound.{put-stays}

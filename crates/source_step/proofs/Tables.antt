@@ -6,17 +6,16 @@ use native.Mathlib.Omega.{arith}
 use native.Mathlib.Decide.{ℕ-discrete}
 use mathlib.Core.Bool.{Bool, true, false, cond, _&&_}
 use mathlib.Core.Option.{Option}
-use mathlib.Core.List.{List}
-use lib.ListN.{length, take, getElem?}
+use lib.ListN.{take}
 use lib.IntN.{ℤ}
 use Rattle.model.specs.Tasks.{Effect, SourceAction, SourceTask, State}
 use Rattle.model.specs.Systems.{provided, orZero}
 use Rattle.model.specs.Steps.{naturalAt, integerAt, modesHold, conditionsHold, result, withinBounds, lowerBounds, upperBounds, stepSource, sourceGoalHolds}
 use Rattle.model.specs.Expansion.{priceOfEffect, priceFrom}
-use Rattle.source_step.specs.Step.{state, Shaped, Kept}
-use Rattle.source_step.specs.Row.{valuesAfter, modesAfter, Usable, Stepped}
+use Rattle.source_step.specs.Step.{state, Kept}
+use Rattle.source_step.specs.Row.{Usable, Stepped}
 use Rattle.source_step.specs.Ready.{marksOf, numbersOf, Standing, RowAt}
-use Rattle.source_step.specs.Table.{Table, declaredBy, heldBy, takesBy, afterBy, stepBy, goalBy, priceBy, Usables, RowsOf, Inside}
+use Rattle.source_step.specs.Table.{Table, declaredBy, heldBy, takesBy, afterBy, goalBy, priceBy, Usables, RowsOf, Inside}
 use Rattle.source_step.proofs.Standing as standing
 
 module _ {t : SourceTask} {T : Table} (R : RowsOf t T) where

@@ -1,19 +1,19 @@
 -- The rows of all actions of a task, and a state of that task from which steps are taken.
 -- Assumes nothing.
 use mathlib.Core.Path.{_≡_}
-use Prim.Native.Nat.{ℕ, _<_, _≤_}
-use mathlib.Core.Bool.{Bool, true}
+use Prim.Native.Nat.{ℕ, _<_}
+use mathlib.Core.Bool.{true}
 use mathlib.Core.Option.{some}
 use mathlib.Core.List.{List, [], map}
 use lib.ListN.{length, getD, take, getElem?}
 use lib.IntN.{ℤ}
 use Rattle.lists.specs.Answer.{given}
-use Rattle.model.specs.Tasks.{SourceTask, SourceVariable, SourceAction, State, noEffect}
+use Rattle.model.specs.Tasks.{SourceTask, SourceVariable, SourceAction, noEffect}
 use Rattle.model.specs.TaskOk.{SourceTaskOk}
 use Rattle.model.specs.Steps.{integerAt, sizesOf, soundSource}
 use Rattle.model.specs.Decoding.{readSource}
 use Rattle.model.specs.Judging.{declaredPart}
-use Rattle.source_step.specs.Step.{state, Shaped, Kept}
+use Rattle.source_step.specs.Step.{state, Shaped}
 use Rattle.source_step.specs.Row.{RowOf}
 
 abbrev pub marksOf : List (List ℕ) → ℕ → List ℕ
@@ -23,7 +23,8 @@ abbrev pub numbersOf : List (List ℤ) → ℕ → List ℤ
 numbersOf numbers k = getD numbers k []
 
 -- the rows at k are those of action k
-pub record RowAt (acts : List SourceAction) (n m : ℕ) (lower upper : List ℤ) (sizes : List ℕ) (marks : List (List ℕ)) (numbers : List (List ℤ)) (k : ℕ) : Type 0 where
+pub record RowAt (acts : List SourceAction) (n m : ℕ) (lower upper : List ℤ) (sizes : List ℕ) (marks : List (List ℕ))
+    (numbers : List (List ℤ)) (k : ℕ) : Type 0 where
   pub action : SourceAction
   pub found : getElem? acts k ≡ some action
   pub row : RowOf n m lower upper sizes (marksOf marks k) (numbersOf numbers k) action
@@ -33,7 +34,8 @@ abbrev pub goalAction : SourceTask → SourceAction
 goalAction t = record { modeConditions = t .goalModes; conditions = t .goalConditions; modeEffects = []; effect = noEffect }
 
 -- the arrays and the rows are those of a task that keeps to the rules on source files
-pub record Ready (t : SourceTask) (count : ℕ) (marks : List (List ℕ)) (numbers : List (List ℤ)) (n : ℕ) (lower upper : List ℤ) (m : ℕ) (sizes : List ℕ) : Type 0 where
+pub record Ready (t : SourceTask) (count : ℕ) (marks : List (List ℕ)) (numbers : List (List ℤ)) (n : ℕ) (lower upper : List ℤ) (m : ℕ)
+    (sizes : List ℕ) : Type 0 where
   pub ok : SourceTaskOk t
   pub counted : count ≡ length (t .actions)
   pub rowsAre : (k : ℕ) → k < count → RowAt (t .actions) n m lower upper sizes marks numbers k
@@ -45,12 +47,14 @@ pub record Ready (t : SourceTask) (count : ℕ) (marks : List (List ℕ)) (numbe
   pub numbersLong : length numbers ≡ 33
 
 -- they are those of some task, and its state lies within its bounds
-pub record Standing (count : ℕ) (marks : List (List ℕ)) (numbers : List (List ℤ)) (n : ℕ) (lower upper : List ℤ) (m : ℕ) (sizes : List ℕ) (values : List ℤ) (modes : List ℕ) : Type 0 where
+pub record Standing (count : ℕ) (marks : List (List ℕ)) (numbers : List (List ℤ)) (n : ℕ) (lower upper : List ℤ) (m : ℕ) (sizes : List ℕ) (values : List ℤ)
+    (modes : List ℕ) : Type 0 where
   pub task : SourceTask
   pub ready : Ready task count marks numbers n lower upper m sizes
   pub shaped : Shaped n m values modes sizes
   pub sound : soundSource (integerAt (take n lower)) (integerAt (take n upper)) (take m sizes) (declaredPart n m (state values modes)) ≡ true
 
 -- the rows of an accepted file's actions were made
-pub record Prepared (file : List ℕ) (count : ℕ) (n : ℕ) (lower upper : List ℤ) (m : ℕ) (sizes : List ℕ) (marks : List (List ℕ)) (numbers : List (List ℤ)) : Type 0 where
+pub record Prepared (file : List ℕ) (count : ℕ) (n : ℕ) (lower upper : List ℤ) (m : ℕ) (sizes : List ℕ) (marks : List (List ℕ))
+    (numbers : List (List ℤ)) : Type 0 where
   pub ready : (t : SourceTask) → readSource file ≡ given t → Ready t count marks numbers n lower upper m sizes

@@ -17,7 +17,8 @@ use Rattle.model.specs.Steps.{integerAt, naturalAt, modesHold, conditionsHold, 
 use Rattle.source_step.specs.Parts.{valuesBetween, modesBelow, effectFits}
 use Rattle.source_step.specs.Sizes.{VARIABLES, MODES}
 use Rattle.source_step.specs.Step.{settled}
-use Rattle.source_step.specs.Layout.{TOP, KEEP, PUT, KIND, TARGET, OPERAND, COUNT, TERM, MOST, CONSTANT, WEIGHT, LOWER, UPPER, NONE, ADD, LINEAR, QUOTIENT}
+use Rattle.source_step.specs.Layout.{TOP, KEEP, PUT, KIND, TARGET, OPERAND, COUNT, TERM}
+use Rattle.source_step.specs.Layout.{MOST, CONSTANT, WEIGHT, LOWER, UPPER, NONE, ADD, LINEAR, QUOTIENT}
 
 -- ---- what the rows ask of a state with n variables and m modes
 abbrev pub valuesIn : ℕ → List ℤ → List ℤ → Bool
@@ -114,7 +115,8 @@ abbrev pub valuesAfter : ℕ → List ℕ → List ℤ → List ℤ → List ℤ
 valuesAfter n marks numbers values = settled n (outcomeAt n marks numbers values) values
 
 -- the answer r, and the arrays after, where the rows are taken if a test holds
-pub record SteppedIf (test : Bool) (n m : ℕ) (marks : List ℕ) (numbers : List ℤ) (values : List ℤ) (modes : List ℕ) (r : Bool) (values′ : List ℤ) (modes′ : List ℕ) : Type 0 where
+pub record SteppedIf (test : Bool) (n m : ℕ) (marks : List ℕ) (numbers : List ℤ) (values : List ℤ) (modes : List ℕ) (r : Bool) (values′ : List ℤ)
+    (modes′ : List ℕ) : Type 0 where
   pub is : r ≡ test
   pub valuesAre : values′ ≡ cond test (valuesAfter n marks numbers values) values
   pub modesAre : modes′ ≡ cond test (modesAfter m marks modes) modes

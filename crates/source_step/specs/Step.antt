@@ -23,7 +23,9 @@ state values modes = record { values = values; modes = modes }
 unfoldable pub stepOf : List ℤ → List ℤ → List ℕ → State → SourceAction → Option State
 stepOf lower upper sizes x a =
     cond (effectFits (a .effect) (integerAt (x .values)))
-    (bind (trySource (integerAt lower) (integerAt upper) x a) (λ y. cond (soundSource (integerAt lower) (integerAt upper) sizes x) (cond (soundSource (integerAt lower) (integerAt upper) sizes y) (some y) none) none))
+    (bind (trySource (integerAt lower) (integerAt upper) x a)
+    (λ y. cond (soundSource (integerAt lower) (integerAt upper) sizes x)
+    (cond (soundSource (integerAt lower) (integerAt upper) sizes y) (some y) none) none))
     none
 
 -- whether the action applies, and the state after it with the rest of the arrays as before; where it doesn't, the state before
@@ -53,9 +55,11 @@ pub record Shaped (n m : ℕ) (values : List ℤ) (modes sizes : List ℕ) : Typ
   pub sizesLong : length sizes ≡ 4
 
 -- an action was tried: the answer r, and the arrays after
-pub record Tried (n m : ℕ) (lower upper : List ℤ) (sizes : List ℕ) (values : List ℤ) (modes : List ℕ) (a : SourceAction) (r : Bool) (values′ : List ℤ) (modes′ : List ℕ) : Type 0 where
+pub record Tried (n m : ℕ) (lower upper : List ℤ) (sizes : List ℕ) (values : List ℤ) (modes : List ℕ) (a : SourceAction) (r : Bool) (values′ : List ℤ)
+    (modes′ : List ℕ) : Type 0 where
   pub meets : (r, state values′ modes′) ≡ steppedIn n m lower upper sizes (state values modes) a
-  pub declares : stepOf (take n lower) (take n upper) (take m sizes) (declaredPart n m (state values modes)) a ≡ provided r (declaredPart n m (state values′ modes′))
+  pub declares : stepOf (take n lower) (take n upper) (take m sizes) (declaredPart n m (state values modes)) a
+      ≡ provided r (declaredPart n m (state values′ modes′))
   pub valuesLong : length values′ ≡ 8
   pub modesLong : length modes′ ≡ 4
 

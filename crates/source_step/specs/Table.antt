@@ -46,7 +46,8 @@ module _ (T : Table) where
   takesBy x k = takes (T .variables) (T .modes) (marksOf (T .marks) k) (numbersOf (T .numbers) k) (x .values) (x .modes)
 
   abbrev pub afterBy : State → ℕ → State
-  afterBy x k = state (valuesAfter (T .variables) (marksOf (T .marks) k) (numbersOf (T .numbers) k) (x .values)) (modesAfter (T .modes) (marksOf (T .marks) k) (x .modes))
+  afterBy x k = state (valuesAfter (T .variables) (marksOf (T .marks) k) (numbersOf (T .numbers) k) (x .values))
+      (modesAfter (T .modes) (marksOf (T .marks) k) (x .modes))
 
   abbrev pub stepBy : State → ℕ → Option State
   stepBy x k = provided (takesBy x k) (afterBy x k)
@@ -87,4 +88,5 @@ pub record RowsOf (t : SourceTask) (T : Table) : Type 0 where
 -- a state of that task, within its bounds
 pub record Inside {t : SourceTask} {T : Table} (R : RowsOf t T) (x : State) : Type 0 where
   pub shaped : Shaped (T .variables) (T .modes) (x .values) (x .modes) (R .sizes)
-  pub sound : soundSource (integerAt (take (T .variables) (R .lower))) (integerAt (take (T .variables) (R .upper))) (take (T .modes) (R .sizes)) (declaredBy T x) ≡ true
+  pub sound : soundSource (integerAt (take (T .variables) (R .lower))) (integerAt (take (T .variables) (R .upper)))
+      (take (T .modes) (R .sizes)) (declaredBy T x) ≡ true

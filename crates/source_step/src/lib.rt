@@ -12,7 +12,8 @@ ghost use lib.IntN.{natAbs, _+ℤ_, _*ℤ_};
 ghost use Rattle.integers.specs.Parts.{Within};
 ghost use Rattle.model.specs.Steps.{integerAt, naturalAt, linear};
 ghost use Rattle.source_step.specs.Step.{setAt};
-ghost use Rattle.source_step.specs.Row.{valuesIn, modesIn, modesAfter, KeepOrSet, constantAt, termsAt, outcomeAt, ResultIs, staysIn, Reads, Usable, held, valuesAfter, Stepped, Finished};
+ghost use Rattle.source_step.specs.Row.{valuesIn, modesIn, modesAfter, KeepOrSet, constantAt, termsAt, outcomeAt};
+ghost use Rattle.source_step.specs.Row.{ResultIs, staysIn, Reads, Usable, held, valuesAfter, Stepped, Finished};
 ghost use Rattle.source_step.specs.Sizes.{VARIABLES, MODES};
 
 // The most variables and modes that a source task declares.
@@ -206,7 +207,8 @@ fn plus_term(
     i: usize,
 ) -> i64
     requires { ⌜ Reads n (now values) (now marks) (now numbers) × (i < 4) × Within 1000000000 z ⌝ }
-    ensures { λ r. ⌜ (r ≡ z +ℤ integerAt (take n (now (values .entry))) (naturalAt (now (marks .entry)) (20 + i)) *ℤ integerAt (now (numbers .entry)) (17 + i)) × (natAbs r ≤ natAbs z + 100000000) ⌝ }
+    ensures { λ r. ⌜ (r ≡ z +ℤ integerAt (take n (now (values .entry))) (naturalAt (now (marks .entry)) (20 + i)) *ℤ integerAt (now (numbers .entry))
+        (17 + i)) × (natAbs r ≤ natAbs z + 100000000) ⌝ }
 {
     let value = value_of(values, n, marks[TERM + i]);
     plus_product(z, value, numbers[WEIGHT + i])
@@ -220,7 +222,8 @@ pub fn linear_value(
     numbers: &[i64; NUMBERS],
 ) -> i64
     requires { ⌜ Reads n (now values) (now marks) (now numbers) ⌝ }
-    ensures { λ r. ⌜ (r ≡ linear (constantAt (now (numbers .entry))) (termsAt (now (marks .entry)) (now (numbers .entry))) (integerAt (take n (now (values .entry))))) × Within 1000000000 r ⌝ }
+    ensures { λ r. ⌜ (r ≡ linear (constantAt (now (numbers .entry))) (termsAt (now (marks .entry)) (now (numbers .entry)))
+        (integerAt (take n (now (values .entry))))) × Within 1000000000 r ⌝ }
 {
     let a = plus_term(numbers[CONSTANT], values, n, marks, numbers, 0);
     let b = plus_term(a, values, n, marks, numbers, 1);
@@ -298,8 +301,10 @@ pub fn finish(
     numbers: &[i64; NUMBERS],
     result: i64,
 ) -> bool
-    requires { ⌜ (n ≤ VARIABLES) × (m ≤ MODES) × (length (now modes) ≡ MODES) × KeepOrSet (now marks) × ResultIs n (now marks) (now numbers) (now values) result ⌝ }
-    ensures { λ r. ⌜ Finished n m (now (marks .entry)) (now (numbers .entry)) (now (values .entry)) (now (modes .entry)) r (now (values .exit)) (now (modes .exit)) ⌝ }
+    requires { ⌜ (n ≤ VARIABLES) × (m ≤ MODES) × (length (now modes) ≡ MODES) × KeepOrSet (now marks)
+        × ResultIs n (now marks) (now numbers) (now values) result ⌝ }
+    ensures { λ r. ⌜ Finished n m (now (marks .entry)) (now (numbers .entry)) (now (values .entry)) (now (modes .entry)) r
+        (now (values .exit)) (now (modes .exit)) ⌝ }
 {
     if !settle(values, n, marks, numbers, result) {
         return false;
@@ -318,7 +323,8 @@ pub fn take(
     numbers: &[i64; NUMBERS],
 ) -> bool
     requires { ⌜ (n ≤ VARIABLES) × (m ≤ MODES) × (length (now modes) ≡ MODES) × Usable n (now marks) (now numbers) ⌝ }
-    ensures { λ r. ⌜ Stepped n m (now (marks .entry)) (now (numbers .entry)) (now (values .entry)) (now (modes .entry)) r (now (values .exit)) (now (modes .exit)) ⌝ }
+    ensures { λ r. ⌜ Stepped n m (now (marks .entry)) (now (numbers .entry)) (now (values .entry)) (now (modes .entry)) r
+        (now (values .exit)) (now (modes .exit)) ⌝ }
 {
     if !holds(values, modes, n, m, marks, numbers) {
         return false;

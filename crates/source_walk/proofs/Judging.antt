@@ -1,17 +1,17 @@
 -- What the calls answer from a walk that begins at the task's start.
 -- Assumes nothing.
 use mathlib.Core.Path.{_≡_, refl, sym, ap, ap₂, _∙_}
-use Prim.Native.Nat.{ℕ, _+_}
+use Prim.Native.Nat.{ℕ}
 use native.Mathlib.Omega.{arith}
 use native.Mathlib.Nat.{zero-add}
 use mathlib.Core.Bool.{Bool, true, false, cond}
-use mathlib.Core.List.{List, [], _++_}
+use mathlib.Core.List.{List, _++_}
 use lib.ListN.{length, take, drop, replicate, take-append-drop}
 use lib.Seq.{length-take-le}
 use lib.IntN.{ℤ, pos}
 use Rattle.lists.specs.Answer.{Answer, given, refused, then}
-use Rattle.model.specs.Tasks.{SourceTask, State}
-use Rattle.model.specs.Steps.{sourceGoalHolds, sourceStart, stepSource}
+use Rattle.model.specs.Tasks.{State}
+use Rattle.model.specs.Steps.{sourceGoalHolds, stepSource}
 use Rattle.model.specs.Judging.{withRest, judge, judgeSourceTask, judgeSource, priceTask, pricePlan}
 use Rattle.model.specs.Expansion.{priceFrom}
 use Rattle.model.specs.Judging.{pricesFrom}
@@ -28,7 +28,7 @@ use Rattle.source_walk.specs.declared.Verdict.{Verdict}
 use Rattle.source_walk.specs.declared.Verdict.the-variants.{Valid, Refused}
 use Rattle.source_walk.specs.Opening.{tableOf, Started}
 use Rattle.source_walk.specs.Answers.{lastVerdict, zeros, judgementOf, withState, pricedBy}
-use Rattle.source_walk.specs.Walk.{Walk, walkFrom, Judging, judgeBy}
+use Rattle.source_walk.specs.Walk.{walkFrom, Judging, judgeBy}
 use Rattle.source_walk.proofs.Opening.{goes-on}
 use Rattle.source_walk.proofs.Walking.{withinPrice, from-none, walk-ends, walk-judges, walk-prices}
 

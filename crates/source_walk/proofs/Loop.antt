@@ -4,8 +4,8 @@ use mathlib.Core.Path.{_≡_, refl, sym, ap, ap₂, _∙_}
 use Prim.Native.Nat.{ℕ, suc, _+_, _*_, _≤_, _<_}
 use native.Mathlib.Omega.{arith}
 use native.Mathlib.Numerals.{add-one}
-use mathlib.Core.Bool.{Bool, true, false, cond}
-use mathlib.Core.List.{List, [], _∷_, _++_}
+use mathlib.Core.Bool.{Bool, true, false}
+use mathlib.Core.List.{List, _∷_}
 use lib.ListN.{length, getD, drop, drop-of-length-le, length-append, length-drop}
 use lib.Seq.{drop-cons}
 use lib.IntN.{ℤ}
@@ -16,7 +16,7 @@ use Rattle.model.specs.Tasks.{State}
 use Rattle.model.specs.Steps.{naturalAt}
 use Rattle.source_walk.specs.declared.Progress.the-variants.{Through, Stopped}
 use Rattle.source_step.specs.Step.{state}
-use Rattle.source_step.specs.Row.{valuesAfter, modesAfter}
+use Rattle.source_step.specs.Row.{modesAfter}
 use Rattle.source_step.specs.Ready.{marksOf, numbersOf}
 use Rattle.source_step.specs.Table.{Table, takesBy, afterBy, goalBy, Usables}
 use Rattle.plan_strokes.specs.declared.Turn.{Turn}

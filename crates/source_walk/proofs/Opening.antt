@@ -1,21 +1,21 @@
 -- What a file and a plan that are opened come to: a refusal is that of every call which reads both, and what is ready was read.
 -- Assumes nothing.
-use mathlib.Core.Path.{_≡_, refl, sym, ap, ap₂, _∙_}
+use mathlib.Core.Path.{_≡_, refl, ap, ap₂, _∙_}
 use Prim.Native.Nat.{ℕ}
 use mathlib.Core.List.{List}
-use lib.ListN.{length, replicate}
+use lib.ListN.{replicate}
 use lib.IntN.{ℤ, pos}
 use Rattle.lists.specs.Answer.{Answer, given, refused, then}
-use Rattle.model.specs.Tasks.{SourceTask, State}
+use Rattle.model.specs.Tasks.{SourceTask}
 use Rattle.model.specs.Limits.{sourceLimits}
-use Rattle.model.specs.Reading.{Verdict, Accepted, Rejected, verdictOf}
-use Rattle.model.specs.Decoding.{onVerdict, readSource}
+use Rattle.model.specs.Reading.{Accepted, Rejected, verdictOf}
+use Rattle.model.specs.Decoding.{readSource}
 use Rattle.model.specs.Plans.{readPlan, planNumbers}
 use Rattle.file_declarations.specs.declared.Declared.{Declared}
 use Rattle.file_declarations.specs.Holding.{HoldsSource}
 use Rattle.plan_bytes.specs.Counted.{countOf}
 use Rattle.plan_bytes.proofs.Steps.{steps-of, few-steps, no-steps}
-use Rattle.source_step.specs.Step.{state, Kept}
+use Rattle.source_step.specs.Step.{Kept}
 use Rattle.source_step.specs.Accepted.{AcceptedWith}
 use Rattle.source_step.proofs.Judging.{task-of, accepted-task}
 use Rattle.source_step.specs.Ready.{Prepared}

@@ -1,11 +1,10 @@
 -- A walk by the rows of a task, from a state within its bounds, is the task's own: it is judged and priced alike, and ends within the bounds.
 -- Assumes nothing.
 use mathlib.Core.Path.{_≡_, refl, sym, ap, _∙_}
-use Prim.Native.Nat.{ℕ, suc, _+_, _≤_, _<_}
+use Prim.Native.Nat.{ℕ, suc, _+_, _<_}
 use native.Mathlib.Omega.{arith}
 use native.Mathlib.Nat.{add-zero}
 use mathlib.Core.Bool.{Bool, true, false, cond, false≢true}
-use mathlib.Core.Option.{Option}
 use mathlib.Core.List.{List, [], _∷_}
 use lib.Dec.{ltb}
 use lib.ListN.{length}
@@ -14,8 +13,7 @@ use Rattle.lists.specs.Answer.{Answer, given, refused}
 use Rattle.model.specs.Tasks.{SourceTask, State}
 use Rattle.model.specs.Steps.{stepSource}
 use Rattle.model.specs.Expansion.{priceFrom}
-use Rattle.model.specs.Judging.{judge, ifApplies, ifGoesOn, pricesFrom}
-use Rattle.source_walk.specs.declared.Progress.{Progress}
+use Rattle.model.specs.Judging.{judge, pricesFrom}
 use Rattle.source_walk.specs.declared.Progress.the-variants.{Through, Stopped}
 use Rattle.source_step.specs.Step.{Kept}
 use Rattle.source_walk.specs.Answers.{onProgress}

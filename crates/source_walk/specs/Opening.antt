@@ -6,7 +6,7 @@ use mathlib.Core.List.{List}
 use lib.ListN.{length, replicate}
 use lib.IntN.{ℤ, pos}
 use Rattle.lists.specs.Answer.{Answer, given, refused, then}
-use Rattle.model.specs.Tasks.{SourceTask, State}
+use Rattle.model.specs.Tasks.{SourceTask}
 use Rattle.model.specs.Steps.{sourceStart}
 use Rattle.model.specs.Decoding.{readSource}
 use Rattle.model.specs.Plans.{readPlan, planNumbers}

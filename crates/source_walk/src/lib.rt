@@ -62,7 +62,8 @@ fn make_ready(
     values: &mut [i64; VARIABLES],
     modes: &mut [u16; MODES],
 ) -> Task
-    requires { ⌜ AcceptedWith (verdictOf sourceLimits (now file)) count × PlanOf (now plan) steps × (length (now marks) ≡ ROWS) × (length (now numbers) ≡ ROWS) ⌝ }
+    requires { ⌜ AcceptedWith (verdictOf sourceLimits (now file)) count × PlanOf (now plan) steps × (length (now marks) ≡ ROWS)
+        × (length (now numbers) ≡ ROWS) ⌝ }
     requires { ⌜ (now values ≡ replicate VARIABLES (pos 0)) × (now modes ≡ replicate MODES 0) ⌝ }
     ensures { λ r. ⌜ Started (now (file .entry)) (now (plan .entry)) r (now (marks .exit)) (now (numbers .exit)) (now (values .exit)) (now (modes .exit)) ⌝ }
 {
@@ -168,7 +169,8 @@ fn take_turn(
     times: &mut [i64; STAGES],
 ) -> Turn
     requires { ⌜ (n ≤ VARIABLES) × (m ≤ MODES) × (length (now modes) ≡ MODES) × (length (now times) ≡ STAGES) × Usable n (now marks) (now numbers) ⌝ }
-    ensures { λ r. ⌜ TurnOf priced n m (now (marks .entry)) (now (numbers .entry)) (now (values .entry)) (now (modes .entry)) r (now (values .exit)) (now (modes .exit)) ⌝ }
+    ensures { λ r. ⌜ TurnOf priced n m (now (marks .entry)) (now (numbers .entry)) (now (values .entry)) (now (modes .entry)) r
+        (now (values .exit)) (now (modes .exit)) ⌝ }
     ensures { λ r. ⌜ length (now (times .exit)) ≡ STAGES ⌝ }
 {
     if priced {
@@ -191,9 +193,11 @@ fn walk(
     values: &mut [i64; VARIABLES],
     modes: &mut [u16; MODES],
 ) -> Walked
-    requires { ⌜ Usables (table count (now marks) (now numbers) n m) × (steps ≡ length (planNumbers (now plan))) × (steps ≤ 1000000) × (length (now modes) ≡ MODES) ⌝ }
+    requires { ⌜ Usables (table count (now marks) (now numbers) n m) × (steps ≡ length (planNumbers (now plan))) × (steps ≤ 1000000)
+        × (length (now modes) ≡ MODES) ⌝ }
     ensures { λ r. ⌜ walkIs r (state (now (values .exit)) (now (modes .exit)))
-        ≡ walkFrom (table count (now (marks .entry)) (now (numbers .entry)) n m) priced 0 0 0 (planNumbers (now (plan .entry))) (state (now (values .entry)) (now (modes .entry))) ⌝ }
+        ≡ walkFrom (table count (now (marks .entry)) (now (numbers .entry)) n m) priced 0 0 0 (planNumbers (now (plan .entry)))
+        (state (now (values .entry)) (now (modes .entry))) ⌝ }
 {
     let mut times = [0i64; STAGES];
     let mut price: u64 = 0;
@@ -271,9 +275,11 @@ pub fn judge_steps(
     values: &mut [i64; VARIABLES],
     modes: &mut [u16; MODES],
 ) -> Judged
-    requires { ⌜ Usables (table count (now marks) (now numbers) n m) × (steps ≡ length (planNumbers (now plan))) × (steps ≤ 1000000) × (length (now modes) ≡ MODES) ⌝ }
+    requires { ⌜ Usables (table count (now marks) (now numbers) n m) × (steps ≡ length (planNumbers (now plan))) × (steps ≤ 1000000)
+        × (length (now modes) ≡ MODES) ⌝ }
     ensures { λ r. ⌜ judgedIs r (state (now (values .exit)) (now (modes .exit)))
-        ≡ judgeBy (table count (now (marks .entry)) (now (numbers .entry)) n m) priced (planNumbers (now (plan .entry))) (state (now (values .entry)) (now (modes .entry))) ⌝ }
+        ≡ judgeBy (table count (now (marks .entry)) (now (numbers .entry)) n m) priced (planNumbers (now (plan .entry)))
+        (state (now (values .entry)) (now (modes .entry))) ⌝ }
 {
     let walked = walk(
         plan,

@@ -33,6 +33,10 @@ fn tell_price(priced: source_state::Priced) {
     }
 }
 
+fn tell_values(values: [i64; 8]) {
+    lines::integers(&values);
+}
+
 fn tell_source_state(state: source_state::State) {
     let values = state.values;
     let modes = state.modes;
@@ -92,6 +96,43 @@ fn step_restricted(task: &[u8], record: &[u8], k: usize) {
     tell_restricted_state(answer.state);
 }
 
+// The start, the lower bounds, the upper bounds and the sizes. The arrays hold a state before the call, and stand in the line of a refusal too.
+fn start_source(task: &[u8], record: &[u8]) {
+    let before = states::source(record);
+    let mut values = before.values;
+    let mut modes = before.modes;
+    let mut lower = before.values;
+    let mut upper = before.values;
+    let mut sizes = before.modes;
+    let mut place: u64 = 0;
+    let number = ruphenqo::ruphenqo_source_start(
+        task,
+        &mut values,
+        &mut modes,
+        &mut lower,
+        &mut upper,
+        &mut sizes,
+        &mut place,
+    );
+    lines::answer(number, place);
+    tell_source_state(source_state::State { values, modes });
+    tell_values(lower);
+    tell_source_state(source_state::State {
+        values: upper,
+        modes: sizes,
+    });
+}
+
+fn start_restricted(task: &[u8], record: &[u8]) {
+    let before = states::restricted(record);
+    let mut values = before.values;
+    let mut modes = before.modes;
+    let mut place: u64 = 0;
+    let number = ruphenqo::ruphenqo_restricted_start(task, &mut values, &mut modes, &mut place);
+    lines::answer(number, place);
+    tell_restricted_state(restricted_state::State { values, modes });
+}
+
 // The entries that read a file.
 fn run_file(entry: u8, task: &[u8], k: usize) {
     match entry {
@@ -119,12 +160,23 @@ fn run_prices(entry: u8, task: &[u8], second: &[u8], k: usize) {
     }
 }
 
+// The functions that are there for C alone.
+fn run_for_c(entry: u8, task: &[u8], second: &[u8], k: usize, lent: u32) {
+    match entry {
+        15 => start_source(task, second),
+        16 => start_restricted(task, second),
+        17 => lines::natural(ruphenqo::ruphenqo_version() as u64),
+        _ => outputs::run_text((k % 4294967296) as u32, lent),
+    }
+}
+
 // Makes the call of an entry, by its number in tests/make-cases, and prints what it answered.
 pub(crate) fn run(entry: u8, task: &[u8], second: &[u8], k: usize, lent: u32) {
     match entry {
         1..=4 => run_file(entry, task, k),
         5..=8 => run_steps(entry, task, second, k),
         12..=13 => run_prices(entry, task, second, k),
+        15..=18 => run_for_c(entry, task, second, k, lent),
         _ => outputs::run(entry, task, second, lent),
     }
 }

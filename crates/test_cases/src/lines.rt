@@ -37,6 +37,15 @@ pub(crate) fn refusal(number: u8, place: u64) {
     natural(place);
 }
 
+// What a function for C answered: the refusal, where there is one.
+pub(crate) fn answer(number: u32, place: u64) {
+    if number != 0 {
+        word(b"refused");
+        natural(number as u64);
+        natural(place);
+    }
+}
+
 pub(crate) fn integers(values: &[i64]) {
     let mut i = 0;
     while i < values.len() {

@@ -72,3 +72,20 @@ pub(crate) fn run(entry: u8, task: &[u8], plan: &[u8], lent: u32) {
     let written = write(entry, task, plan, out);
     tell(written, out);
 }
+
+// The same of a refusal's text, by the function for C.
+pub(crate) fn run_text(number: u32, lent: u32) {
+    let mut room = io::large_buffer();
+    let size = io::count(lent as isize, &room);
+    let out = &mut room[..size];
+    fill(out);
+    let mut length: u64 = 0;
+    let mut place: u64 = 0;
+    let refusal = ruphenqo::ruphenqo_refusal_text(number, out, &mut length, &mut place);
+    lines::answer(refusal, place);
+    if refusal == 0 {
+        lines::natural(length);
+        show(out, length as usize);
+    }
+    lines::natural(checksum(out));
+}

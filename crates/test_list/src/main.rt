@@ -26,9 +26,14 @@ fn listed() {
         b"nothing/plan.bin",
     );
     case(b"a goal that is met", b"goal/task.bin", b"goal/plan.bin");
+    case(
+        b"a plan of 257 steps",
+        b"example/task.bin",
+        b"parts/plan.bin",
+    );
 }
 
-// Files that can't be opened: that comes before a file that is too large.
+// Files that can't be opened, or not read: that comes before a file that is too large.
 fn unopened() {
     case(b"no task.bin", b"missing/task.bin", b"example/plan.bin");
     case(b"no plan.bin", b"example/task.bin", b"missing/plan.bin");
@@ -42,6 +47,16 @@ fn unopened() {
         b"a task too large, no plan.bin",
         b"large/task.bin",
         b"missing/plan.bin",
+    );
+    case(
+        b"a folder for task.bin",
+        b"folder/task.bin",
+        b"example/plan.bin",
+    );
+    case(
+        b"a folder for plan.bin",
+        b"example/task.bin",
+        b"folder/plan.bin",
     );
 }
 

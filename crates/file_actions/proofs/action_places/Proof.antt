@@ -1,10 +1,9 @@
 -- `file_actions::action_places` meets its contract: storing what is left behind what is stored gives what storing all gives. Assumes nothing.
-use mathlib.Core.Path.{_≡_, _∙_, sym, ap}
-use mathlib.Core.List.{List, [], _∷_}
-use Prim.Native.Nat.{ℕ, _-_, _+_}
+use mathlib.Core.Path.{_∙_, sym, ap}
+use Prim.Native.Nat.{_-_}
 use borrow.Author.Needs.{needs}
 use native.Mathlib.Omega.{arith}
-use lib.ListN.{length, length-set, set}
+use lib.ListN.{length, length-set}
 use Rattle.lists.specs.Writing.{splice}
 use Rattle.file_actions.proofs.Edges.{Stores, stores-begin, splice-out, none-left, at-goal, at-action, at-other}
 use Rattle.file_actions.proofs.action_places.Statement.{statement}

@@ -1,5 +1,4 @@
 -- `file_actions::with_term` meets its contract. Assumes nothing.
-use mathlib.Core.Path.{sym}
 use mir.Facts.{toZ-ofZ}
 use mir.Syntax.{w64}
 use mir.Val.{SFits}

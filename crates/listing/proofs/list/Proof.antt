@@ -1,93 +1,87 @@
--- `listing::list` meets its contract: a refusal of the file or of the plan's bytes, or what is listed by the rows. Assumes nothing.
-use mathlib.Core.Path.{ap}
+-- `listing::list` meets its contract: all that is left at first is counted, from a copy of the state, and then written. Assumes nothing.
+use mathlib.Core.Path.{refl, ap}
 use native.Mathlib.Omega.{arith}
-use denote.Ref.{now}
 use Rattle.lists.specs.Answer.{given}
-use Rattle.source_step.proofs.Tables.{usables}
-use Rattle.source_walk.specs.Opening.{Started}
-use Rattle.listing.proofs.Listing.{lent-as, refused-listing, listed-is}
+use Rattle.lists.proofs.Lent.{counted-short, counted-room, counted-written}
+use Rattle.listing.specs.Lines.{forMost, forThese}
+use Rattle.listing.proofs.Parts.{listed}
 use borrow.Author.Needs.{needs}
 use Rattle.listing.proofs.list.Statement.{statement}
 use Rattle.listing.proofs.list.Tie as tie
 
-slice-aggregate-open : tie.Need-slice-aggregate-open
-slice-aggregate-open c = search needs
+slice-aggregate-begin : tie.Need-slice-aggregate-begin
+slice-aggregate-begin c = search needs
 
-slice-aggregate-open-2 : tie.Need-slice-aggregate-open-2
-slice-aggregate-open-2 c = search needs
+slice-aggregate-begin-2 : tie.Need-slice-aggregate-begin-2
+slice-aggregate-begin-2 c = search needs
 
-open-requires : tie.Need-open-requires
-open-requires c κs = search needs
+begin-requires : tie.Need-begin-requires
+begin-requires c κs = search needs
 
-enum-known-number : tie.Need-enum-known-number
-enum-known-number c = search needs
+slice-relend-prefix-put-rest : tie.Need-slice-relend-prefix-put-rest
+slice-relend-prefix-put-rest c = search needs
 
-write-refusal-requires : tie.Need-write-refusal-requires
-write-refusal-requires c κs = search needs
+slice-aggregate-put-rest : tie.Need-slice-aggregate-put-rest
+slice-aggregate-put-rest c = search needs
 
-enum-known-t : tie.Need-enum-known-t
-enum-known-t c = search needs
+slice-aggregate-put-rest-2 : tie.Need-slice-aggregate-put-rest-2
+slice-aggregate-put-rest-2 c = search needs
 
-abbrev startOf : tie.After-open → tie.Start
-startOf c = c .before .before .before .before .before .before .before .before
+slice-aggregate-put-rest-3 : tie.Need-slice-aggregate-put-rest-3
+slice-aggregate-put-rest-3 c = search needs
 
--- what is ready
-ready : (c : tie.After-t) → let o = c .before .before .before .before .«open» in let s = startOf (c .before .before .before .before) .args in
-    Started (now (s .file)) (now (s .plan)) (c .t .given .0 .0) (o .last .1 .1 .0) (o .last .1 .1 .1 .0) (o .last .1 .1 .1 .1 .0) (o .last .1 .1 .1 .1 .1 .0)
-ready c = rw (c .t .given .1) at (c .before .before .before .before .«open» .ensures)
-
-slice-aggregate-list-ready : tie.Need-slice-aggregate-list-ready
-slice-aggregate-list-ready c = search needs
-
-slice-aggregate-list-ready-2 : tie.Need-slice-aggregate-list-ready-2
-slice-aggregate-list-ready-2 c = search needs
-
-list-ready-requires : tie.Need-list-ready-requires
-list-ready-requires c κs =
-    let S = ready (c .before .before .before .before .before .before) in (
-      S .planIs .stepsAre,
-      record {
-        usables = usables (S .rows);
-        ordered = omega arith;
-        inPlan = omega (arith, S .planIs .stepsAre);
-        few = S .planIs .few;
-        valuesLong = S .inside .shaped .valuesLong;
-        modesLong = S .inside .shaped .modesLong;
-      },
-    )
+put-rest-requires : tie.Need-put-rest-requires
+put-rest-requires c κs = ((omega arith, c .before .before .before .before .before .before .before .begin .ensures .pending), forMost (omega arith))
 
 same-length : tie.Need-same-length
 same-length c = search needs
 
 returns : tie.Need-returns
 returns c =
-    let h = c .before .before .before .before .before .before .before .before .before in
-    let s = startOf h .args in
-    let e = c .before .before .before .before .before .number .given in
-    let o = rw (e .1) at (h .«open» .ensures) in
-    lent-as (ap given (refused-listing (now (s .file)) (now (s .plan)) (e .0 .0) (e .0 .1 .0) (o .0))) (c .before .before .write-refusal .ensures)
+    let n = c .before .before .before in
+    let g = n .before .before .before .before .before .before .before .before in
+    counted-short _ (ap given (listed (g .begin .ensures))) refl (n .put-rest .ensures .wrote) (c .if1 .taken)
+
+slice-aggregate-put-rest-4 : tie.Need-slice-aggregate-put-rest-4
+slice-aggregate-put-rest-4 c = search needs
+
+slice-aggregate-put-rest-5 : tie.Need-slice-aggregate-put-rest-5
+slice-aggregate-put-rest-5 c = search needs
+
+put-rest-requires-2 : tie.Need-put-rest-requires-2
+put-rest-requires-2 c κs =
+    let e = c .before .before .before .before .before in
+    let n = e .before .before .before in
+    let g = n .before .before .before .before .before .before .before .before in
+    let r = counted-room _ (ap given (listed (g .begin .ensures))) refl (n .put-rest .ensures .wrote) (e .if1 .left) in
+    ((omega arith, g .begin .ensures .pending), forThese r)
 
 same-length-2 : tie.Need-same-length-2
 same-length-2 c = search needs
 
 returns-2 : tie.Need-returns-2
 returns-2 c =
-    lent-as (ap given (listed-is (ready (c .before .before .before .before .before .before .before .before .before)))) (c .before .before .list-ready .ensures)
+    let e = c .before .before .before .before .before .before .before .before in
+    let n = e .before .before .before in
+    let g = n .before .before .before .before .before .before .before .before in
+    counted-written _ (ap given (listed (g .begin .ensures))) refl (n .put-rest .ensures .wrote) (e .if1 .left) (c .before .before .put-rest2 .ensures .wrote)
 
 pub list-spec : {M : Type 1} → statement M
 list-spec =
     tie.close
     (tie.spec
-    slice-aggregate-open
-    slice-aggregate-open-2
-    open-requires
-    enum-known-number
-    write-refusal-requires
-    enum-known-t
-    slice-aggregate-list-ready
-    slice-aggregate-list-ready-2
-    list-ready-requires
+    slice-aggregate-begin
+    slice-aggregate-begin-2
+    begin-requires
+    slice-relend-prefix-put-rest
+    slice-aggregate-put-rest
+    slice-aggregate-put-rest-2
+    slice-aggregate-put-rest-3
+    put-rest-requires
     same-length
     returns
+    slice-aggregate-put-rest-4
+    slice-aggregate-put-rest-5
+    put-rest-requires-2
     same-length-2
     returns-2)

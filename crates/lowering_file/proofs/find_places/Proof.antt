@@ -1,7 +1,7 @@
 -- `lowering_file::find_places` meets its contract, by what is stored for an accepted file. Assumes nothing.
 use native.Mathlib.Omega.{arith}
 use denote.Ref.{now}
-use Rattle.source_step.proofs.Judging.{bytes-of}
+use Rattle.file_actions.proofs.Accepted.{bytes-of}
 use Rattle.lowering_file.proofs.Declared.{placed}
 use borrow.Author.Needs.{needs}
 use Rattle.lowering_file.proofs.find_places.Statement.{statement}

@@ -2,7 +2,8 @@
 use native.Mathlib.Omega.{arith}
 use denote.Ref.{now}
 use Rattle.file_declarations.proofs.Accepted.{source-held}
-use Rattle.source_step.proofs.Judging.{bytes-of, accepted-task, zero-room}
+use Rattle.file_actions.proofs.Accepted.{bytes-of}
+use Rattle.source_step.proofs.Judging.{accepted-task, zero-room}
 use Rattle.lowering_file.specs.Held.{taskOf}
 use Rattle.lowering_file.proofs.Declared.{declared}
 use borrow.Author.Needs.{needs}

@@ -1,7 +1,7 @@
 -- `lowering_file::read_goal` meets its contract, by what is decoded of an accepted file. Assumes nothing.
 use native.Mathlib.Omega.{arith}
 use denote.Ref.{now}
-use Rattle.source_step.proofs.Judging.{bytes-of}
+use Rattle.file_actions.proofs.Accepted.{bytes-of}
 use Rattle.lowering_file.proofs.Declared.{goal-read}
 use borrow.Author.Needs.{needs}
 use Rattle.lowering_file.proofs.read_goal.Statement.{statement}

@@ -7,7 +7,7 @@ use mir.Syntax.{w64}
 use mir.Val.{SFits}
 use mir.Facts.{toZ-ofZ}
 use mathlib.Core.Path.{_≡_, sym}
-use Prim.Native.Nat.{ℕ, _-_, _+_, _<_, _≤_}
+use Prim.Native.Nat.{_-_, _+_, _<_, _≤_}
 use Rattle.model.specs.Steps.{naturalAt, integerAt}
 use Rattle.lowering_rows.proofs.Loops.{Writing, writing-start, writing-room, writing-next, writing-end, writing-long}
 use denote.Ref.{now}

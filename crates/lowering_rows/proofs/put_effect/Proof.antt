@@ -8,6 +8,7 @@ use lib.IntN.{ℤ}
 use mir.Syntax.{w64}
 use mir.Val.{toZ, ofZ}
 use mir.Facts.{toZ-ofZ}
+use Rattle.commands.specs.Table.{letterA}
 use Rattle.lists.proofs.Loops.{length-mapped}
 use Rattle.lists.proofs.Writing.{step, done, room, room-as, wrote-as}
 use Rattle.model.specs.Stages.{firstStage}
@@ -62,14 +63,14 @@ put-opening-requires c κs =
     let s = c .before .before .before .before .before .before in
     let same = opening (c .before .before .before) in (
       (s .pre .0 .0, s .pre .0 .1, rw (toZ-ofZ (s .fits .lower), toZ-ofZ (s .fits .upper)) (s .pre .0 .2), s .pre .0 .3),
-      (subst Fit (sym same) (s .pre .1 .0 .5), room-as (sym (ap (rowBytes 65) same ∙ action-row _)) (room (s .pre .1 .1) (macro-begun _ _ _ _))),
+      (subst Fit (sym same) (s .pre .1 .0 .5), room-as (sym (ap (rowBytes letterA) same ∙ action-row _)) (room (s .pre .1 .1) (macro-begun _ _ _ _))),
     )
 
 put-stages-requires : tie.Need-put-stages-requires
 put-stages-requires c κs =
     let s = c .before .before .before .before .before .before .before .before .before .before .before .before in
     let wrote = c .before .before .before .before .before .put-opening .ensures in
-    let one = step (macro-begun _ _ _ _) (wrote-as (ap (rowBytes 65) (opening (c .before .before .before .before .before .before .before .before .before)) ∙ action-row _) (wrote .wrote)) in (
+    let one = step (macro-begun _ _ _ _) (wrote-as (ap (rowBytes letterA) (opening (c .before .before .before .before .before .before .before .before .before)) ∙ action-row _) (wrote .wrote)) in (
       (wrote .marksLong, wrote .numbersLong, s .pre .1 .0 .0, s .pre .1 .0 .1, rw (toZ-ofZ (s .fits .lower), toZ-ofZ (s .fits .upper)) (s .pre .0 .2)),
       (
         (counted (c .before .before .before .before .before .before .before .before .before .before) ∙ ap length (sym (same-stages s)), c .before .before .before .before .before .before .before .before .before .before .stage-count .ensures .1, s .pre .1 .0 .2, s .pre .1 .0 .3, s .pre .1 .0 .4),
@@ -83,7 +84,7 @@ same-length c = search needs
 returns : tie.Need-returns
 returns c =
     let s = c .before .before .before .before .before .before .before .before .before .before .before .before .before .before .before in
-    let one = step (macro-begun _ _ _ _) (wrote-as (ap (rowBytes 65) (opening (c .before .before .before .before .before .before .before .before .before .before .before .before)) ∙ action-row _) (c .before .before .before .before .before .before .before .before .put-opening .ensures .wrote)) in
+    let one = step (macro-begun _ _ _ _) (wrote-as (ap (rowBytes letterA) (opening (c .before .before .before .before .before .before .before .before .before .before .before .before)) ∙ action-row _) (c .before .before .before .before .before .before .before .before .put-opening .ensures .wrote)) in
     done (step one (wrote-as (ap (stagesBytes (s .args .a) (s .args .control) (s .args .from)) (same-stages s)) (c .before .before .put-stages .ensures)))
 
 pub put-effect-spec : {M : Type 1} → statement M

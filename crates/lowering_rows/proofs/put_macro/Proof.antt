@@ -13,7 +13,7 @@ use Rattle.lists.proofs.Writing.{room-as, wrote-as}
 use Rattle.model.specs.Tasks.{RestrictedAction}
 use Rattle.file_actions.specs.Views.{effectIs, termsIs, sourceActionIs}
 use Rattle.file_parts.specs.Row.{rowIs}
-use Rattle.file_parts.proofs.Pushing.{room-for}
+use Rattle.file_parts.proofs.Pushing.{parts-fit}
 use Rattle.lowering_stages.specs.Shapes.{lowerOf, upperOf}
 use Rattle.lowering_stages.specs.Stages.{targetIs}
 use Rattle.lowering_stages.proofs.Effects.{moderate, stages-small}
@@ -74,7 +74,7 @@ put-effect-requires c κs =
     let e = s .args .action .effect in
     let t = whole (c .before .before .before .before .before) in (
       (
-        room-for (h .parts) (record {
+        parts-fit (h .parts) (record {
           conditions = omega (arith, h .conditionsFew);
           modeConditions = omega (arith, h .modeConditionsFew);
           modeEffects = omega (arith, h .modeEffectsFew);

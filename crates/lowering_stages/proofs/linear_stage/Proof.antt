@@ -10,7 +10,7 @@ use lib.ListN.{length, getD}
 use Prim.Native.Nat.{ℕ, _/_, _<_}
 use mathlib.Core.Path.{_≡_, refl, ap, _∙_}
 use Rattle.lowering_stages.proofs.Effects.{drain-at, refill-at, past-terms, terms-length, term-at}
-use Rattle.lowering_stages.proofs.Rows.{given, known}
+use Rattle.lowering_stages.proofs.Rows.{known}
 use native.Mathlib.Omega.{arith}
 use mir.Syntax.{w64}
 use mir.Val.{SFits}

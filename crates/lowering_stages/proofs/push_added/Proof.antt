@@ -2,7 +2,6 @@
 use Rattle.lowering_stages.proofs.Rows.{adding-start, adding-room, adding-next, adding-end}
 use lib.IntN.{pos}
 use lib.ListN.{getD}
-use denote.Ref.{now}
 use mir.Syntax.{w64}
 use mir.Val.{SFits}
 use mir.Facts.{toZ-ofZ}

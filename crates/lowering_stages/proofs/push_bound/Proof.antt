@@ -1,16 +1,12 @@
 -- `lowering_stages::push_bound` meets its contract: by the sign of c. Assumes nothing.
-use mathlib.Core.Path.{_≡_, ap}
+use mathlib.Core.Path.{_≡_}
 use mathlib.Core.Bool.{true, false}
 use native.Mathlib.Omega.{arith}
-use denote.Ref.{now}
-use lib.IntN.{ℤ, pos}
+use lib.IntN.{pos}
 use lib.Signed.{ltZ}
 use mir.Syntax.{w64}
 use mir.Val.{SFits}
 use mir.Facts.{toZ-ofZ}
-use Rattle.file_parts.specs.Row.{rowIs}
-use Rattle.file_parts.specs.With.{condition, withCondition}
-use Rattle.lowering_stages.proofs.Rows.{said}
 use borrow.Author.Needs.{needs}
 use Rattle.lowering_stages.proofs.push_bound.Statement.{statement}
 use Rattle.lowering_stages.proofs.push_bound.Tie as tie

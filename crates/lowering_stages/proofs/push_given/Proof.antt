@@ -4,7 +4,7 @@ use mathlib.Core.Path.{_≡_, sym, ap, _∙_}
 use mir.Val.{toZ, ofZ}
 use mir.Syntax.{w64}
 use Rattle.file_parts.specs.Row.{rowIs}
-use Rattle.lowering_stages.proofs.Rows.{own, said, same-additions, nothing-given, something-given}
+use Rattle.lowering_stages.proofs.Rows.{own, said, nothing-given, something-given}
 use denote.Ref.{now}
 use mir.Facts.{toZ-ofZ}
 use borrow.Author.Needs.{needs}

@@ -1,6 +1,4 @@
 -- `lowering_stages::push_numeric` meets its contract: effect by effect. Assumes nothing.
-use mathlib.Core.Path.{_≡_, ap}
-use native.Mathlib.Omega.{arith}
 use denote.Ref.{now}
 use lib.Dec.{lit≤}
 use mir.Syntax.{w64}

@@ -1,18 +1,15 @@
 -- `lowering_stages::push_opening` meets its contract: control before, the effect, control after. Assumes nothing.
-use mathlib.Core.Path.{_≡_, ap}
-use native.Mathlib.Omega.{arith}
 use denote.Ref.{now}
 use lib.Dec.{lit≤}
 use Rattle.file_parts.specs.Row.{rowIs}
-use Rattle.file_parts.specs.With.{withModeCondition, withModeEffect}
+use Rattle.file_parts.specs.With.{withModeEffect}
 use Rattle.file_parts.proofs.Pushing.{pushed}
-use Rattle.lowering_stages.proofs.Rows.{own, said}
+use Rattle.lowering_stages.proofs.Rows.{said}
 use Rattle.lowering_stages.proofs.Openings.{room-less}
 use mathlib.Core.List.{[]}
 use mir.Facts.{toZ-ofZ}
 use Rattle.file_actions.specs.Views.{effectIs}
 use Rattle.lowering_stages.proofs.Openings.{numeric-pushed, asked-room, opened-room, single-is, macro-opens}
-use borrow.Author.Needs.{needs}
 use Rattle.lowering_stages.proofs.push_opening.Statement.{statement}
 use Rattle.lowering_stages.proofs.push_opening.Tie as tie
 

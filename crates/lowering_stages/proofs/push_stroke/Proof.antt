@@ -1,7 +1,7 @@
 -- `lowering_stages::push_stroke` meets its contract: blank, then a P, a C, and what it adds. Assumes nothing.
 use Rattle.lowering_stages.specs.Stages.{withAdditions}
 use Rattle.file_parts.specs.With.{withCondition, withModeCondition}
-use Rattle.file_parts.proofs.Pushing.{room-for, pushed}
+use Rattle.file_parts.proofs.Pushing.{parts-fit, pushed}
 use native.Mathlib.Omega.{arith}
 use lib.Dec.{lit≤}
 use denote.Ref.{now}
@@ -16,7 +16,7 @@ blank-requires : tie.Need-blank-requires
 blank-requires c κs = search needs
 
 push-mode-condition-requires : tie.Need-push-mode-condition-requires
-push-mode-condition-requires c κs = room-for (c .before .blank .ensures (now (c .before .before .before .args .numbers)) (c .before .before .before .pre .1)) (record { conditions = lit≤ tt; modeConditions = lit≤ tt; modeEffects = lit≤ tt; additions = lit≤ tt })
+push-mode-condition-requires c κs = parts-fit (c .before .blank .ensures (now (c .before .before .before .args .numbers)) (c .before .before .before .pre .1)) (record { conditions = lit≤ tt; modeConditions = lit≤ tt; modeEffects = lit≤ tt; additions = lit≤ tt })
 
 relation-of-requires : tie.Need-relation-of-requires
 relation-of-requires c κs = search needs
@@ -27,7 +27,7 @@ threshold-requires c κs = search needs
 push-condition-requires : tie.Need-push-condition-requires
 push-condition-requires c κs =
     let one = pushed (c .before .before .before .before .before .before .before .before .blank .ensures (now (c .before .before .before .before .before .before .before .before .before .before .args .numbers)) (c .before .before .before .before .before .before .before .before .before .before .pre .1)) withModeCondition (c .before .before .before .before .before .before .push-mode-condition .ensures (now (c .before .before .before .before .before .before .before .before .before .before .args .numbers)) (c .before .before .before .before .before .before .before .before .before .before .pre .1)) in
-    (room-for one (record { conditions = lit≤ tt; modeConditions = lit≤ tt; modeEffects = lit≤ tt; additions = lit≤ tt }), c .before .before .before .before .before .before .before .before .before .before .pre .1)
+    (parts-fit one (record { conditions = lit≤ tt; modeConditions = lit≤ tt; modeEffects = lit≤ tt; additions = lit≤ tt }), c .before .before .before .before .before .before .before .before .before .before .pre .1)
 
 push-added-requires : tie.Need-push-added-requires
 push-added-requires c κs =
@@ -37,7 +37,7 @@ push-added-requires c κs =
     let k : SFits w64 (c .before .before .before .before .before .threshold .result) = search needs in
     let t = rw (toZ-ofZ u, toZ-ofZ v) at (c .before .before .before .before .before .threshold .ensures) in
     let two = pushed one withCondition (rw (toZ-ofZ k, t, c .before .before .before .before .before .before .before .before .relation-of .ensures) at (c .before .before .push-condition .ensures)) in
-    (room-for two (record { conditions = lit≤ tt; modeConditions = lit≤ tt; modeEffects = lit≤ tt; additions = omega (arith, c .before .before .before .before .before .before .before .before .before .before .before .before .before .pre .2 .few) }), two .numbersLong, c .before .before .before .before .before .before .before .before .before .before .before .before .before .pre .2)
+    (parts-fit two (record { conditions = lit≤ tt; modeConditions = lit≤ tt; modeEffects = lit≤ tt; additions = omega (arith, c .before .before .before .before .before .before .before .before .before .before .before .before .before .pre .2 .few) }), two .numbersLong, c .before .before .before .before .before .before .before .before .before .before .before .before .before .pre .2)
 
 returns : tie.Need-returns
 returns c =

@@ -1,8 +1,8 @@
 -- `lowering_stages::push_turn` meets its contract: blank, then its parts one by one. Assumes nothing.
 use Rattle.lowering_stages.proofs.Rows.{asked-few, difference-small}
-use Rattle.lowering_stages.specs.Stages.{withConditions, withAdditions, askedIs}
+use Rattle.lowering_stages.specs.Stages.{withConditions, withAdditions}
 use Rattle.file_parts.specs.With.{withCondition, withModeCondition, withModeEffect}
-use Rattle.file_parts.proofs.Pushing.{room-for, pushed}
+use Rattle.file_parts.proofs.Pushing.{parts-fit, pushed}
 use native.Mathlib.Omega.{arith}
 use lib.Dec.{lit≤}
 use denote.Ref.{now}
@@ -21,7 +21,7 @@ blank-requires : tie.Need-blank-requires
 blank-requires c κs = search needs
 
 push-mode-condition-requires : tie.Need-push-mode-condition-requires
-push-mode-condition-requires c κs = room-for (c .before .blank .ensures (now (c .before .before .before .args .numbers)) (c .before .before .before .pre .1)) (record { conditions = lit≤ tt; modeConditions = lit≤ tt; modeEffects = lit≤ tt; additions = lit≤ tt })
+push-mode-condition-requires c κs = parts-fit (c .before .blank .ensures (now (c .before .before .before .args .numbers)) (c .before .before .before .pre .1)) (record { conditions = lit≤ tt; modeConditions = lit≤ tt; modeEffects = lit≤ tt; additions = lit≤ tt })
 
 difference-requires : tie.Need-difference-requires
 difference-requires c κs = let v : SFits w64 (c .before .before .before .before .before .args .s .deep) = search needs in rw (toZ-ofZ v) (lit≤ tt, omega (arith, c .before .before .before .before .before .pre .2 .deep))
@@ -29,7 +29,7 @@ difference-requires c κs = let v : SFits w64 (c .before .before .before .before
 push-condition-requires : tie.Need-push-condition-requires
 push-condition-requires c κs =
     let one = pushed (c .before .before .before .before .before .before .blank .ensures (now (c .before .before .before .before .before .before .before .before .args .numbers)) (c .before .before .before .before .before .before .before .before .pre .1)) withModeCondition (c .before .before .before .before .push-mode-condition .ensures (now (c .before .before .before .before .before .before .before .before .args .numbers)) (c .before .before .before .before .before .before .before .before .pre .1)) in
-    (room-for one (record { conditions = lit≤ tt; modeConditions = lit≤ tt; modeEffects = lit≤ tt; additions = lit≤ tt }), c .before .before .before .before .before .before .before .before .pre .1)
+    (parts-fit one (record { conditions = lit≤ tt; modeConditions = lit≤ tt; modeEffects = lit≤ tt; additions = lit≤ tt }), c .before .before .before .before .before .before .before .before .pre .1)
 
 difference-requires-2 : tie.Need-difference-requires-2
 difference-requires-2 c κs =
@@ -50,7 +50,7 @@ push-condition-requires-2 c κs =
     let v : SFits w64 (c .before .before .before .before .before .before .before .before .before .before .before .before .before .before .before .args .s .deep) = search needs in
     let k = least-fits (c .before .before .before .before .before .before .before .before .before) in
     let two = pushed one withCondition (rw (toZ-ofZ k, rw (toZ-ofZ v) at (c .before .before .before .before .before .before .before .before .before .difference .ensures)) at (c .before .before .before .before .before .before .push-condition .ensures)) in
-    (room-for two (record { conditions = lit≤ tt; modeConditions = lit≤ tt; modeEffects = lit≤ tt; additions = lit≤ tt }), two .numbersLong)
+    (parts-fit two (record { conditions = lit≤ tt; modeConditions = lit≤ tt; modeEffects = lit≤ tt; additions = lit≤ tt }), two .numbersLong)
 
 push-bounds-requires : tie.Need-push-bounds-requires
 push-bounds-requires c κs =
@@ -63,7 +63,7 @@ push-bounds-requires c κs =
     let m : SFits w64 (c .before .before .before .before .before .difference3 .result) = search needs in
     let d = rw (toZ-ofZ u, toZ-ofZ v) at (c .before .before .before .before .before .before .difference2 .ensures) in
     let three = pushed two withCondition (rw (toZ-ofZ m, rw (toZ-ofZ l, d) at (c .before .before .before .before .before .difference3 .ensures)) at (c .before .before .push-condition2 .ensures)) in
-    (room-for three (record { conditions = lit≤ tt; modeConditions = lit≤ tt; modeEffects = lit≤ tt; additions = lit≤ tt }), three .numbersLong)
+    (parts-fit three (record { conditions = lit≤ tt; modeConditions = lit≤ tt; modeEffects = lit≤ tt; additions = lit≤ tt }), three .numbersLong)
 
 push-mode-effect-requires : tie.Need-push-mode-effect-requires
 push-mode-effect-requires c κs =
@@ -77,7 +77,7 @@ push-mode-effect-requires c κs =
     let d = rw (toZ-ofZ u, toZ-ofZ v) at (c .before .before .before .before .before .before .before .before .difference2 .ensures) in
     let three = pushed two withCondition (rw (toZ-ofZ m, rw (toZ-ofZ l, d) at (c .before .before .before .before .before .before .before .difference3 .ensures)) at (c .before .before .before .before .push-condition2 .ensures)) in
     let four = pushed three withConditions (c .before .push-bounds .ensures) in
-    room-for four (record { conditions = omega (arith, asked-few (c .before .before .before .before .before .before .before .before .before .before .before .before .before .before .before .before .before .before .before .before .args .s)); modeConditions = lit≤ tt; modeEffects = lit≤ tt; additions = lit≤ tt })
+    parts-fit four (record { conditions = omega (arith, asked-few (c .before .before .before .before .before .before .before .before .before .before .before .before .before .before .before .before .before .before .before .before .args .s)); modeConditions = lit≤ tt; modeEffects = lit≤ tt; additions = lit≤ tt })
 
 push-given-requires : tie.Need-push-given-requires
 push-given-requires c κs =
@@ -92,7 +92,7 @@ push-given-requires c κs =
     let three = pushed two withCondition (rw (toZ-ofZ m, rw (toZ-ofZ l, d) at (c .before .before .before .before .before .before .before .before .before .before .before .difference3 .ensures)) at (c .before .before .before .before .before .before .before .before .push-condition2 .ensures)) in
     let four = pushed three withConditions (c .before .before .before .before .before .push-bounds .ensures) in
     let five = pushed four withModeEffect (c .before .before .before .push-mode-effect .ensures (c .before .before .before .before .before .push-bounds .last .1 .0) (four .numbersLong)) in
-    (room-for five (record { conditions = omega (arith, asked-few (c .before .before .before .before .before .before .before .before .before .before .before .before .before .before .before .before .before .before .before .before .before .before .before .before .args .s)); modeConditions = lit≤ tt; modeEffects = lit≤ tt; additions = lit≤ tt }), five .numbersLong)
+    (parts-fit five (record { conditions = omega (arith, asked-few (c .before .before .before .before .before .before .before .before .before .before .before .before .before .before .before .before .before .before .before .before .before .before .before .before .args .s)); modeConditions = lit≤ tt; modeEffects = lit≤ tt; additions = lit≤ tt }), five .numbersLong)
 
 returns : tie.Need-returns
 returns c =

@@ -1,14 +1,11 @@
 -- `plan_expand::expand` meets its contract: what is refused of the file and the plan's bytes, of the plan, or of its price; else its expansion.
 -- Assumes nothing.
-use mathlib.Core.Path.{_≡_, sym, ap, _∙_}
+use mathlib.Core.Path.{ap, _∙_}
 use denote.Ref.{now}
-use Rattle.lists.specs.declared.Written.{Written}
 use Rattle.lists.proofs.Lent.{refusal}
-use Rattle.model.specs.Plans.{planNumbers}
-use Rattle.source_step.specs.Step.{state}
 use Rattle.source_step.proofs.Tables.{usables}
-use Rattle.source_walk.specs.Opening.{tableOf, Started}
-use Rattle.source_walk.specs.Walk.{Judging, judgeBy}
+use Rattle.source_walk.specs.Opening.{Started}
+use Rattle.source_walk.specs.Walk.{Judging}
 use Rattle.source_walk.proofs.Opening.{refused-both}
 use Rattle.plan_expand.specs.Expanding.{lengthOf}
 use Rattle.plan_expand.proofs.Answering.{expansionAnswer, expandable, answers}

@@ -1,5 +1,5 @@
 -- `plan_expand::put_turn` meets its contract: the strokes of the step, its numbers written, and the rest of the step. Assumes nothing.
-use mathlib.Core.Path.{_≡_, sym, ap, _∙_}
+use mathlib.Core.Path.{sym, ap}
 use mathlib.Core.List.{List}
 use lib.IntN.{ℤ}
 use denote.Ref.{now}

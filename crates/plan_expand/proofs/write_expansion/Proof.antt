@@ -1,6 +1,6 @@
 -- `plan_expand::write_expansion` meets its contract: what was counted is what is written. Assumes nothing.
 use native.Mathlib.Omega.{arith}
-use mathlib.Core.Path.{refl, _∙_}
+use mathlib.Core.Path.{refl}
 use denote.Ref.{now}
 use Rattle.model.specs.Plans.{planNumbers}
 use Rattle.source_step.specs.Step.{state}

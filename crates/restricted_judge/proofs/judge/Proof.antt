@@ -5,7 +5,7 @@ use denote.Ref.{now}
 use Rattle.file_check.specs.Views.{verdictIs}
 use Rattle.plan_bytes.specs.Counted.{countedIs}
 use Rattle.restricted_judge.specs.Judging.{judgementOf}
-use Rattle.restricted_state.proofs.Accepting.{bytes-of}
+use Rattle.file_actions.proofs.Accepted.{bytes-of}
 use Rattle.restricted_judge.proofs.Accepting.{judged-rejected, judged-no-plan, judged-task, accepted-plan}
 use borrow.Author.Needs.{needs}
 use Rattle.restricted_judge.proofs.judge.Statement.{statement}

@@ -3,7 +3,8 @@
 use native.Mathlib.Omega.{arith}
 use denote.Ref.{now}
 use Rattle.integers.specs.Numbers.{Bytes}
-use Rattle.restricted_state.proofs.Accepting.{bytes-of, row-for, step-taken}
+use Rattle.file_actions.proofs.Accepted.{bytes-of}
+use Rattle.restricted_state.proofs.Accepting.{row-for, step-taken}
 use borrow.Author.Needs.{needs}
 use Rattle.restricted_state.proofs.step_accepted.Statement.{statement}
 use Rattle.restricted_state.proofs.step_accepted.Tie as tie

@@ -6,7 +6,8 @@ use Rattle.model.specs.Limits.{restrictedLimits}
 use Rattle.file_actions.proofs.Refusals.{told-given, told-refused}
 use Rattle.restricted_state.specs.Step.{wholeIs}
 use Rattle.restricted_state.specs.Alone.{stepAnswerOf}
-use Rattle.restricted_state.proofs.Accepting.{bytes-of, alone-refused}
+use Rattle.file_actions.proofs.Accepted.{bytes-of}
+use Rattle.restricted_state.proofs.Accepting.{alone-refused}
 use borrow.Author.Needs.{needs}
 use Rattle.restricted_state.proofs.step_alone.Statement.{statement}
 use Rattle.restricted_state.proofs.step_alone.Tie as tie

@@ -6,7 +6,8 @@ use borrow.Author.Needs.{needs}
 use native.Mathlib.Omega.{arith}
 use Prim.Native.Nat.{_-_}
 use denote.Ref.{now}
-use Rattle.source_step.proofs.Judging.{bytes-of, few-actions}
+use Rattle.file_actions.proofs.Accepted.{bytes-of}
+use Rattle.source_step.proofs.Judging.{few-actions}
 use Rattle.source_ready.proofs.Preparing.{Made, action-fits, placed, goal-placed, begins, goal-fits, over, one-more}
 use Rattle.source_ready.proofs.prepare.Statement.{statement}
 use Rattle.source_ready.proofs.prepare.Tie as tie

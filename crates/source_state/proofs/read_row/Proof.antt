@@ -3,10 +3,10 @@ use native.Mathlib.Omega.{arith}
 use denote.Ref.{now}
 use Rattle.model.specs.Limits.{sourceLimits}
 use Rattle.file_actions.specs.Views.{sourceActionIs}
-use Rattle.file_actions.proofs.Accepted.{source-action-decoded}
+use Rattle.file_actions.proofs.Accepted.{bytes-of, source-action-decoded}
 use Rattle.file_actions.proofs.Refusals.{given-of}
 use Rattle.file_declarations.proofs.Accepted.{source-held}
-use Rattle.source_step.proofs.Judging.{bytes-of, task-of, counted-task, accepted-by, task-by, zero-room}
+use Rattle.source_step.proofs.Judging.{task-of, counted-task, accepted-by, task-by, zero-room}
 use Rattle.source_ready.proofs.Preparing.{action-fits}
 use borrow.Author.Needs.{needs}
 use Rattle.source_state.proofs.read_row.Statement.{statement}

@@ -1,6 +1,6 @@
 -- `source_step::finish` meets its contract: the value within its bounds, then the modes. Assumes nothing.
 use native.Mathlib.Omega.{arith}
-use mathlib.Core.Path.{refl, sym, _∙_}
+use mathlib.Core.Path.{sym, _∙_}
 use borrow.Author.Tests.{not-true, not-false}
 use borrow.Author.Needs.{needs}
 use Rattle.source_step.proofs.Trying.{chosen-first, chosen-second}

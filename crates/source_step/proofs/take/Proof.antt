@@ -1,5 +1,5 @@
 -- `source_step::take` meets its contract: the tests of the rows, then the rest of the step. Assumes nothing.
-use mathlib.Core.Path.{_≡_, refl, sym, _∙_}
+use mathlib.Core.Path.{_≡_, sym, _∙_}
 use mathlib.Core.Bool.{true}
 use denote.Ref.{now}
 use mir.Facts.{toZ-ofZ}
@@ -7,8 +7,7 @@ use mir.Syntax.{w64}
 use mir.Val.{SFits}
 use borrow.Author.Tests.{not-true, not-false}
 use borrow.Author.Needs.{needs}
-use Rattle.lists.proofs.Loops.{and-right}
-use Rattle.source_step.specs.Row.{modesIn, held}
+use Rattle.source_step.specs.Row.{held}
 use Rattle.source_step.proofs.Taking.{not-held, behind-the-test, read-when-held}
 use Rattle.source_step.proofs.take.Statement.{statement}
 use Rattle.source_step.proofs.take.Tie as tie
