@@ -30,7 +30,7 @@
  *    2  the file ends before Z or inside operands         at the file's length
  *    3  bytes follow Z                                    at the offset after Z
  *    4  one more than a limit                             at the offset of the command, as are 5, 6 and 7
- *    5  undeclared variable or mode, value or start of a mode not below its size, relation over 3
+ *    5  undeclared variable or mode, value or start of a mode not below its size, relation over 4 (restricted: over 3)
  *    6  operand out of range, zero where barred, lower above upper, start of a variable outside its bounds
  *    7  second numeric effect, second effect on a mode, a variable twice in T or in a restricted action's +
  *    8  the lent output is shorter than the result        the place is the bytes needed
@@ -78,7 +78,7 @@ extern "C" {
 #endif
 
 /* The version of this header: major * 10000 + minor * 100 + patch. ruphenqo_version() answers that of the archive. */
-#define RUPHENQO_VERSION 10000
+#define RUPHENQO_VERSION 10100
 
 /* The answers by name; what each means stands above, and in a line of text by ruphenqo_refusal_text. */
 enum {
@@ -159,7 +159,7 @@ uint32_t ruphenqo_price_plan(const uint8_t *task, size_t task_length, const uint
  * bytes needed: a call with out_length 0 asks for the length; it answers 0, with length 0, where the result is empty. Text has no byte 0 behind
  * it. */
 
-/* The restricted task's file, of at most 28,297 bytes. Refusals 1 to 7, 8. */
+/* The restricted task's file, of at most 30,145 bytes. Refusals 1 to 7, 8. */
 uint32_t ruphenqo_lower(const uint8_t *task, size_t task_length, uint8_t *out, size_t out_length, uint64_t *length, uint64_t *place);
 
 /* The restricted plan that a source plan becomes, of at most 2,000,000 bytes: a longer one gives 9. Refusals 1 to 7, 10 to 13 as by judging

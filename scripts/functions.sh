@@ -2,6 +2,9 @@
 
 archive=target/staticlib/libruphenqo.a
 
+# the library's level: document 01 is 99, with the change requests of document 02 up to M-u it is u (tests/vectors/README.md)
+level=100
+
 # need COMMAND..      says which commands are missing, with the Debian package of each
 need() {
     missing=0

@@ -72,7 +72,7 @@ static void put_byte(int b) { task[task_length++] = b; }
 static void put_word(int32_t z) { for (int i = 0; i < 4; i++) put_byte((uint32_t)z >> 8 * i & 255); }
 static void put_variable(int lower, int upper, int start) { put_byte('V'); put_word(lower); put_word(upper); put_word(start); }
 
-/* One or two actions over two variables and a mode: a macro or + of every kind and sign, with a goal or without. */
+/* Two actions over two variables and a mode: a macro or + of every kind and sign; without a goal, with ≤, or with equal there and in an action. */
 static void put_task(int kind, int c, int first, int second, int goal)
 {
     task_length = 0;
@@ -81,6 +81,7 @@ static void put_task(int kind, int c, int first, int second, int goal)
     put("M\2\0\0\0", 5);
     put_byte('A');
     put("P\0\0\0E\0\1\0", 8);
+    if (goal == 2) { put("C\1\4", 3); put_word(second); }
     if (kind == 0) { put("+\0", 2); put_word(c); }
     if (kind == 1) { put("L\0", 2); put_word(c); put("T\0", 2); put_word(-1); put("T\1", 2); put_word(c); }
     if (kind == 2) { put("Q\0\1", 3); put_word(c); }
@@ -90,7 +91,7 @@ static void put_task(int kind, int c, int first, int second, int goal)
     put("+\1", 2);
     put_word(-1);
     put_byte('G');
-    if (goal) { put("C\1\1", 3); put_word(0); }
+    if (goal) { put(goal == 1 ? "C\1\1" : "C\1\4", 3); put_word(0); }
     put_byte('Z');
 }
 
@@ -101,7 +102,7 @@ int main(void)
         for (int c = -3; c <= 3; c++)
             for (int first = -2; first <= 2; first += 2)
                 for (int second = -1; second <= 2; second++)
-                    for (int goal = 0; goal < 2 && c; goal++) {
+                    for (int goal = 0; goal < 3 && c; goal++) {
                         uint8_t plan[2 * MOST + 2];
                         put_task(kind, c, first, second, goal);
                         if (ruphenqo_read_source(task, task_length, counts, &place) || ruphenqo_lower(task, task_length, lowered, ROOM, &lowered_length, &place))

@@ -86,8 +86,8 @@ module _ (l : Limits) (n : ℕ) (sizes : List ℕ) where
       of-row-itself k = record {
         conditions = record {
           few = omega (arith, k .conditionsOk .conditionsFew, length-tabulate (naturalAt marks conditionCount) (conditionIn marks numbers));
-          declared = λ i b. all-at (ConditionOk l n) (naturalAt marks conditionCount) (conditionIn marks numbers) (k .conditionsOk .conditionsIn) i b .0;
-          inRange = λ i b. all-at (ConditionOk l n) (naturalAt marks conditionCount) (conditionIn marks numbers) (k .conditionsOk .conditionsIn) i b .1;
+          declared = λ i b. all-at (ConditionOk l n) (naturalAt marks conditionCount) (conditionIn marks numbers) (k .conditionsOk .conditionsIn) i b .declared;
+          inRange = λ i b. all-at (ConditionOk l n) (naturalAt marks conditionCount) (conditionIn marks numbers) (k .conditionsOk .conditionsIn) i b .inRange;
         };
         modeConditions = record {
           few = omega (arith, k .conditionsOk .modeConditionsFew, length-tabulate (naturalAt marks modeConditionCount) (modeConditionIn marks));

@@ -82,7 +82,7 @@ const IN_ACTION: u32 = 2;
 const IN_GOAL: u32 = 3;
 
 // The largest relation of a source file and of a restricted one.
-const SOURCE_RELATIONS: u32 = 3;
+const SOURCE_RELATIONS: u32 = 4;
 
 const RESTRICTED_RELATIONS: u32 = 3;
 

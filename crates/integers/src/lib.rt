@@ -12,7 +12,7 @@ ghost use Rattle.integers.specs.Division.{quotientOf, residueOf};
 ghost use Rattle.integers.specs.Numbers.{numberAt, bitsOf, signedOf};
 ghost use Rattle.integers.specs.Relation.{relationOf, related, between, withinLimit};
 
-// Whether a value stands in a relation, given by its number, to a constant. A number over 3 is read as 3.
+// Whether a value stands in a relation, given by its number, to a constant. A number over 4 is read as 4.
 pub fn relation_holds(value: i64, relation: u8, constant: i64) -> bool
     ensures { λ r. ⌜ r ≡ related (relationOf relation) value constant ⌝ }
 {
@@ -20,7 +20,8 @@ pub fn relation_holds(value: i64, relation: u8, constant: i64) -> bool
         0 => value < constant,
         1 => value <= constant,
         2 => constant <= value,
-        _ => constant < value,
+        3 => constant < value,
+        _ => is_between(constant, value, constant),
     }
 }
 

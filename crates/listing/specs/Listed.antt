@@ -44,6 +44,7 @@ pub record LinedTo (T : Table) (p : List ℕ) (from until : ℕ) (values : List 
   pub few : r .place ≤ at + LINE * (until - from)
   pub further : until ≤ r .next
   pub inPlan : r .next ≤ length p
-  pub left : linesBy T from (drop from p) (state values modes) ≡ linesTo T from until p (state values modes) ++ linesBy T (r .next) (drop (r .next) p) (state values′ modes′)
+  pub left : linesBy T from (drop from p) (state values modes)
+      ≡ linesTo T from until p (state values modes) ++ linesBy T (r .next) (drop (r .next) p) (state values′ modes′)
   pub valuesLong : length values′ ≡ 8
   pub modesLong : length modes′ ≡ 4

@@ -115,4 +115,4 @@ module _ (file : List ℕ) (count : ℕ) (bytes : Bytes file) (accepted : Accept
     where
       all-small : (n : ℕ) (cs : List (NumericCondition ℕ)) → All (ConditionOk sourceLimits n) cs → All Constant cs
       all-small n [] h = tt
-      all-small n (c ∷ cs) (h, hs) = (omega (arith, h .1), all-small n cs hs)
+      all-small n (c ∷ cs) (h, hs) = (omega (arith, h .inRange), all-small n cs hs)

@@ -30,7 +30,7 @@ use Rattle.file_actions.specs.declared.SourceAction.{SourceAction as DecodedSou
 use Rattle.file_actions.proofs.Distinct.{few-distinct}
 use Rattle.file_parts.specs.Row.{rowIs}
 use Rattle.file_parts.specs.With.{withModeCondition}
-use Rattle.lowering_rows.specs.Bytes.{modeConditionBytes, conditionBytes, modeEffectBytes, additionBytes, restrictedActionBytes, rowBytes}
+use Rattle.lowering_rows.specs.Bytes.{modeConditionBytes, conditionBytes, modeEffectBytes, additionBytes, restrictedActionBytes, inFour, rowBytes}
 use Rattle.lowering_rows.proofs.Parts.{run-bytes, mode-conditions-bytes, conditions-bytes, actions-bytes}
 use Rattle.lowering_rows.proofs.Writing.{action-row}
 use Rattle.lowering_file.specs.declared.Declarations.{Declarations}
@@ -86,7 +86,7 @@ goal-begun old at row = start old at (ap (λ (z : List ℕ). row ++ z) (sym (app
 abbrev taskParts : List ℤ → List (ℕ × ℕ) → ℕ → List RestrictedAction → RestrictedAction → ℕ → List (List ℕ)
 taskParts starts modes size acts goal control =
     flatMap startBytes (starts ++ (pos 0 ∷ pos 0 ∷ [])) ∷ flatMap modeBytes (modes ++ ((size, 0) ∷ [])) ∷ flatMap restrictedActionBytes acts
-    ∷ (rowBytes letterG (withModeCondition goal (control, 0)) ++ encode End) ∷ []
+    ∷ (rowBytes letterG (inFour (withModeCondition goal (control, 0))) ++ encode End) ∷ []
 
 abbrev pub partsOf : List ℕ → Declarations → DecodedSource → ℕ → List (List ℕ)
 partsOf file d g size =
@@ -102,7 +102,7 @@ module _ (file : List ℕ) (count : ℕ) (d : Declarations) (g : DecodedSource) 
       ∙ ap (λ (z : List (ℕ × ℕ)). taskParts (sourceStart t .values) z size acts (rowIs (g .marks) (g .numbers)) (d .shape .modes)) (D .modesAre)
       ∙ ap (λ (z : ℕ). taskParts (sourceStart t .values) (t .modes) z acts (rowIs (g .marks) (g .numbers)) (d .shape .modes)) e
       ∙ ap₂ (λ (z : RestrictedAction) (m : ℕ). taskParts (sourceStart t .values) (t .modes) (suc (stagesOfTask file)) acts z m) (G .is) (D .held .modesAre)
-      ∙ ap (λ (z : List ℕ). flatMap startBytes (lowerTask t .starts) ∷ flatMap modeBytes (lowerTask t .modes) ∷ flatMap restrictedActionBytes acts ∷ z ∷ []) (sym (goal-bytes (lowerTask t .goalModes) (t .goalConditions))))
+      ∙ ap (λ (z : List ℕ). flatMap startBytes (lowerTask t .starts) ∷ flatMap modeBytes (lowerTask t .modes) ∷ flatMap restrictedActionBytes acts ∷ z ∷ []) (sym (goal-bytes (lowerTask t .goalModes) (lowerTask t .goalConditions))))
 
   -- with the size that control has, it is the lowered file
   pub task-is : size ≡ suc (stagesOfTask file) → fileWith file d g size ≡ lowerFile (taskOf file)
@@ -112,7 +112,7 @@ module _ (file : List ℕ) (count : ℕ) (d : Declarations) (g : DecodedSource) 
 pub same-long : (file : List ℕ) (d : Declarations) (g : DecodedSource) (c c′ : ℕ) → length (fileWith file d g c) ≡ length (fileWith file d g c′)
 same-long file d g c c′ =
     by (flatMap startBytes (take (d .shape .variables) (d .starts) ++ (pos 0 ∷ pos 0 ∷ [])))
-    (flatMap restrictedActionBytes (lowerTask (taskOf file) .actions) ++ ((rowBytes letterG (withModeCondition (rowIs (g .marks) (g .numbers)) (d .shape .modes, 0)) ++ encode End) ++ []))
+    (flatMap restrictedActionBytes (lowerTask (taskOf file) .actions) ++ ((rowBytes letterG (inFour (withModeCondition (rowIs (g .marks) (g .numbers)) (d .shape .modes, 0))) ++ encode End) ++ []))
     (flatMap modeBytes (ms ++ ((c, 0) ∷ []))) (flatMap modeBytes (ms ++ ((c′, 0) ∷ []))) (long c ∙ sym (long c′))
   where
     ms : List (ℕ × ℕ)

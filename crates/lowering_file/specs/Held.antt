@@ -23,7 +23,7 @@ use Rattle.lowering_stages.specs.declared.Shape.{Shape}
 use lib.IntN.{pos}
 use Rattle.file_parts.specs.Row.{rowIs}
 use Rattle.file_parts.specs.With.{withModeCondition}
-use Rattle.lowering_rows.specs.Bytes.{restrictedActionBytes, rowBytes}
+use Rattle.lowering_rows.specs.Bytes.{restrictedActionBytes, inFour, rowBytes}
 use Rattle.lowering_file.specs.Parts.{startBytes, modeBytes, modesIn, Constants, GoalWritable}
 use Rattle.lowering_file.specs.declared.Declarations.{Declarations}
 
@@ -77,4 +77,4 @@ fileWith file d g size =
     flatMap startBytes (take (d .shape .variables) (d .starts) ++ (pos 0 ∷ pos 0 ∷ []))
     ++ (flatMap modeBytes (modesIn (d .shape .modes) (d .shape .sizes) (d .values) ++ ((size, 0) ∷ []))
     ++ (flatMap restrictedActionBytes (lowerTask (taskOf file) .actions)
-    ++ ((rowBytes letterG (withModeCondition (rowIs (g .marks) (g .numbers)) (d .shape .modes, 0)) ++ encode End) ++ [])))
+    ++ ((rowBytes letterG (inFour (withModeCondition (rowIs (g .marks) (g .numbers)) (d .shape .modes, 0))) ++ encode End) ++ [])))

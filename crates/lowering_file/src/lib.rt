@@ -28,7 +28,7 @@ ghost use Rattle.source_step.specs.Sizes.{VARIABLES, MODES, ACTIONS};
 ghost use Rattle.source_step.specs.Accepted.{AcceptedWith};
 ghost use Rattle.file_parts.specs.Row.{rowIs};
 ghost use Rattle.file_parts.specs.With.{withModeCondition};
-ghost use Rattle.lowering_rows.specs.Bytes.{restrictedActionBytes, rowBytes};
+ghost use Rattle.lowering_rows.specs.Bytes.{restrictedActionBytes, inFour, rowBytes};
 ghost use Rattle.lowering_file.specs.Parts.{startBytes, modeBytes, modesIn, Constants, GoalWritable};
 ghost use Rattle.lowering_file.specs.Held.{taskOf, Held, PlacesOf, Declares, GoalOf, stagesOfTask, fileWith};
 
@@ -210,8 +210,9 @@ fn put_modes<'a>(
 // The goal, control at 0 with it, and the end of the file.
 fn put_goal(out: &mut [u8], at: usize, goal: SourceAction, control: u8) -> usize
     requires { ⌜ GoalWritable (goal .marks) (goal .numbers) ⌝ }
-    requires { ⌜ Room (now out) at (rowBytes letterG (withModeCondition (rowIs (goal .marks) (goal .numbers)) (control, 0)) ++ encode End) ⌝ }
-    ensures { λ r. ⌜ Wrote (now (out .entry)) at (rowBytes letterG (withModeCondition (rowIs (goal .marks) (goal .numbers)) (control, 0)) ++ encode End)
+    requires { ⌜ Room (now out) at (rowBytes letterG (inFour (withModeCondition (rowIs (goal .marks) (goal .numbers)) (control, 0))) ++ encode End) ⌝ }
+    ensures { λ r. ⌜ Wrote (now (out .entry)) at
+        (rowBytes letterG (inFour (withModeCondition (rowIs (goal .marks) (goal .numbers)) (control, 0))) ++ encode End)
         (now (out .exit)) r ⌝ }
 {
     let mut marks = goal.marks;

@@ -10,20 +10,21 @@ use lib.Dec.{eqb}
 use lib.ListN.{length}
 use lib.IntN.{ℤ, pos, negsuc}
 use Rattle.integers.specs.All.{All}
+use Rattle.integers.specs.Relation.{Relation, below, atMost, atLeast, above, equal}
 use Rattle.lists.proofs.Writing.{Left, start}
 use Rattle.model.specs.Tasks.{Measured, variable, weightedSum, NumericCondition, SourceAction, RestrictedAction}
 use Rattle.model.specs.Limits.{restrictedLimits}
 use Rattle.model.specs.TaskOk.{AmountOk, ConditionOk}
 use Rattle.model.specs.Stages.{Name, Stage, onSource, onSourceTerms, onSourceVariables, addedBound, openingAction, firstStage, stagesOf, stagesActions, macro}
-use Rattle.model.specs.Lowering.{numberedAdditions, numberedMeasure, numberedConditions, numbered, numberedAll}
+use Rattle.model.specs.Lowering.{numberedAdditions, numberedMeasure, numberedConditions, inFourRelations, allInFourRelations, numbered, numberedAll}
 use Rattle.file_actions.specs.declared.Effect.{Effect as DecodedEffect}
 use Rattle.file_actions.specs.declared.Effect.the-variants.{None, Add, Linear, Quotient, Residue}
 use Rattle.file_actions.specs.Views.{effectIs}
 use Rattle.file_parts.specs.With.{sourcePart}
 use Rattle.lowering_stages.specs.Openings.{withOpening}
 use Rattle.lowering_stages.specs.Stages.{targetIs}
-use Rattle.lowering_rows.specs.Bytes.{restrictedActionBytes}
-use Rattle.lowering_rows.specs.Macros.{Constant, Amount, MacroFit, macroWith, Sound}
+use Rattle.lowering_rows.specs.Bytes.{restrictedActionBytes, inFour}
+use Rattle.lowering_rows.specs.Macros.{Constant, Amount, Fit, MacroFit, macroWith, Sound}
 
 -- ---- the source's conditions, numbered, are themselves
 terms-back : (n : ℕ) (ts : List (ℕ × ℤ)) → numberedAdditions n (onSourceTerms ts) ≡ ts
@@ -56,7 +57,7 @@ module _ (lower upper : ℕ → ℤ) where
 
   -- the action with its effect, as the model has it
   module _ (n m from : ℕ) (a : SourceAction) (e : DecodedEffect) (ts : List (ℕ × ℤ)) (is : a .effect ≡ effectIs e ts) where
-    opening-is : withOpening n m (firstStage from (stagesOf (λ t. lower (targetIs e)) (λ t. upper (targetIs e)) (effectIs e ts))) (lower (targetIs e)) (upper (targetIs e)) (effectIs e ts) (sourcePart a)
+    opening-is : inFour (withOpening n m (firstStage from (stagesOf (λ t. lower (targetIs e)) (λ t. upper (targetIs e)) (effectIs e ts))) (lower (targetIs e)) (upper (targetIs e)) (effectIs e ts) (sourcePart a))
         ≡ numbered n m (openingAction lower upper from a)
     opening-is = sym (rw (is, conditions-back n (a .conditions) (addedBound lower upper (effectIs e ts)), sym (stages-given e ts), sym (bound-given e ts)))
 
@@ -91,7 +92,22 @@ first-is from count (d ∷ ds) e = rw (e, ne-eqb (suc (length ds)) 0 (λ q. omeg
 -- ---- what is sound can be written
 conditions-fit : (n : ℕ) (cs : List (NumericCondition ℕ)) → All (ConditionOk restrictedLimits n) cs → All Constant cs
 conditions-fit n [] h = tt
-conditions-fit n (c ∷ cs) (h, hs) = (omega (arith, h .1), conditions-fit n cs hs)
+conditions-fit n (c ∷ cs) (h, hs) = (omega (arith, h .inRange), conditions-fit n cs hs)
+
+-- what is written in the four relations can be written
+constants-of-four : (cs : List (NumericCondition ℕ)) → All Constant (allInFourRelations cs) → All Constant cs
+constants-of-four [] h = tt
+constants-of-four (c ∷ cs) h = let (first, rest) = by (c .relation) h in (first, constants-of-four cs rest)
+  where
+    by : (r : Relation) → All Constant (inFourRelations (c .measured) r (c .constant) ++ allInFourRelations cs) → Constant c × All Constant (allInFourRelations cs)
+    by below h = h
+    by atMost h = h
+    by atLeast h = h
+    by above h = h
+    by equal h = h .1
+
+pub fit-of-four : {x : RestrictedAction} → Fit (inFour x) → Fit x
+fit-of-four {x} h = record { constants = constants-of-four (x .conditions) (h .constants); amounts = h .amounts }
 
 additions-fit : (n : ℕ) (es : List (ℕ × ℤ)) → All (AmountOk restrictedLimits n) es → All Amount es
 additions-fit n [] h = tt

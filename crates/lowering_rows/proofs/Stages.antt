@@ -20,13 +20,13 @@ use Rattle.model.specs.Steps.{naturalAt, integerAt}
 use Rattle.model.specs.Stages.{Stage as ModelStage, stageActions}
 use Rattle.model.specs.Lowering.{numberedAll}
 use Rattle.file_parts.specs.Layout.{conditionCount, additionCount}
-use Rattle.file_parts.specs.Row.{conditionIn, additionIn, Says}
+use Rattle.file_parts.specs.Row.{conditionIn, additionIn, rowIs, Says}
 use Rattle.file_parts.proofs.Pushing.{Sized, parts-fit}
 use Rattle.lowering_stages.specs.declared.Stage.{Stage}
 use Rattle.lowering_stages.specs.Stages.{signed, signedAt, thresholdIs, strokeIs, turnIs, Small, Stands}
-use Rattle.lowering_stages.proofs.Rows.{difference-small, asked-few, falling-is, rising-is, turn-is}
+use Rattle.lowering_stages.proofs.Rows.{difference-small, asked-few, asks-in-four, falling-is, rising-is, turn-is}
 use Rattle.lowering_rows.specs.Macros.{Constant, Amount, Fit}
-use Rattle.lowering_rows.specs.Bytes.{restrictedActionBytes, rowBytes, Writable, stageRows}
+use Rattle.lowering_rows.specs.Bytes.{restrictedActionBytes, inFour, rowBytes, Writable, stageRows}
 use Rattle.lowering_rows.proofs.Writing.{action-row}
 
 -- ---- of a tabulated list
@@ -100,6 +100,13 @@ module _ (s : Stage) (h : Small s) (m n : ℕ) where
     constants = (omega (arith, difference-small (pos 0) (s .deep) (lit≤ tt) (h .deep)), (within-twice, either Constant (s .bounded) _ [] (omega (arith, h .lower), (omega (arith, h .upper), tt)) tt));
     amounts = either Amount (eqb (natAbs (s .gives)) 0) [] ((a, s .gives) ∷ []) tt (omega (arith, h .gives), tt);
   }
+
+-- written in the four relations they are themselves
+pub turn-in-four : (s : Stage) (a m n next : ℕ) → inFour (turnIs a m n next s) ≡ turnIs a m n next s
+turn-in-four s a m n next = rw (asks-in-four s)
+
+pub row-in-four : {x : RestrictedAction} {marks : List ℕ} {numbers : List ℤ} → inFour x ≡ x → Says x marks numbers → rowBytes letterA (inFour (rowIs marks numbers)) ≡ rowBytes letterA x
+row-in-four e h = ap (λ (x : RestrictedAction). rowBytes letterA (inFour x)) (h .is) ∙ ap (rowBytes letterA) e
 
 pub stage-begun : (old : List ℕ) (at a m n next : ℕ) (s : Stage)
     → Left old at (flatMap (rowBytes letterA) (stageRows a m n next s)) old at (rowBytes letterA (strokeIs true m n s) ∷ rowBytes letterA (strokeIs false m n s) ∷ rowBytes letterA (turnIs a m n next s) ∷ [])

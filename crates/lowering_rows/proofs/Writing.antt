@@ -1,22 +1,24 @@
 -- Bytes of rows.
 -- Assumes nothing.
-use mathlib.Core.Path.{_≡_, refl, sym, ap}
-use Prim.Native.Nat.{ℕ, _%_}
+use mathlib.Core.Path.{_≡_, refl, sym, ap, ap₂, _∙_}
+use Prim.Native.Nat.{ℕ, zero, suc, _%_, _<_, _≤_}
 use mathlib.Core.Bool.{Bool, true, false}
-use mathlib.Core.List.{List, [], _∷_, _++_, flatMap}
+use mathlib.Core.List.{List, [], _∷_, _++_, flatMap, append-nil}
 use native.Mathlib.Omega.{arith}
 use lib.IntN.{ℤ}
 use Rattle.commands.specs.Table.{letterA}
 use Rattle.integers.specs.Numbers.{bytesOf, bitsOf}
-use Rattle.integers.specs.Relation.{relationNumber, relationOf}
+use Rattle.integers.specs.Relation.{Relation, below, atMost, atLeast, above, equal, relationNumber, relationOf}
 use Rattle.commands.specs.Encoding.{encode}
 use Rattle.commands.specs.declared.Command.the-variants.{Condition, Add}
 use Rattle.file_parts.specs.Layout.{modeConditionCount, modeConditionMode, modeConditionValue, modeEffectCount, modeEffectMode, modeEffectValue}
 use Rattle.file_parts.specs.Row.{PartsFit}
 use Rattle.file_parts.specs.With.{condition}
+use Rattle.lists.proofs.Each.{flatMap-nil, flatMap-cons, flatMap-append}
 use Rattle.lists.proofs.Writing.{Left, start}
-use Rattle.model.specs.Tasks.{RestrictedAction}
-use Rattle.lowering_rows.specs.Bytes.{modeConditionBytes, conditionBytes, modeEffectBytes, modePartBytes, additionBytes, restrictedActionBytes, rowBytes, ModePartsThere}
+use Rattle.model.specs.Tasks.{variable, NumericCondition, RestrictedAction}
+use Rattle.model.specs.Lowering.{comparing, inFourRelations, allInFourRelations}
+use Rattle.lowering_rows.specs.Bytes.{modeConditionBytes, conditionBytes, fourBytes, modeEffectBytes, modePartBytes, additionBytes, restrictedActionBytes, rowBytes, ModePartsThere}
 use Rattle.lowering_rows.proofs.Parts.{action-parts}
 
 -- before anything of a row is written
@@ -31,10 +33,50 @@ action-row x = sym (action-parts x)
 mod-mod : (n : ℕ) → n % 256 ≡ n % 256 % 256
 mod-mod n = omega arith
 
--- what stands in a row, as its command is written
-pub condition-coded : (v r : ℕ) (z : ℤ) (l k b : ℕ) → l ≡ v % 256 → k ≡ relationNumber (relationOf r) → b ≡ bitsOf 4 z → conditionBytes (condition v r z) ≡ encode (Condition l k b)
-condition-coded v r z l k b e f g = rw (e, f, g) (ap (λ (x : ℕ). 67 ∷ x ∷ (bytesOf 1 (relationNumber (relationOf r)) ++ (bytesOf 4 (bitsOf 4 z) ++ []))) (mod-mod v))
+-- ---- a C in the four relations
+comparison-coded : (v l : ℕ) (r : Relation) (z : ℤ) → l ≡ v % 256 → conditionBytes (comparing (variable v) r z) ≡ conditionBytes (comparing (variable l) r z)
+comparison-coded v l r z e = rw e (ap (λ (x : ℕ). 67 ∷ x ∷ (bytesOf 1 (relationNumber r) ++ (bytesOf 4 (bitsOf 4 z) ++ []))) (mod-mod v))
 
+-- what stands in a row, as its commands are written
+pub four-coded : (v r : ℕ) (z : ℤ) (l : ℕ) → l ≡ v % 256 → fourBytes (condition v r z) ≡ fourBytes (condition l r z)
+unfolding flatMap
+four-coded v r z l e = by (relationOf r)
+  where
+    by : (r : Relation) → flatMap conditionBytes (inFourRelations (variable v) r z) ≡ flatMap conditionBytes (inFourRelations (variable l) r z)
+    by below = ap (λ (b : List ℕ). b ++ []) (comparison-coded v l below z e)
+    by atMost = ap (λ (b : List ℕ). b ++ []) (comparison-coded v l atMost z e)
+    by atLeast = ap (λ (b : List ℕ). b ++ []) (comparison-coded v l atLeast z e)
+    by above = ap (λ (b : List ℕ). b ++ []) (comparison-coded v l above z e)
+    by equal = ap₂ (λ (a b : List ℕ). a ++ (b ++ [])) (comparison-coded v l atLeast z e) (comparison-coded v l atMost z e)
+
+-- one of the four is written as it is
+pub four-plain : (v r : ℕ) (z : ℤ) (b : ℕ) → r < 4 → b ≡ bitsOf 4 z → fourBytes (condition v r z) ≡ encode (Condition v r b)
+unfolding flatMap
+four-plain v zero z b h e = rw (e, append-nil (conditionBytes (condition v 0 z)))
+four-plain v (suc zero) z b h e = rw (e, append-nil (conditionBytes (condition v 1 z)))
+four-plain v (suc (suc zero)) z b h e = rw (e, append-nil (conditionBytes (condition v 2 z)))
+four-plain v (suc (suc (suc zero))) z b h e = rw (e, append-nil (conditionBytes (condition v 3 z)))
+four-plain v (suc (suc (suc (suc r)))) z b h e = absurd (omega arith)
+
+-- equal is two
+pub equal-begun : (old : List ℕ) (at v r : ℕ) (z : ℤ) (b : ℕ) → 4 ≤ r → b ≡ bitsOf 4 z
+    → Left old at (fourBytes (condition v r z)) old at (encode (Condition v 2 b) ∷ encode (Condition v 1 b) ∷ [])
+unfolding flatMap
+equal-begun old at v zero z b h e = absurd (omega arith)
+equal-begun old at v (suc zero) z b h e = absurd (omega arith)
+equal-begun old at v (suc (suc zero)) z b h e = absurd (omega arith)
+equal-begun old at v (suc (suc (suc zero))) z b h e = absurd (omega arith)
+equal-begun old at v (suc (suc (suc (suc r)))) z b h e = start old at (rw e)
+
+-- all of a row
+pub four-all : (cs : List (NumericCondition ℕ)) → flatMap conditionBytes (allInFourRelations cs) ≡ flatMap fourBytes cs
+four-all [] = flatMap-nil conditionBytes ∙ sym (flatMap-nil fourBytes)
+four-all (c ∷ cs) =
+    flatMap-append conditionBytes (inFourRelations (c .measured) (c .relation) (c .constant)) (allInFourRelations cs)
+    ∙ ap (λ (z : List ℕ). fourBytes c ++ z) (four-all cs)
+    ∙ sym (flatMap-cons fourBytes c cs)
+
+-- ---- the other parts
 pub addition-coded : (v : ℕ) (z : ℤ) (l b : ℕ) → l ≡ v % 256 → b ≡ bitsOf 4 z → additionBytes (v, z) ≡ encode (Add l b)
 addition-coded v z l b e g = rw (e, g) (ap (λ (x : ℕ). 43 ∷ x ∷ (bytesOf 4 (bitsOf 4 z) ++ [])) (mod-mod v))
 

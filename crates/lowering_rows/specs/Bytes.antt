@@ -14,7 +14,7 @@ use Rattle.commands.specs.Encoding.{encode, encodeAll}
 use Rattle.commands.specs.declared.Command.the-variants.{Condition, ModeCondition, ModeEffect, Add}
 use Rattle.model.specs.Tasks.{NumericCondition, RestrictedAction}
 use Rattle.model.specs.Steps.{integerAt, naturalAt}
-use Rattle.model.specs.Lowering.{variableOf, actionCommands}
+use Rattle.model.specs.Lowering.{variableOf, actionCommands, inFourRelations, allInFourRelations}
 use Rattle.file_parts.specs.Layout.{MARKS, NUMBERS, conditionCount, additionCount, additionAmount}
 use Rattle.file_parts.specs.Row.{PartsFit}
 use Rattle.lowering_stages.specs.declared.Stage.{Stage}
@@ -26,6 +26,10 @@ modeConditionBytes p = encode (ModeCondition (p .0) (p .1))
 
 abbrev pub conditionBytes : NumericCondition ℕ → List ℕ
 conditionBytes c = encode (Condition (variableOf (c .measured)) (relationNumber (c .relation)) (bitsOf 4 (c .constant)))
+
+-- a condition in the four relations of a restricted file
+abbrev pub fourBytes : NumericCondition ℕ → List ℕ
+fourBytes c = flatMap conditionBytes (inFourRelations (c .measured) (c .relation) (c .constant))
 
 abbrev pub modeEffectBytes : ℕ × ℕ → List ℕ
 modeEffectBytes e = encode (ModeEffect (e .0) (e .1))
@@ -40,6 +44,15 @@ additionBytes e = encode (Add (e .0) (bitsOf 4 (e .1)))
 -- the bytes of an action
 abbrev pub restrictedActionBytes : RestrictedAction → List ℕ
 restrictedActionBytes a = encodeAll (actionCommands a [])
+
+-- ---- an action in the four relations
+abbrev pub inFour : RestrictedAction → RestrictedAction
+inFour x = record {
+  modeConditions = x .modeConditions;
+  conditions = allInFourRelations (x .conditions);
+  modeEffects = x .modeEffects;
+  additions = x .additions;
+}
 
 -- ---- the bytes of a row: a byte, A or G; then P, C, E, +
 abbrev pub rowBytes : ℕ → RestrictedAction → List ℕ

@@ -16,6 +16,7 @@ use Rattle.lowering_stages.specs.declared.Shape.{Shape}
 use Rattle.file_parts.specs.Row.{Says}
 use Rattle.file_parts.specs.With.{sourcePart}
 use Rattle.lowering_stages.specs.Openings.{withOpening}
+use Rattle.lowering_rows.specs.Bytes.{inFour}
 use Rattle.lowering_stages.specs.Shapes.{lowerOf, upperOf, Bounded}
 
 -- ---- constants and amounts fit the width of a file's
@@ -32,7 +33,7 @@ pub record Fit (x : RestrictedAction) : Type 0 where
 -- ---- an action, whose parts are x, with its effect e, the target's bounds given; its stages are numbered from `from`
 abbrev pub macroWith : ℕ → ℕ → ℕ → RestrictedAction → Effect → ℤ → ℤ → List RestrictedAction
 macroWith a m from x e lower upper =
-    withOpening a m (firstStage from (stagesOf (λ t. lower) (λ t. upper) e)) lower upper e x
+    inFour (withOpening a m (firstStage from (stagesOf (λ t. lower) (λ t. upper) e)) lower upper e x)
     ∷ numberedAll a m (stagesActions from (stagesOf (λ t. lower) (λ t. upper) e))
 
 -- its opening can be written

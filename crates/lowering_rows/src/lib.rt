@@ -23,7 +23,6 @@ use lowering_stages::Shape;
 use lowering_stages::Stage;
 ghost use mathlib.Core.Path.{_≡_};
 ghost use Prim.Native.Nat.{_+_, _≤_, _<_, _%_};
-ghost use Rattle.integers.specs.Relation.{relationNumber, relationOf};
 ghost use mathlib.Core.Bool.{cond};
 ghost use mathlib.Core.List.{[], flatMap};
 ghost use lib.Dec.{eqb};
@@ -32,15 +31,23 @@ ghost use Rattle.commands.specs.Table.{letterA};
 ghost use Rattle.source_step.specs.Sizes.{VARIABLES};
 ghost use Rattle.file_parts.specs.Layout.{MARKS, NUMBERS};
 ghost use Rattle.file_parts.specs.Row.{rowIs, PartsFit};
+ghost use Rattle.file_parts.specs.With.{condition};
 ghost use Rattle.model.specs.Stages.{stagesActions};
 ghost use Rattle.model.specs.Lowering.{numberedAll};
-ghost use Rattle.lowering_rows.specs.Bytes.{conditionBytes, modePartBytes, additionBytes, restrictedActionBytes};
+ghost use Rattle.lowering_rows.specs.Bytes.{conditionBytes, fourBytes, modePartBytes, additionBytes, restrictedActionBytes, inFour};
 ghost use Rattle.file_actions.specs.Views.{termRoom, effectIs, termsIs};
 ghost use Rattle.lowering_stages.specs.Openings.{Moderate, withOpening};
-ghost use Rattle.lowering_rows.specs.Macros.{Fit, MacroFit, macroWith, Lowerable, macroIn, Sound};
+ghost use Rattle.lowering_rows.specs.Macros.{Constant, Fit, MacroFit, macroWith, Lowerable, macroIn, Sound};
 ghost use Rattle.lowering_rows.specs.Bytes.{ModePartsThere, modePartsIn, rowBytes, Writable, stageRows, WroteRows};
 ghost use lib.ListN.{length};
 ghost use Rattle.lowering_stages.specs.Stages.{Small, BoundsSmall, StagesSmall, stagesWith, mostStages, stageNumbers};
+
+// The relation that a restricted file does not have, and the two that stand for it.
+const EQUAL: u16 = 4;
+
+const AT_LEAST: u8 = 2;
+
+const AT_MOST: u8 = 1;
 
 fn wide(x: u16) -> usize
     ensures { λ r. ⌜ r ≡ x ⌝ }
@@ -52,18 +59,6 @@ fn low(x: u16) -> u8
     ensures { λ r. ⌜ r ≡ x % 256 ⌝ }
 {
     (x % 256) as u8
-}
-
-// The number of a relation as a file has it: a number over 3 is read as 3.
-fn known_relation(relation: u16) -> u8
-    ensures { λ r. ⌜ r ≡ relationNumber (relationOf relation) ⌝ }
-{
-    match relation {
-        0 => 0,
-        1 => 1,
-        2 => 2,
-        _ => 3,
-    }
 }
 
 // An E, or else a P.
@@ -104,6 +99,20 @@ fn put_mode_parts(
     place
 }
 
+// A C of a row, in the four relations of a restricted file: equal is ≥, then ≤.
+fn put_condition(out: &mut [u8], at: usize, variable: u8, relation: u16, constant: i64) -> usize
+    requires { ⌜ Constant (condition variable relation constant) ⌝ }
+    requires { ⌜ Room (now out) at (fourBytes (condition variable relation constant)) ⌝ }
+    ensures { λ r. ⌜ Wrote (now (out .entry)) at (fourBytes (condition variable relation constant)) (now (out .exit)) r ⌝ }
+{
+    let bits = integers::bits(constant);
+    if relation < EQUAL {
+        return commands::put_condition(out, at, variable, relation as u8, bits);
+    }
+    let behind = commands::put_condition(out, at, variable, AT_LEAST, bits);
+    commands::put_condition(out, behind, variable, AT_MOST, bits)
+}
+
 // The C of a row.
 fn put_conditions(
     out: &mut [u8],
@@ -112,8 +121,8 @@ fn put_conditions(
     numbers: &[i64; NUMBERS],
 ) -> usize
     requires { ⌜ Writable (now marks) (now numbers) ⌝ }
-    requires { ⌜ Room (now out) at (flatMap conditionBytes (rowIs (now marks) (now numbers) .conditions)) ⌝ }
-    ensures { λ r. ⌜ Wrote (now (out .entry)) at (flatMap conditionBytes (rowIs (now (marks .entry)) (now (numbers .entry)) .conditions))
+    requires { ⌜ Room (now out) at (flatMap conditionBytes (inFour (rowIs (now marks) (now numbers)) .conditions)) ⌝ }
+    ensures { λ r. ⌜ Wrote (now (out .entry)) at (flatMap conditionBytes (inFour (rowIs (now (marks .entry)) (now (numbers .entry))) .conditions))
         (now (out .exit)) r ⌝ }
 {
     let count = wide(marks[CONDITION_COUNT]);
@@ -121,9 +130,13 @@ fn put_conditions(
     let mut i: usize = 0;
     while i < count {
         let variable = low(marks[CONDITION_VARIABLE + i]);
-        let relation = known_relation(marks[CONDITION_RELATION + i]);
-        let bits = integers::bits(numbers[i]);
-        place = commands::put_condition(out, place, variable, relation, bits);
+        place = put_condition(
+            out,
+            place,
+            variable,
+            marks[CONDITION_RELATION + i],
+            numbers[i],
+        );
         i += 1;
     }
     place
@@ -147,7 +160,7 @@ fn put_additions(out: &mut [u8], at: usize, marks: &[u16; MARKS], numbers: &[i64
     place
 }
 
-// A row, an action or a goal by its first byte.
+// A row, an action or a goal by its first byte, in the four relations of a restricted file.
 pub fn put_row(
     out: &mut [u8],
     at: usize,
@@ -156,8 +169,8 @@ pub fn put_row(
     numbers: &[i64; NUMBERS],
 ) -> usize
     requires { ⌜ Writable (now marks) (now numbers) ⌝ }
-    requires { ⌜ Room (now out) at (rowBytes byte (rowIs (now marks) (now numbers))) ⌝ }
-    ensures { λ r. ⌜ Wrote (now (out .entry)) at (rowBytes byte (rowIs (now (marks .entry)) (now (numbers .entry)))) (now (out .exit)) r ⌝ }
+    requires { ⌜ Room (now out) at (rowBytes byte (inFour (rowIs (now marks) (now numbers)))) ⌝ }
+    ensures { λ r. ⌜ Wrote (now (out .entry)) at (rowBytes byte (inFour (rowIs (now (marks .entry)) (now (numbers .entry))))) (now (out .exit)) r ⌝ }
 {
     let modes = lists::put_number(out, at, byte as u32, 1);
     let conditions = put_mode_parts(
@@ -267,9 +280,10 @@ fn put_opening(
 ) -> usize
     requires { ⌜ PartsFit 1 1 1 1 (now marks) × (length (now numbers) ≡ NUMBERS) × BoundsSmall lower upper × Moderate effect ⌝ }
     requires { ⌜ Fit (withOpening a control next lower upper (effectIs effect []) (rowIs (now marks) (now numbers))) ⌝ }
-    requires { ⌜ Room (now out) at (rowBytes letterA (withOpening a control next lower upper (effectIs effect []) (rowIs (now marks) (now numbers)))) ⌝ }
-    ensures { λ r. ⌜ WroteRows (now (out .entry)) at (rowBytes letterA (withOpening a control next lower upper (effectIs effect [])
-        (rowIs (now (marks .entry)) (now (numbers .entry))))) (now (out .exit)) r (now (marks .exit)) (now (numbers .exit)) ⌝ }
+    requires { ⌜ Room (now out) at (rowBytes letterA (inFour (withOpening a control next lower upper (effectIs effect [])
+        (rowIs (now marks) (now numbers))))) ⌝ }
+    ensures { λ r. ⌜ WroteRows (now (out .entry)) at (rowBytes letterA (inFour (withOpening a control next lower upper (effectIs effect [])
+        (rowIs (now (marks .entry)) (now (numbers .entry)))))) (now (out .exit)) r (now (marks .exit)) (now (numbers .exit)) ⌝ }
 {
     lowering_stages::push_opening(marks, numbers, effect, lower, upper, a, control, next);
     put_row(out, at, commands::ACTION_BYTE, marks, numbers)

@@ -41,9 +41,9 @@ firsts : (sizes : List ℕ) (ps : List (ℕ × ℕ)) → ValuesIn sizes ps → D
 firsts sizes [] h = tt
 firsts sizes (p ∷ ps) (h, hs) = (h .0, firsts sizes ps hs)
 
-cond-vars : (n : ℕ) (cs : List (NumericCondition ℕ)) → All (ConditionOk sourceLimits n) cs → All (ConditionIn n) cs
-cond-vars n [] h = tt
-cond-vars n (c ∷ cs) (h, hs) = (h .0, cond-vars n cs hs)
+pub conditions-in : (n : ℕ) (cs : List (NumericCondition ℕ)) → All (ConditionOk sourceLimits n) cs → All (ConditionIn n) cs
+conditions-in n [] h = tt
+conditions-in n (c ∷ cs) (h, hs) = (h .declared, conditions-in n cs hs)
 
 pub factor-less : (c : ℤ) → Factor sourceLimits c → suc (unitLess c) ≡ natAbs c
 factor-less (pos zero) h = absurd (omega (arith, h .0))
@@ -64,7 +64,7 @@ eff-in n (residueEffect t y c) (h, k, f) = (h, k)
 act-in : (n : ℕ) (sizes : List ℕ) (a : SourceAction) → SourceActionOk sourceLimits n sizes a → ActionIn n (length sizes) a
 act-in n sizes a k = record {
   modeConditionsIn = firsts sizes (a .modeConditions) (k .conditionsOk .modeConditionsIn);
-  conditionsIn = cond-vars n (a .conditions) (k .conditionsOk .conditionsIn);
+  conditionsIn = conditions-in n (a .conditions) (k .conditionsOk .conditionsIn);
   modeEffectsIn = firsts sizes (a .modeEffects) (k .modeEffectsIn);
   modeEffectsOnce = apart-once (a .modeEffects) (k .modeEffectsOnce);
   effectIn = eff-in n (a .effect) (k .effectOk);
@@ -119,7 +119,7 @@ module _ (t : SourceTask) (S : SourceTaskOk t) where
     sets = all-map (SourceActionOk sourceLimits (length (t .variables)) (sizesOf (t .modes))) (λ (a : SourceAction). ValuesIn (sizesOf (t .modes)) (a .modeEffects)) (λ a k. k .modeEffectsIn) (t .actions) (S .actionsOk);
     sizesLength = long;
     goalModesIn = subst (λ (m : ℕ). All (λ (p : ℕ × ℕ). p .0 < m) (t .goalModes)) long (firsts (sizesOf (t .modes)) (t .goalModes) (S .goal .modeConditionsIn));
-    goalConditionsIn = cond-vars (length (t .variables)) (t .goalConditions) (S .goal .conditionsIn);
+    goalConditionsIn = conditions-in (length (t .variables)) (t .goalConditions) (S .goal .conditionsIn);
     valuesLength = length-map (t .variables) (λ (b : SourceVariable). b .start);
     modesLength = length-map (t .modes) (λ (m : ℕ × ℕ). m .1);
     good = start-good (t .variables) (S .variablesIn);

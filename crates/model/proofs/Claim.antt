@@ -29,6 +29,7 @@ use Rattle.model.specs.Plans.{planBytes, planNumbers, readPlan}
 use Rattle.model.specs.Judging.{judge, judgeSourceTask, judgeRestrictedTask, judgeSource, judgeRestricted}
 use Rattle.model.specs.Judging.{pricePlan, lowerBytes, expandBytes, projectBytes}
 use Rattle.model.specs.Claim.{Pair, PlansPair, RoundTrip}
+use Rattle.model.proofs.FourRelations.{four-hold}
 use Rattle.model.proofs.StageWalk.{and-intro, and-parts}
 use Rattle.model.proofs.LoweredPairing.{PlansPairOff, rest-of-start, plans-pair-off}
 use Rattle.model.proofs.ReadsBack.{reads-back}
@@ -178,10 +179,14 @@ module _ (t : SourceTask) (S : SourceTaskOk t) (file : List ℕ) (e : readSource
   goal-out x (a, b) = and-intro (modesHold (t .goalModes) (naturalAt (x .modes))) (conditionsHold (t .goalConditions) (integerAt (x .values))) a b
 
   goalR-in : (x : State) → T (restrictedGoalHolds R x) → LoweredGoal (length (t .modes)) (t .goalModes) (t .goalConditions) x
-  goalR-in x = and-parts (modesHold (R .goalModes) (naturalAt (x .modes))) (conditionsHold (t .goalConditions) (integerAt (x .values)))
+  goalR-in x h =
+      let (a, b) = and-parts (modesHold (R .goalModes) (naturalAt (x .modes))) (conditionsHold (R .goalConditions) (integerAt (x .values))) h in
+      (a, subst T (four-hold (t .goalConditions) (integerAt (x .values))) b)
 
   goalR-out : (x : State) → LoweredGoal (length (t .modes)) (t .goalModes) (t .goalConditions) x → T (restrictedGoalHolds R x)
-  goalR-out x (a, b) = and-intro (modesHold (R .goalModes) (naturalAt (x .modes))) (conditionsHold (t .goalConditions) (integerAt (x .values))) a b
+  goalR-out x (a, b) =
+      and-intro (modesHold (R .goalModes) (naturalAt (x .modes))) (conditionsHold (R .goalConditions) (integerAt (x .values)))
+      a (subst T (sym (four-hold (t .goalConditions) (integerAt (x .values)))) b)
 
   -- a run of R from its start is one from T's start, helpers at rest
   from-start : (q : List ℕ) → runPlan (stepRestricted R) q (helpersAtRest (sourceStart t)) ≡ runPlan (stepRestricted R) q (restrictedStart R)

@@ -2,7 +2,7 @@
 -- then so is what begins with it, as the state before it asks.
 -- Assumes nothing.
 use mathlib.Core.Path.{_≡_, refl, sym, ap, _∙_}
-use Prim.Native.Nat.{ℕ, suc, _+_, _≤_, _<_}
+use Prim.Native.Nat.{ℕ, zero, suc, _+_, _≤_, _<_}
 use native.Mathlib.Omega.{arith}
 use mathlib.Core.Bool.{Bool, true, false, cond}
 use mathlib.Core.List.{List, [], _∷_}
@@ -10,6 +10,7 @@ use lib.ListN.{length, length-set, getD, set}
 use lib.Dec.{eqb, leb}
 use lib.IntN.{ℤ, natAbs}
 use Rattle.integers.specs.All.{All}
+use Rattle.integers.specs.Relation.{relationOf, relationNumber}
 use Rattle.commands.specs.declared.Command.{Command}
 use Rattle.commands.specs.declared.Command.the-variants.{Condition, ModeCondition, ModeEffect, Add, Linear, Term, Quotient, Residue}
 use Rattle.model.specs.Tasks.{NumericCondition, Effect}
@@ -35,6 +36,14 @@ pub record PartOk (l : Limits) (n : ℕ) (sizes : List ℕ) (a : List Command) :
 where-restricted : (r x y : Bool) → cond r x y ≡ false → r ≡ true → x ≡ false
 where-restricted true x y e h = e
 where-restricted false x y e h = absurd (clash (sym h))
+
+-- a number within the largest relation names a relation within it
+relation-within : (r m : ℕ) → r ≤ m → relationNumber (relationOf r) ≤ m
+relation-within zero m h = omega arith
+relation-within (suc zero) m h = h
+relation-within (suc (suc zero)) m h = h
+relation-within (suc (suc (suc zero))) m h = h
+relation-within (suc (suc (suc (suc n)))) m h = omega (arith, h)
 
 unmarked : (z : ℕ) → leb 1 z ≡ false → z ≡ 0
 unmarked z e = omega (arith, over 1 z e)
@@ -170,7 +179,7 @@ module _ (l : Limits) (n : ℕ) (sizes : List ℕ) where
       modeMarks = i .modeMarks;
       variableMarks = i .variableMarks;
     },
-    λ x R. let (ps, cs, es, nu) = R in (ps, (omega (arith, cs .0), ((variable-there p v i b, constant-in k e), cs .1)), es, shut (i .numeric) nu),
+    λ x R. let (ps, cs, es, nu) = R in (ps, (omega (arith, cs .0), (record { declared = variable-there p v i b; inRange = constant-in k e; known = relation-within r (l .relations) (up-to (l .relations) r c) }, cs .1)), es, shut (i .numeric) nu),
   )
 
   pub mode-condition-carries : (p : ReadingState) (m x : ℕ) → Counted p → Off (testsOf l p (ModeCondition m x)) → Carries p (ModeCondition m x)

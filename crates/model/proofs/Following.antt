@@ -13,7 +13,7 @@ use lib.IntN.{ℤ}
 use Rattle.lists.specs.Answer.{Answer, given, refused, then}
 use Rattle.lists.proofs.Numbers.{length-halves}
 use Rattle.model.specs.Tasks.{SourceTask, RestrictedTask, State}
-use Rattle.model.specs.Steps.{sourceStep, restrictedStep, soundSource, soundRestricted, sizesOf, lowerBounds, upperBounds, sourceStart, stepSource, sourceGoalHolds, restrictedStart, restrictedGoalHolds}
+use Rattle.model.specs.Steps.{integerAt, sourceStep, restrictedStep, soundSource, soundRestricted, sizesOf, lowerBounds, upperBounds, sourceStart, stepSource, sourceGoalHolds, restrictedStart, restrictedGoalHolds}
 use Rattle.model.specs.Stages.{NamedAction, lowerActions, opening, sourceNumber, stageCount}
 use Rattle.model.specs.Lowering.{helpersAtRest, lowerTask, lowerFile}
 use Rattle.model.specs.Expansion.{projectTask}
@@ -23,6 +23,7 @@ use Rattle.model.specs.Plans.{planBytes, planNumbers, readPlan}
 use Rattle.model.specs.Judging.{judge, judgeRestrictedTask, projectBytes}
 use Rattle.model.specs.TaskOk.{SourceTaskOk}
 use Rattle.model.specs.Following.{projectOver, macroNumbers, deadEndNumbers, opens, projectFrom}
+use Rattle.model.proofs.FourRelations.{four-hold}
 use Rattle.model.proofs.Answers.{Gives, given-injective}
 use Rattle.model.proofs.StageWalk.{Rest}
 use Rattle.model.proofs.Arrays.{modes-laid-hold}
@@ -108,7 +109,7 @@ module _ (t : SourceTask) (S : SourceTaskOk t) where
   goalR = restrictedGoalHolds (lowerTask t)
 
   goals-same : (x : State) (y : NamedState) → RestrictedAgrees n m x y → goalR x ≡ goalLowered lo hi (t .actions) (t .goalModes) (t .goalConditions) y
-  goals-same x y (L, M) = ap₂ _&&_ (modes-laid-hold m (t .goalModes) (x .modes) (y .mode) (y .control) 0 (A .goalModesIn) M) (goal-conds n m lo hi (t .goalConditions) (A .goalConditionsIn) (x .values) (y .value) L)
+  goals-same x y (L, M) = ap₂ _&&_ (modes-laid-hold m (t .goalModes) (x .modes) (y .mode) (y .control) 0 (A .goalModesIn) M) (four-hold (t .goalConditions) (integerAt (x .values)) ∙ goal-conds n m lo hi (t .goalConditions) (A .goalConditionsIn) (x .values) (y .value) L)
 
   R-side : (c q : List ℕ) → length q ≤ 1_000_000
       → then (judgeRestrictedTask (lowerTask t) q) (λ v. given c) ≡ judgedAs count (stepNamed R) (goalLowered lo hi (t .actions) (t .goalModes) (t .goalConditions)) c 0 q (atRest (byName (sourceStart t)))

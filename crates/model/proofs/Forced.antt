@@ -19,6 +19,7 @@ use Rattle.model.specs.Tasks.{SourceAction, RestrictedAction, SourceTask
 use Rattle.model.specs.Steps.{integerAt, naturalAt, modesHold, conditionsHold, appliesRestricted, applyRestricted, tryRestricted, restrictedStep, soundRestricted, sizesOf, lowerBounds, upperBounds, stepRestricted}
 use Rattle.model.specs.Stages.{NamedAction, Stage, leftOver, falling, rising, turn, stageActions, firstStage, stagesActions, stagesOf, openingAction, lowerActions}
 use Rattle.model.specs.Lowering.{numberOfName, numberedConditions, numbered, numberedAll, lowerTask}
+use Rattle.model.proofs.FourRelations.{four-hold}
 use Rattle.model.proofs.Pairing.{bind-gives, some-injective}
 use Rattle.model.proofs.StageWalk.{and-parts, provided-gives, all-app, all-map, all-get, stages-from, stages-under}
 use Rattle.model.proofs.MacroPlace.{lower-past}
@@ -57,7 +58,9 @@ module _ (n m : ℕ) (x : State) where
   last-holds (p ∷ ps) c t = last-holds ps c (and-parts (eqb (naturalAt (x .modes) (p .0)) (p .1)) (modesHold (ps ++ ((m, c) ∷ [])) (naturalAt (x .modes))) t .1)
 
   asked : (r : NamedAction) → Applies r → T (modesHold (numbered n m r .modeConditions) (naturalAt (x .modes))) × T (conditionsHold (numberedConditions n (r .conditions)) (integerAt (x .values)))
-  asked r t = and-parts (modesHold (numbered n m r .modeConditions) (naturalAt (x .modes))) (conditionsHold (numberedConditions n (r .conditions)) (integerAt (x .values))) t
+  asked r t =
+      let (a, b) = and-parts (modesHold (numbered n m r .modeConditions) (naturalAt (x .modes))) (conditionsHold (numbered n m r .conditions) (integerAt (x .values))) t in
+      (a, subst T (four-hold (numberedConditions n (r .conditions)) (integerAt (x .values))) b)
 
   pub applies-at-its-control : (r : NamedAction) → Applies r → control ≡ r .control
   applies-at-its-control r t = last-holds (r .modeConditions) (r .control) (asked r t .0)

@@ -22,6 +22,8 @@ pub mod FollowingNamed
 pub mod FollowingPlans
 pub mod FollowingWalks
 pub mod Forced
+pub mod FourRelations
+pub mod FourAlone
 pub mod GuardedPairing
 pub mod Guards
 pub mod JudgedPlans

@@ -18,6 +18,7 @@ use Rattle.model.specs.Lowering.{numberedConditions, numberedAdditions, 
 use Rattle.model.specs.InTask.{NameIn, MeasureIn}
 use Rattle.model.specs.Limits.{sourceLimits, restrictedLimits}
 use Rattle.model.specs.TaskOk.{Distinct, keys, ValuesIn, InRange, Factor, AmountOk, ModeOk, ConditionIn, ConditionOk, ConditionsOk, SourceVariableOk, SourceTaskOk, RestrictedActionOk, RestrictedTaskOk}
+use Rattle.model.proofs.FourRelations.{four-length, four-ok}
 use Rattle.model.proofs.StageWalk.{all-app, all-map}
 use Rattle.model.proofs.NumberedPairing.{NamedActionIn, lower-in}
 use Rattle.model.proofs.StepBounds.{additionAt, AdditionsOnce}
@@ -50,7 +51,7 @@ apart-more m x (e ∷ es) (h, hs) (a, as₁) = (beyond es a, apart-more m x es h
 
 -- ---- rows, their variables numbered
 all-cond : (n : ℕ) (cs : List (NumericCondition Name)) → All (λ (c : NumericCondition Name). MeasureIn (NameIn n) (c .measured)) cs → All (λ (c : NumericCondition Name). InRange restrictedLimits (c .constant)) cs
-    → All (ConditionOk restrictedLimits (n + 2)) (numberedConditions n cs)
+    → All (λ (c : NumericCondition ℕ). ConditionIn (n + 2) c × InRange restrictedLimits (c .constant)) (numberedConditions n cs)
 all-cond n [] i h = tt
 all-cond n (c ∷ cs) (i, is) (h, hs) = ((lhs (c .measured) i, h), all-cond n cs is hs)
   where
@@ -85,8 +86,8 @@ module _ (n m : ℕ) (sizes : List ℕ) (z : ℕ) (sm : length sizes ≡ m) wher
     conditionsOk = record {
       modeConditionsFew = omega (arith, o .modeConditionsFew, length-append (r .modeConditions) ((m, r .control) ∷ []));
       modeConditionsIn = values-more sizes z m (r .control) sm (o .control) (r .modeConditions) (o .modeConditionsIn);
-      conditionsFew = omega (arith, o .conditionsFew, length-numC n (r .conditions));
-      conditionsIn = all-cond n (r .conditions) (i .conditionsIn) (o .csUp);
+      conditionsFew = omega (arith, o .conditionsFew, length-numC n (r .conditions), four-length (numberedConditions n (r .conditions)));
+      conditionsIn = four-ok (n + 2) (numberedConditions n (r .conditions)) (all-cond n (r .conditions) (i .conditionsIn) (o .csUp));
     };
     modeEffectsIn = go₁ (eqb (r .control) (r .nextControl));
     modeEffectsOnce = go₂ (eqb (r .control) (r .nextControl));
@@ -147,13 +148,13 @@ module _ (t : SourceTask) (S : SourceTaskOk t) where
       (lower-in (length (t .variables)) (length (t .modes)) (lowerBounds t) (upperBounds t) (t .actions) 1 (accepted t S .actionsIn))
       (lower-ok (lowerBounds t) (upperBounds t) (lower-up (t .variables) (S .variablesIn)) (upper-up (t .variables) (S .variablesIn)) (length (t .variables)) (sizesOf (t .modes)) (suc (stageCount (lowerBounds t) (upperBounds t) (t .actions))) (omega arith) (t .actions) 1 (omega arith) (S .actionsOk))
 
-  goal-ok : ConditionsOk restrictedLimits (length (t .variables) + 2) (sizesOf (t .modes) ++ (suc (stageCount (lowerBounds t) (upperBounds t) (t .actions)) ∷ [])) (lowerTask t .goalModes) (t .goalConditions)
+  goal-ok : ConditionsOk restrictedLimits (length (t .variables) + 2) (sizesOf (t .modes) ++ (suc (stageCount (lowerBounds t) (upperBounds t) (t .actions)) ∷ [])) (lowerTask t .goalModes) (lowerTask t .goalConditions)
   goal-ok = record {
     modeConditionsFew = omega (arith, S .goal .modeConditionsFew, length-append (t .goalModes) ((length (t .modes), 0) ∷ []));
     modeConditionsIn = values-more (sizesOf (t .modes)) (suc (stageCount (lowerBounds t) (upperBounds t) (t .actions))) (length (t .modes)) 0 (length-keys (t .modes)) (omega arith) (t .goalModes) (S .goal .modeConditionsIn);
-    conditionsFew = omega (arith, S .goal .conditionsFew);
-    conditionsIn = all-map (ConditionOk sourceLimits (length (t .variables))) (ConditionOk restrictedLimits (length (t .variables) + 2))
-        (λ c h. (with-helpers (length (t .variables)) c (h .0), omega (arith, h .1))) (t .goalConditions) (S .goal .conditionsIn);
+    conditionsFew = omega (arith, S .goal .conditionsFew, four-length (t .goalConditions));
+    conditionsIn = four-ok (length (t .variables) + 2) (t .goalConditions) (all-map (ConditionOk sourceLimits (length (t .variables))) (λ (c : NumericCondition ℕ). ConditionIn (length (t .variables) + 2) c × InRange restrictedLimits (c .constant))
+        (λ c h. (with-helpers (length (t .variables)) c (h .declared), omega (arith, h .inRange))) (t .goalConditions) (S .goal .conditionsIn));
   }
 
   pub lowered-task-ok : RestrictedTaskOk (lowerTask t)
@@ -172,6 +173,6 @@ module _ (t : SourceTask) (S : SourceTaskOk t) where
     );
     actionsOk = subst (λ (k : ℕ). All (RestrictedActionOk restrictedLimits k (sizesOf (lowerTask t .modes))) (lowerTask t .actions)) (sym nStarts)
         (subst (λ (s : List ℕ). All (RestrictedActionOk restrictedLimits (length (t .variables) + 2) s) (lowerTask t .actions)) (sym lowered-sizes) acts-ok);
-    goal = subst (λ (k : ℕ). ConditionsOk restrictedLimits k (sizesOf (lowerTask t .modes)) (lowerTask t .goalModes) (t .goalConditions)) (sym nStarts)
-        (subst (λ (s : List ℕ). ConditionsOk restrictedLimits (length (t .variables) + 2) s (lowerTask t .goalModes) (t .goalConditions)) (sym lowered-sizes) goal-ok);
+    goal = subst (λ (k : ℕ). ConditionsOk restrictedLimits k (sizesOf (lowerTask t .modes)) (lowerTask t .goalModes) (lowerTask t .goalConditions)) (sym nStarts)
+        (subst (λ (s : List ℕ). ConditionsOk restrictedLimits (length (t .variables) + 2) s (lowerTask t .goalModes) (lowerTask t .goalConditions)) (sym lowered-sizes) goal-ok);
   }

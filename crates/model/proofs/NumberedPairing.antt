@@ -25,6 +25,7 @@ use Rattle.model.proofs.Pairing.{some-injective}
 use Rattle.model.proofs.StageWalk.{and-intro, and-parts, all-app}
 use Rattle.model.proofs.Outcomes.{Good}
 use Rattle.model.proofs.NamedPairing.{named-plans-pair-off, GoalS, GoalR}
+use Rattle.model.proofs.FourRelations.{four-hold}
 use Rattle.model.proofs.Arrays.{get-set, list-ext, NamesOnce, ValuesLaid, values-laid-all, values-laid-conditions, ModesLaid, modes-laid-all, modes-laid-set, modes-laid-hold}
 
 -- ---- two systems that go together
@@ -83,7 +84,7 @@ shuffle false true c = refl
 shuffle false false c = refl
 
 row-applies : (n m : ℕ) (r : NamedAction) (X : State) (x : NamedState) → NamedActionIn n m r → RestrictedAgrees n m X x → appliesRestricted (numbered n m r) X ≡ applies r x
-row-applies n m r X x i (L, M) = ap₂ _&&_ (modes-laid-hold m (r .modeConditions) (X .modes) (x .mode) (x .control) (r .control) (i .modeConditionsIn) M) (values-laid-conditions n (r .conditions) (X .values) (x .value) (i .conditionsIn) L)
+row-applies n m r X x i (L, M) = ap₂ _&&_ (modes-laid-hold m (r .modeConditions) (X .modes) (x .mode) (x .control) (r .control) (i .modeConditionsIn) M) (four-hold (numberedConditions n (r .conditions)) (integerAt (X .values)) ∙ values-laid-conditions n (r .conditions) (X .values) (x .value) (i .conditionsIn) L)
     ∙ shuffle (modesHold (r .modeConditions) (x .mode)) (eqb (x .control) (r .control)) (conditionsHold (r .conditions) (x .value))
 
 row-apply : (n m : ℕ) (r : NamedAction) (X : State) (x : NamedState) → NamedActionIn n m r → RestrictedAgrees n m X x → T (applies r x) → RestrictedAgrees n m (applyRestricted (numbered n m r) X) (apply r x)

@@ -9,7 +9,7 @@ use lib.Dec.{eqb}
 use lib.ListN.{length, getD}
 use lib.IntN.{ℤ}
 use Rattle.integers.specs.All.{All}
-use Rattle.integers.specs.Relation.{Relation, below, atMost, atLeast, above, relationOf, relationNumber}
+use Rattle.integers.specs.Relation.{Relation, below, atMost, atLeast, above, equal, relationOf, relationNumber}
 use Rattle.integers.specs.Numbers.{bitsOf}
 use Rattle.commands.specs.declared.Command.{Command}
 use Rattle.commands.specs.declared.Command.the-variants.{Goal, End}
@@ -72,10 +72,12 @@ module _ (n : ℕ) (n-few : n ≤ 64) (sizes : List ℕ) (m-few : length sizes �
   rel-fits atMost = omega arith
   rel-fits atLeast = omega arith
   rel-fits above = omega arith
+  rel-fits equal = omega arith
 
   compares-ok : (cs : List (NumericCondition ℕ)) (more : List Command) → All (ConditionOk restrictedLimits n) cs → Oks more → Oks (conditionCommands cs more)
   compares-ok [] more h o = o
-  compares-ok (c ∷ cs) more ((h, g), hs) o = ((tt, (omega (arith, var-in n (c .measured) h, n-few), (rel-fits (c .relation), (fit (c .constant) g, tt)))), compares-ok cs more hs o)
+  compares-ok (c ∷ cs) more (h, hs) o =
+      ((tt, (omega (arith, var-in n (c .measured) (h .declared), n-few), (rel-fits (c .relation), (fit (c .constant) (h .inRange), tt)))), compares-ok cs more hs o)
 
   adds-ok : (es : List (ℕ × ℤ)) (more : List Command) → All (AmountOk restrictedLimits n) es → Oks more → Oks (additionCommands es more)
   adds-ok [] more h o = o
@@ -104,16 +106,18 @@ rel-back below = refl
 rel-back atMost = refl
 rel-back atLeast = refl
 rel-back above = refl
+rel-back equal = refl
 
 var-back : (n : ℕ) (l : Measured ℕ) → MeasureIn (λ (i : ℕ). i < n) l → variable (variableOf l) ≡ l
 var-back n (variable i) h = refl
 var-back n (weightedSum ts) h = absurd h
 
-abbrev SmallCondition : ℕ → NumericCondition ℕ → Type 0
-SmallCondition n c = MeasureIn (λ (i : ℕ). i < n) (c .measured) × Small (c .constant)
-
-conditions-back : (n : ℕ) (cs : List (NumericCondition ℕ)) → All (SmallCondition n) cs → map conditionOf (conditionCommands cs []) ≡ cs
-conditions-back n = read-back conditionCommand conditionOf (SmallCondition n) (λ c h i. record { measured = var-back n (c .measured) (h .0) i; relation = rel-back (c .relation) i; constant = const-back (c .constant) (h .1) i })
+conditions-back : (n : ℕ) (cs : List (NumericCondition ℕ)) → All (ConditionOk restrictedLimits n) cs → map conditionOf (conditionCommands cs []) ≡ cs
+conditions-back n = read-back conditionCommand conditionOf (ConditionOk restrictedLimits n) (λ c h i. record {
+  measured = var-back n (c .measured) (h .declared) i;
+  relation = rel-back (c .relation) i;
+  constant = const-back (c .constant) (h .inRange) i;
+})
 
 pairs-back : (f : ℕ × ℕ → Command) → ((p : ℕ × ℕ) → pairOf (f p) ≡ p) → (ps : List (ℕ × ℕ)) → map pairOf (map f ps ++ []) ≡ ps
 pairs-back f h [] = refl
@@ -136,7 +140,7 @@ module _ (d : ℕ) where
 goal-modes-back : (ps : List (ℕ × ℕ)) (cs : List (NumericCondition ℕ)) → modeConditionsOf (modeConditionCommands ps (conditionCommands cs [])) ≡ ps
 goal-modes-back ps cs = ap (map pairOf) (own letterP modeConditionCommand (λ x. refl) ps _ ∙ ap (modeConditionCommands ps) (past-C letterP refl cs [])) ∙ pairs-back modeConditionCommand (λ p. refl) ps
 
-goal-conditions-back : (n : ℕ) (ps : List (ℕ × ℕ)) (cs : List (NumericCondition ℕ)) → All (SmallCondition n) cs → conditionsOf (modeConditionCommands ps (conditionCommands cs [])) ≡ cs
+goal-conditions-back : (n : ℕ) (ps : List (ℕ × ℕ)) (cs : List (NumericCondition ℕ)) → All (ConditionOk restrictedLimits n) cs → conditionsOf (modeConditionCommands ps (conditionCommands cs [])) ≡ cs
 goal-conditions-back n ps cs h = ap (map conditionOf) (past-P letterC refl ps _ ∙ own letterC conditionCommand (λ x. refl) cs []) ∙ conditions-back n cs h
 
 -- ---- actions: the commands behind an A
@@ -144,7 +148,7 @@ abbrev pub bodyOf : RestrictedAction → List Command → List Command
 bodyOf a more = modeConditionCommands (a .modeConditions) (conditionCommands (a .conditions) (modeEffectCommands (a .modeEffects) (additionCommands (a .additions) more)))
 
 abbrev Smalls : ℕ → RestrictedAction → Type 0
-Smalls n a = All (SmallCondition n) (a .conditions) × All (λ (e : ℕ × ℤ). Small (e .1)) (a .additions)
+Smalls n a = All (ConditionOk restrictedLimits n) (a .conditions) × All (λ (e : ℕ × ℤ). Small (e .1)) (a .additions)
 
 module _ (n : ℕ) (a : RestrictedAction) (small : Smalls n a) where
   body-P : modeConditionsOf (bodyOf a []) ≡ a .modeConditions

@@ -151,7 +151,7 @@ module _ (lo hi : ℕ → ℤ) (loUp : (j : ℕ) → natAbs (lo j) ≤ 10_000) (
 
   lift-ok : (n : ℕ) (cs : List (NumericCondition ℕ)) → All (ConditionOk sourceLimits n) cs → All (λ (c : NumericCondition Name). InRange restrictedLimits (c .constant)) (onSourceVariables cs)
   lift-ok n [] h = tt
-  lift-ok n (c ∷ cs) (h, hs) = (omega (arith, h .1), lift-ok n cs hs)
+  lift-ok n (c ∷ cs) (h, hs) = (omega (arith, h .inRange), lift-ok n cs hs)
 
   length-lift : (cs : List (NumericCondition ℕ)) → length (onSourceVariables cs) ≡ length cs
   length-lift [] = refl

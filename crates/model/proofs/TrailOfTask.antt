@@ -11,7 +11,7 @@ use lib.Dec.{eqb}
 use lib.IntN.{ℤ, natAbs}
 use borrow.Author.Tests.{le-ltb, le-leb, lt-leb, ne-eqb, eq-eqb}
 use Rattle.integers.specs.All.{All}
-use Rattle.integers.specs.Relation.{Relation, below, atMost, atLeast, above, relationNumber}
+use Rattle.integers.specs.Relation.{relationNumber}
 use Rattle.integers.specs.Numbers.{bitsOf}
 use Rattle.commands.specs.declared.Command.{Command}
 use Rattle.commands.specs.declared.Command.the-variants.{Start, Mode, Action, Condition, ModeCondition, ModeEffect, Add, Goal}
@@ -87,20 +87,14 @@ module _ (n : ℕ) (sizes : List ℕ) where
       (lt-leb 16 (p .counts .modeConditions) (omega (arith, f)), (g₁, (g₂, tt)))
       (places-run ps (withModeCondition p) c s (omega (arith, f)) hs more k)
 
-  rel-few : (r : Relation) → relationNumber r ≤ 3
-  rel-few below = omega arith
-  rel-few atMost = omega arith
-  rel-few atLeast = omega arith
-  rel-few above = omega arith
-
   compares-run : (cs : List (NumericCondition ℕ)) (p : ReadingState) → Core n sizes p → 2 ≤ p .section → p .counts .conditions + length cs ≤ 24 → All (ConditionOk l n) cs → (more : List Command)
       → ((q : ReadingState) → Core n sizes q → q .section ≡ p .section → q .actions ≡ p .actions → q .counts .numericEffects ≡ p .counts .numericEffects → q .marks .modesSet ≡ p .marks .modesSet → q .marks .variablesSeen ≡ p .marks .variablesSeen → Trail l q more)
       → Trail l p (conditionCommands cs more)
   unfolding testsOf nextOf
   compares-run [] p c s f h more k = k p c refl refl refl refl refl
-  compares-run (x ∷ cs) p c s f ((h, g), hs) more k =
+  compares-run (x ∷ cs) p c s f (h, hs) more k =
       pass p (Condition (variableOf (x .measured)) (relationNumber (x .relation)) (bitsOf 4 (x .constant))) (conditionCommands cs more) refl (le-leb 2 (p .section) s)
-      (lt-leb 24 (p .counts .conditions) (omega (arith, f)), (declared p c (var-in n (x .measured) h), (le-ltb 3 (relationNumber (x .relation)) (rel-few (x .relation)), (in-range (x .constant) g, tt))))
+      (lt-leb 24 (p .counts .conditions) (omega (arith, f)), (declared p c (var-in n (x .measured) (h .declared)), (le-ltb 3 (relationNumber (x .relation)) (h .known), (in-range (x .constant) (h .inRange), tt))))
       (compares-run cs (withCondition p) c s (omega (arith, f)) hs more k)
 
   effects-run : (es : List (ℕ × ℕ)) (p : ReadingState) → Core n sizes p → p .section ≡ 2 → length sizes ≤ 8 → length (p .marks .modesSet) ≡ 8 → ValuesIn sizes es → Distinct (keys es) → Free (p .marks .modesSet) (keys es) → (more : List Command)

@@ -31,7 +31,7 @@ sourceLimits = record {
   additions = 1;
   terms = 4;
   constant = 10_000;
-  relations = 3;
+  relations = 4;
 }
 
 abbrev pub restrictedLimits : Limits

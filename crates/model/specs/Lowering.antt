@@ -7,7 +7,7 @@ use lib.Dec.{eqb}
 use lib.ListN.{length}
 use lib.IntN.{ℤ, pos}
 use Rattle.integers.specs.Numbers.{bitsOf}
-use Rattle.integers.specs.Relation.{relationNumber}
+use Rattle.integers.specs.Relation.{Relation, below, atMost, atLeast, above, equal, relationNumber}
 use Rattle.commands.specs.Encoding.{encode, encodeAll}
 use Rattle.commands.specs.declared.Command.{Command}
 use Rattle.commands.specs.declared.Command.the-variants.{Start, Mode, Action, Condition, ModeCondition, ModeEffect, Add, Goal, End}
@@ -34,12 +34,27 @@ abbrev pub numberedConditions : ℕ → List (NumericCondition Name) → List (N
 numberedConditions n [] = []
 numberedConditions n (c ∷ cs) = record { measured = numberedMeasure n (c .measured); relation = c .relation; constant = c .constant } ∷ numberedConditions n cs
 
+-- M-100, relation 4: "Lowering writes it as ≥ then ≤ in its place, so restricted files keep four relations"
+abbrev pub comparing : Measured ℕ → Relation → ℤ → NumericCondition ℕ
+comparing i r k = record { measured = i; relation = r; constant = k }
+
+abbrev pub inFourRelations : Measured ℕ → Relation → ℤ → List (NumericCondition ℕ)
+inFourRelations i below k = comparing i below k ∷ []
+inFourRelations i atMost k = comparing i atMost k ∷ []
+inFourRelations i atLeast k = comparing i atLeast k ∷ []
+inFourRelations i above k = comparing i above k ∷ []
+inFourRelations i equal k = comparing i atLeast k ∷ comparing i atMost k ∷ []
+
+abbrev pub allInFourRelations : List (NumericCondition ℕ) → List (NumericCondition ℕ)
+allInFourRelations [] = []
+allInFourRelations (c ∷ cs) = inFourRelations (c .measured) (c .relation) (c .constant) ++ allInFourRelations cs
+
 -- "T's modes, then one more, control": mode m. "P of the source, P control"; "E of the source, E control where it changes"
 module _ (n m : ℕ) where
   abbrev pub numbered : NamedAction → RestrictedAction
   numbered a = record {
     modeConditions = a .modeConditions ++ ((m, a .control) ∷ []);
-    conditions = numberedConditions n (a .conditions);
+    conditions = allInFourRelations (numberedConditions n (a .conditions));
     modeEffects = a .modeEffects ++ cond (eqb (a .control) (a .nextControl)) [] ((m, a .nextControl) ∷ []);
     additions = numberedAdditions n (a .additions);
   }
@@ -62,7 +77,7 @@ lowerTask t = record {
   modes = t .modes ++ ((suc (stageCount (lowerBounds t) (upperBounds t) (t .actions)), 0) ∷ []);
   actions = loweredActions (length (t .variables)) (length (t .modes)) (lowerBounds t) (upperBounds t) (t .actions);
   goalModes = t .goalModes ++ ((length (t .modes), 0) ∷ []);
-  goalConditions = t .goalConditions;
+  goalConditions = allInFourRelations (t .goalConditions);
 }
 
 -- ---- the file. "Byte order in an action: A; P ..; C ..; E ..; + by rising variable"

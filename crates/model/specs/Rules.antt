@@ -74,7 +74,7 @@ testsOf l p (Start start) = (leb (l .variables) (p .declared .variables), 4) ∷
 testsOf l p (Mode size start) = (leb (l .modes) (p .declared .modes), 4) ∷ (leb size start, 5) ∷ (ltb (l .size) size, 6) ∷ []
 -- A. 4: one action too many
 testsOf l p Action = (leb (l .actions) (p .actions), 4) ∷ []
--- C var relation constant. 4: one C too many. 5: no such variable, a relation over 3. 6: out of range
+-- C var relation constant. 4: one C too many. 5: no such variable, a relation over 3 (in a source file over 4). 6: out of range
 testsOf l p (Condition v r k) =
     (leb (l .conditions) (p .counts .conditions), 4) ∷ (noVariable p v, 5) ∷ (ltb (l .relations) r, 5) ∷ (outside l (constant k), 6) ∷ []
 -- P mode value. 4: one P too many. 5: no such mode, a value not below its size

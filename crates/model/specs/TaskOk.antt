@@ -10,6 +10,7 @@ use mathlib.Core.Bool.{false}
 use lib.ListN.{length}
 use lib.Signed.{leZ}
 use Rattle.integers.specs.All.{All}
+use Rattle.integers.specs.Relation.{relationNumber}
 use Rattle.model.specs.Tasks.{NumericCondition, Effect, noEffect, addEffect, linearEffect, quotientEffect, residueEffect, SourceAction, RestrictedAction}
 use Rattle.model.specs.Tasks.{SourceTask, RestrictedTask, SourceVariable}
 use Rattle.model.specs.Steps.{naturalAt, sizesOf}
@@ -44,12 +45,14 @@ AmountOk l n e = (e .0 < n) × Factor l (e .1)
 abbrev pub ModeOk : Limits → ℕ × ℕ → Type 0
 ModeOk l m = (m .1 < m .0) × (m .0 ≤ l .size)
 
--- C: a declared variable, of n; and a constant in range
+-- C: a declared variable, of n; with it a constant in range, and a relation of the kind of file
 abbrev pub ConditionIn : ℕ → NumericCondition ℕ → Type 0
 ConditionIn n c = MeasureIn (λ (i : ℕ). i < n) (c .measured)
 
-abbrev pub ConditionOk : Limits → ℕ → NumericCondition ℕ → Type 0
-ConditionOk l n c = ConditionIn n c × InRange l (c .constant)
+pub record ConditionOk (l : Limits) (n : ℕ) (c : NumericCondition ℕ) : Type 0 where
+  pub declared : ConditionIn n c
+  pub inRange : InRange l (c .constant)
+  pub known : relationNumber (c .relation) ≤ l .relations
 
 -- the conditions of an action or goal, in a task with n variables and modes of the sizes
 pub record ConditionsOk (l : Limits) (n : ℕ) (sizes : List ℕ) (ps : List (ℕ × ℕ)) (cs : List (NumericCondition ℕ)) : Type 0 where
@@ -104,3 +107,11 @@ pub record RestrictedTaskOk (r : RestrictedTask) : Type 0 where
   pub actionsFew : length (r .actions) ≤ restrictedLimits .actions
   pub actionsOk : All (RestrictedActionOk restrictedLimits (length (r .starts)) (sizesOf (r .modes))) (r .actions)
   pub goal : ConditionsOk restrictedLimits (length (r .starts)) (sizesOf (r .modes)) (r .goalModes) (r .goalConditions)
+
+-- ---- the four relations of restricted files, and a restricted task that has no other
+abbrev pub OneOfFour : NumericCondition ℕ → Type 0
+OneOfFour c = relationNumber (c .relation) ≤ restrictedLimits .relations
+
+pub record FourAlone (r : RestrictedTask) : Type 0 where
+  pub actions : All (λ (a : RestrictedAction). All OneOfFour (a .conditions)) (r .actions)
+  pub goal : All OneOfFour (r .goalConditions)

@@ -1,13 +1,14 @@
 -- Tests that hold between any two numbers that they hold of: so does every condition, and the limit.
 -- Assumes nothing.
 use mathlib.Core.Path.{_≡_}
-use mathlib.Core.Bool.{Bool, true}
+use mathlib.Core.Bool.{Bool, true, _&&_}
 use Prim.Native.Nat.{ℕ, suc, _*_, _≤_}
 use native.Mathlib.Nat.{mul-le-mul-right}
 use lib.IntN.{ℤ, pos, negsuc, natAbs, _+ℤ_, _*ℤ_}
-use lib.Signed.{_≤ℤ_}
+use lib.Signed.{_≤ℤ_, leZ}
 use borrow.Author.Tests.{leb-true, le-leb}
-use Rattle.integers.specs.Relation.{Relation, below, atMost, atLeast, above, related, withinLimit}
+use Rattle.integers.specs.Relation.{Relation, below, atMost, atLeast, above, equal, related, withinLimit}
+use Rattle.lists.proofs.Loops.{and-left, and-right}
 use Rattle.integers.proofs.Parts.{ints, add, mul, abs}
 
 pub Convex : (ℤ → Bool) → Type 0
@@ -33,6 +34,19 @@ convex-related below c = λ x y z l m e f. omega ints
 convex-related atMost c = λ x y z l m e f. omega ints
 convex-related atLeast c = λ x y z l m e f. omega ints
 convex-related above c = λ x y z l m e f. omega ints
+convex-related equal c = λ x y z l m e f.
+    both (leZ c y) (leZ y c)
+    (low x y l (and-left (leZ c x) (leZ x c) e))
+    (high y z m (and-right (leZ c z) (leZ z c) f))
+  where
+    both : (a b : Bool) → a ≡ true → b ≡ true → a && b ≡ true
+    both a b p q = rw (p, q)
+
+    low : (x y : ℤ) → x ≤ℤ y → leZ c x ≡ true → leZ c y ≡ true
+    low x y l e = omega ints
+
+    high : (y z : ℤ) → y ≤ℤ z → leZ z c ≡ true → leZ y c ≡ true
+    high y z m f = omega ints
 
 pub convex-within : (limit : ℕ) → Convex (withinLimit limit)
 unfolding Convex

@@ -33,7 +33,7 @@ use Rattle.restricted_step.proofs.Effects.{putSum, putMode, changed-bey
 conditions-declared : (l : Limits) (n : ℕ) (values : List ℤ) (cs : List (NumericCondition ℕ)) → All (ConditionOk l n) cs
     → conditionsHold cs (integerAt (take n values)) ≡ conditionsHold cs (integerAt values)
 conditions-declared l n values [] h = refl
-conditions-declared l n values (c ∷ cs) (h, hs) = ap₂ _&&_ (ap (λ (z : ℤ). related (c .relation) z (c .constant)) (measured (c .measured) (h .0))) (conditions-declared l n values cs hs)
+conditions-declared l n values (c ∷ cs) (h, hs) = ap₂ _&&_ (ap (λ (z : ℤ). related (c .relation) z (c .constant)) (measured (c .measured) (h .declared))) (conditions-declared l n values cs hs)
   where
     measured : (e : Measured ℕ) → MeasureIn (λ (i : ℕ). i < n) e → measure e (integerAt (take n values)) ≡ measure e (integerAt values)
     measured (variable i) k = getD-take n values i (pos 0) k

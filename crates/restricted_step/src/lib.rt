@@ -62,11 +62,11 @@ fn modes_hold(modes: &[u16; MODES], marks: &[u16; MARKS]) -> bool
     true
 }
 
-// The number of a relation as a file has it. A number over 3 is read as 3.
+// The number of a relation as a file has it. A number over 4 is read as 4.
 fn relation_of(mark: u16) -> u8
     ensures { λ r. ⌜ relationOf r ≡ relationOf mark ⌝ }
 {
-    if mark < 3 { mark as u8 } else { 3 }
+    if mark < 4 { mark as u8 } else { 4 }
 }
 
 // Whether every C of an action holds.

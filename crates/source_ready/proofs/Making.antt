@@ -11,6 +11,7 @@ use lib.Seq.{getD-take}
 use lib.IntN.{ℤ, pos, natAbs}
 use lib.Signed.{leZ}
 use borrow.Author.Tests.{ltb-true, ltb-false, lt-ltb}
+use Rattle.integers.specs.All.{All}
 use Rattle.integers.specs.Relation.{between}
 use Rattle.integers.proofs.Parts.{ints, abs}
 use Rattle.lists.specs.Each.{tabulate}
@@ -20,6 +21,8 @@ use Rattle.lists.proofs.Loops.{and-left, and-right, every-at}
 use Rattle.model.specs.Tasks.{NumericCondition}
 use Rattle.model.specs.Limits.{sourceLimits}
 use Rattle.model.specs.Steps.{integerAt, naturalAt, conditionsHold}
+use Rattle.model.specs.TaskOk.{ConditionIn}
+use Rattle.model.proofs.AcceptedSource.{conditions-in}
 use Rattle.file_actions.specs.declared.SourceAction.{SourceAction as DecodedSource}
 use Rattle.file_actions.specs.Views.{sourceActionIs}
 use Rattle.file_actions.specs.Within.{ConditionsWithin}
@@ -97,6 +100,9 @@ module _ {n m : ℕ} {lower upper : List ℤ} {sizes : List ℕ} {a : DecodedSou
     made : (i y : ℕ) → i < 4 → y * naturalAt marks₂ (8 + i) + naturalAt marks₂ (12 + i) ≡ y * naturalAt marks₁ (8 + i) + naturalAt marks₁ (12 + i)
     made i y l = ap₂ (λ (a b : ℕ). y * a + b) (e .marksKept (8 + i) (omega arith)) (e .marksKept (12 + i) (omega arith))
 
+    declared : All (ConditionIn n) (sourceActionIs a .conditions)
+    declared = conditions-in n (sourceActionIs a .conditions) (fit .ok .conditionsOk .conditionsIn)
+
     values-row : (x : List ℤ) → valuesIn n numbers₂ x ≡ valuesIn n numbers₁ x
     values-row x =
         ap (every (λ b. b)) (tabulate-same n (λ i. between (integerAt numbers₂ i) (integerAt numbers₂ (8 + i)) (integerAt x i)) (λ i. between (integerAt numbers₁ i) (integerAt numbers₁ (8 + i)) (integerAt x i))
@@ -125,13 +131,13 @@ module _ {n m : ℕ} {lower upper : List ℤ} {sizes : List ℕ} {a : DecodedSou
     pub row-of : RowOf n m lower upper sizes marks₂ numbers₂ (sourceActionIs a)
     row-of = record {
       usable = record {
-        near = λ x h. value-near x (and-left (valuesBetween n lower upper x) (conditionsHold (sourceActionIs a .conditions) (integerAt (take n x))) (sym (values-row x ∙ r .values n (fit .few) (fit .ok .conditionsOk .conditionsIn) x) ∙ h));
+        near = λ x h. value-near x (and-left (valuesBetween n lower upper x) (conditionsHold (sourceActionIs a .conditions) (integerAt (take n x))) (sym (values-row x ∙ r .values n (fit .few) declared x) ∙ h));
         keeps = λ i l. rw (e .marksKept (8 + i) (omega arith), e .marksKept (12 + i) (omega arith)) (p .keeps (marks-zero blank₀) (fit .ok .modeEffectsIn) i l);
         factors = e .factors;
         divides = e .divides;
         unweighted = e .unweighted;
       };
-      values = λ x. values-row x ∙ r .values n (fit .few) (fit .ok .conditionsOk .conditionsIn) x;
+      values = λ x. values-row x ∙ r .values n (fit .few) declared x;
       modes = λ x. modes-row x ∙ p .modes (marks-zero blank₀) (fit .ok .conditionsOk .modeConditionsIn) x;
       sets = λ x l. after-row x ∙ p .sets (marks-zero blank₀) (fit .ok .modeEffectsIn) x l;
       setsBelow = λ x l h. stays-below x h;

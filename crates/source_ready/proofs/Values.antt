@@ -13,14 +13,13 @@ use lib.Signed.{leZ, ltZ}
 use borrow.Author.Tests.{ltb-true, ltb-false}
 use lib.Dec.{ltb}
 use Rattle.integers.specs.All.{All}
-use Rattle.integers.specs.Relation.{Relation, below, atMost, atLeast, above, related, between}
+use Rattle.integers.specs.Relation.{Relation, below, atMost, atLeast, above, equal, related, between}
 use Rattle.integers.proofs.Parts.{ints, add, sub}
 use Rattle.lists.specs.Loops.{every}
 use Rattle.model.specs.Tasks.{Measured, variable, weightedSum, NumericCondition}
 use Rattle.model.specs.InTask.{MeasureIn}
-use Rattle.model.specs.Limits.{sourceLimits}
 use Rattle.model.specs.Steps.{integerAt, measure, conditionsHold}
-use Rattle.model.specs.TaskOk.{ConditionOk}
+use Rattle.model.specs.TaskOk.{ConditionIn}
 use Rattle.source_step.specs.Parts.{valuesBetween}
 use Rattle.source_step.proofs.Sound.{tabulate-same}
 use Rattle.source_step.specs.Row.{valuesIn}
@@ -63,6 +62,23 @@ above-is x c = go (ltZ c x) refl
     go true e = omega (ints, e, add c (pos 1))
     go false e = omega (ints, e, add c (pos 1))
 
+-- ---- one number capped or raised
+capped-other : (l : List ℤ) (i : ℕ) (z : ℤ) (j : ℕ) → j ≢ i → integerAt (capped l i z) j ≡ integerAt l j
+unfolding capped
+capped-other l i z j p = setIf-other (ltZ z (integerAt l i)) l i z j (pos 0) p
+
+raised-other : (l : List ℤ) (i : ℕ) (z : ℤ) (j : ℕ) → j ≢ i → integerAt (raised l i z) j ≡ integerAt l j
+unfolding raised
+raised-other l i z j p = setIf-other (ltZ (integerAt l i) z) l i z j (pos 0) p
+
+capped-long : (l : List ℤ) (i : ℕ) (z : ℤ) → length (capped l i z) ≡ length l
+unfolding capped
+capped-long l i z = length-setIf (ltZ z (integerAt l i)) l i z
+
+raised-long : (l : List ℤ) (i : ℕ) (z : ℤ) → length (raised l i z) ≡ length l
+unfolding raised
+raised-long l i z = length-setIf (ltZ (integerAt l i) z) l i z
+
 -- ---- one condition
 module _ (l : List ℤ) (i : ℕ) (long : length l ≡ 24) (few : i < 8) where
   capped-asks : (z x : ℤ) → between (integerAt (capped l (8 + i) z) i) (integerAt (capped l (8 + i) z) (8 + i)) x ≡ (between (integerAt l i) (integerAt l (8 + i)) x && leZ x z)
@@ -81,26 +97,34 @@ module _ (l : List ℤ) (i : ℕ) (long : length l ≡ 24) (few : i < 8) where
       ∙ ap (λ (b : Bool). b && leZ x (integerAt l (8 + i))) (greater-bound (integerAt l i) z x)
       ∙ and-swap (leZ (integerAt l i) x) (leZ z x) (leZ x (integerAt l (8 + i)))
 
-  narrowed-asks : (r : Relation) (c x : ℤ) → between (integerAt (narrowed r l i c) i) (integerAt (narrowed r l i c) (8 + i)) x ≡ (between (integerAt l i) (integerAt l (8 + i)) x && related r x c)
-  narrowed-asks below c x = capped-asks (c -ℤ pos 1) x ∙ ap (λ (b : Bool). between (integerAt l i) (integerAt l (8 + i)) x && b) (below-is x c)
-  narrowed-asks atMost c x = capped-asks c x
-  narrowed-asks atLeast c x = raised-asks c x
-  narrowed-asks above c x = raised-asks (c +ℤ pos 1) x ∙ ap (λ (b : Bool). between (integerAt l i) (integerAt l (8 + i)) x && b) (above-is x c)
+module _ (l : List ℤ) (i : ℕ) (long : length l ≡ 24) (few : i < 8) where
+  abbrev asked : ℤ → Bool
+  asked x = between (integerAt l i) (integerAt l (8 + i)) x
+
+  narrowed-asks : (r : Relation) (c x : ℤ) → between (integerAt (narrowed r l i c) i) (integerAt (narrowed r l i c) (8 + i)) x ≡ (asked x && related r x c)
+  narrowed-asks below c x = capped-asks l i long few (c -ℤ pos 1) x ∙ ap (λ (b : Bool). asked x && b) (below-is x c)
+  narrowed-asks atMost c x = capped-asks l i long few c x
+  narrowed-asks atLeast c x = raised-asks l i long few c x
+  narrowed-asks above c x = raised-asks l i long few (c +ℤ pos 1) x ∙ ap (λ (b : Bool). asked x && b) (above-is x c)
+  narrowed-asks equal c x =
+      capped-asks (raised l i c) i (raised-long l i c ∙ long) few c x
+      ∙ ap (λ (b : Bool). b && leZ x c) (raised-asks l i long few c x)
+      ∙ sym (and-right-first (asked x) (leZ c x) (leZ x c))
 
 -- elsewhere the row is as before
 narrowed-other : (r : Relation) (l : List ℤ) (i : ℕ) (c : ℤ) (j : ℕ) → j ≢ i → j ≢ 8 + i → integerAt (narrowed r l i c) j ≡ integerAt l j
-unfolding capped raised
-narrowed-other below l i c j p q = setIf-other (ltZ (c -ℤ pos 1) (integerAt l (8 + i))) l (8 + i) (c -ℤ pos 1) j (pos 0) q
-narrowed-other atMost l i c j p q = setIf-other (ltZ c (integerAt l (8 + i))) l (8 + i) c j (pos 0) q
-narrowed-other atLeast l i c j p q = setIf-other (ltZ (integerAt l i) c) l i c j (pos 0) p
-narrowed-other above l i c j p q = setIf-other (ltZ (integerAt l i) (c +ℤ pos 1)) l i (c +ℤ pos 1) j (pos 0) p
+narrowed-other below l i c j p q = capped-other l (8 + i) (c -ℤ pos 1) j q
+narrowed-other atMost l i c j p q = capped-other l (8 + i) c j q
+narrowed-other atLeast l i c j p q = raised-other l i c j p
+narrowed-other above l i c j p q = raised-other l i (c +ℤ pos 1) j p
+narrowed-other equal l i c j p q = capped-other (raised l i c) (8 + i) c j q ∙ raised-other l i c j p
 
 narrowed-long : (r : Relation) (l : List ℤ) (i : ℕ) (c : ℤ) → length (narrowed r l i c) ≡ length l
-unfolding capped raised
-narrowed-long below l i c = length-setIf (ltZ (c -ℤ pos 1) (integerAt l (8 + i))) l (8 + i) (c -ℤ pos 1)
-narrowed-long atMost l i c = length-setIf (ltZ c (integerAt l (8 + i))) l (8 + i) c
-narrowed-long atLeast l i c = length-setIf (ltZ (integerAt l i) c) l i c
-narrowed-long above l i c = length-setIf (ltZ (integerAt l i) (c +ℤ pos 1)) l i (c +ℤ pos 1)
+narrowed-long below l i c = capped-long l (8 + i) (c -ℤ pos 1)
+narrowed-long atMost l i c = capped-long l (8 + i) c
+narrowed-long atLeast l i c = raised-long l i c
+narrowed-long above l i c = raised-long l i (c +ℤ pos 1)
+narrowed-long equal l i c = capped-long (raised l i c) (8 + i) c ∙ raised-long l i c
 
 -- ---- in a task of n variables
 module _ (n : ℕ) (few : n ≤ 8) where
@@ -124,7 +148,7 @@ on-rest n (variable i) r c l few h j k = narrowed-other r l i c j (λ e. omega a
 on-rest n (weightedSum ts) r c l few h j k = refl
 
 module _ (n : ℕ) (few : n ≤ 8) where
-  all-row : (cs : List (NumericCondition ℕ)) → All (ConditionOk sourceLimits n) cs → (l : List ℤ) → length l ≡ 24 → (x : List ℤ)
+  all-row : (cs : List (NumericCondition ℕ)) → All (ConditionIn n) cs → (l : List ℤ) → length l ≡ 24 → (x : List ℤ)
       → valuesIn n (narrowedAll cs l) x ≡ (valuesIn n l x && conditionsHold cs (integerAt (take n x)))
   all-row [] h l long x = sym (and-true (valuesIn n l x))
     where
@@ -134,12 +158,12 @@ module _ (n : ℕ) (few : n ≤ 8) where
   all-row (c ∷ cs) (h, hs) l long x =
       let held = related (c .relation) (measure (c .measured) (integerAt (take n x))) (c .constant) in
       all-row cs hs (narrowedOn (c .measured) (c .relation) (c .constant) l) (on-long (c .measured) (c .relation) (c .constant) l ∙ long) x
-      ∙ ap (λ (b : Bool). b && conditionsHold cs (integerAt (take n x))) (narrowed-on n few (c .measured) (c .relation) (c .constant) l long (h .0) x)
+      ∙ ap (λ (b : Bool). b && conditionsHold cs (integerAt (take n x))) (narrowed-on n few (c .measured) (c .relation) (c .constant) l long h x)
       ∙ sym (and-right-first (valuesIn n l x) held (conditionsHold cs (integerAt (take n x))))
 
-  all-rest : (cs : List (NumericCondition ℕ)) → All (ConditionOk sourceLimits n) cs → (l : List ℤ) → (j : ℕ) → 16 ≤ j → integerAt (narrowedAll cs l) j ≡ integerAt l j
+  all-rest : (cs : List (NumericCondition ℕ)) → All (ConditionIn n) cs → (l : List ℤ) → (j : ℕ) → 16 ≤ j → integerAt (narrowedAll cs l) j ≡ integerAt l j
   all-rest [] h l j k = refl
-  all-rest (c ∷ cs) (h, hs) l j k = all-rest cs hs (narrowedOn (c .measured) (c .relation) (c .constant) l) j k ∙ on-rest n (c .measured) (c .relation) (c .constant) l few (h .0) j k
+  all-rest (c ∷ cs) (h, hs) l j k = all-rest cs hs (narrowedOn (c .measured) (c .relation) (c .constant) l) j k ∙ on-rest n (c .measured) (c .relation) (c .constant) l few h j k
 
 all-long : (cs : List (NumericCondition ℕ)) (l : List ℤ) → length (narrowedAll cs l) ≡ length l
 all-long [] l = refl
@@ -184,7 +208,7 @@ bounds-row n few lower upper numbers₀ numbers h x =
     (λ i l. ap₂ (λ (a b : ℤ). between a b (integerAt x i)) (h .leasts i (omega arith)) (h .mosts i (omega arith))))
 
 -- THE LAW: the bounds, narrowed by every condition
-pub ranges-put : (lower upper numbers₀ numbers : List ℤ) (cs : List (NumericCondition ℕ)) → BoundsPut 8 lower upper numbers₀ numbers → All (ConditionOk sourceLimits 8) cs → RangesPut lower upper cs numbers₀ (narrowedAll cs numbers)
+pub ranges-put : (lower upper numbers₀ numbers : List ℤ) (cs : List (NumericCondition ℕ)) → BoundsPut 8 lower upper numbers₀ numbers → All (ConditionIn 8) cs → RangesPut lower upper cs numbers₀ (narrowedAll cs numbers)
 ranges-put lower upper numbers₀ numbers cs b declared = record {
   long = all-long cs numbers ∙ b .long;
   values = λ n few h x. all-row n few cs h numbers (b .long) x ∙ ap (λ (p : Bool). p && conditionsHold cs (integerAt (take n x))) (bounds-row n few lower upper numbers₀ numbers b x);

@@ -9,11 +9,10 @@ use lib.ListN.{length, take, drop, set}
 use lib.IntN.{ℤ, pos, _+ℤ_, _-ℤ_}
 use lib.Signed.{ltZ}
 use Rattle.integers.specs.All.{All}
-use Rattle.integers.specs.Relation.{Relation, below, atMost, atLeast, above}
+use Rattle.integers.specs.Relation.{Relation, below, atMost, atLeast, above, equal}
 use Rattle.model.specs.Tasks.{Measured, variable, weightedSum, NumericCondition}
-use Rattle.model.specs.Limits.{sourceLimits}
 use Rattle.model.specs.Steps.{integerAt, naturalAt, conditionsHold, modesHold, setAll}
-use Rattle.model.specs.TaskOk.{ConditionOk, ValuesIn}
+use Rattle.model.specs.TaskOk.{ConditionIn, ValuesIn}
 use Rattle.file_parts.specs.Layout.{modeConditionRoom, modeConditionCount, modeConditionMode, modeEffectRoom, modeEffectCount, modeEffectMode}
 use Rattle.source_step.specs.Parts.{valuesBetween, modesBelow}
 use Rattle.source_step.specs.Sizes.{VARIABLES, MODES}
@@ -38,6 +37,7 @@ narrowed below l i c = capped l (MOST + i) (c -ℤ pos 1)
 narrowed atMost l i c = capped l (MOST + i) c
 narrowed atLeast l i c = raised l i c
 narrowed above l i c = raised l i (c +ℤ pos 1)
+narrowed equal l i c = capped (raised l i c) (MOST + i) c
 
 abbrev pub narrowedOn : Measured ℕ → Relation → ℤ → List ℤ → List ℤ
 narrowedOn (variable i) r c l = narrowed r l i c
@@ -57,7 +57,7 @@ pub record BoundsPut (k : ℕ) (lower upper : List ℤ) (numbers numbers′ : Li
 -- the row asks that the values of a state lie within the bounds and that the conditions hold
 pub record RangesPut (lower upper : List ℤ) (cs : List (NumericCondition ℕ)) (numbers numbers′ : List ℤ) : Type 0 where
   pub long : length numbers′ ≡ NUMBERS
-  pub values : (n : ℕ) → n ≤ VARIABLES → All (ConditionOk sourceLimits n) cs → (x : List ℤ)
+  pub values : (n : ℕ) → n ≤ VARIABLES → All (ConditionIn n) cs → (x : List ℤ)
       → valuesIn n numbers′ x ≡ (valuesBetween n lower upper x && conditionsHold cs (integerAt (take n x)))
   pub rest : (j : ℕ) → CONSTANT ≤ j → integerAt numbers′ j ≡ integerAt numbers j
 

@@ -73,7 +73,11 @@ fn narrow(numbers: &mut [i64; NUMBERS], variable: u16, relation: u16, constant: 
         0 => cap(numbers, MOST + i, constant - 1),
         1 => cap(numbers, MOST + i, constant),
         2 => raise(numbers, i, constant),
-        _ => raise(numbers, i, constant + 1),
+        3 => raise(numbers, i, constant + 1),
+        _ => {
+            raise(numbers, i, constant);
+            cap(numbers, MOST + i, constant);
+        }
     }
 }
 

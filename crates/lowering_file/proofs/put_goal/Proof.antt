@@ -7,7 +7,8 @@ use Rattle.commands.specs.Table.{letterG}
 use Rattle.lists.proofs.Writing.{step, done, room, room-as, wrote-as}
 use Rattle.file_parts.specs.Row.{rowIs}
 use Rattle.lowering_stages.proofs.Rows.{sized}
-use Rattle.lowering_rows.specs.Bytes.{rowBytes}
+use Rattle.model.specs.Tasks.{RestrictedAction}
+use Rattle.lowering_rows.specs.Bytes.{inFour, rowBytes}
 use Rattle.lowering_rows.proofs.Stages.{writable}
 use Rattle.lowering_file.proofs.File.{goal-begun}
 use borrow.Author.Needs.{needs}
@@ -31,14 +32,14 @@ put-row-requires c κs =
             additions = z .additions;
           })
           (record { constants = s .pre .0 .fit .constants; amounts = s .pre .0 .fit .amounts }),
-      room-as (sym (ap (rowBytes letterG) (says .is))) (room (s .pre .1) (goal-begun _ _ _)),
+      room-as (sym (ap (λ (x : RestrictedAction). rowBytes letterG (inFour x)) (says .is))) (room (s .pre .1) (goal-begun _ _ _)),
     )
 
 put-end-requires : tie.Need-put-end-requires
 put-end-requires c κs =
     let s = c .before .before .before .before .before .before .before .before .before .before .before .before in
     let says = c .before .before .before .before .before .before .before .push-mode-condition .ensures (s .args .goal .numbers) (s .pre .0 .numbersLong) in
-    room (s .pre .1) (step (goal-begun _ _ _) (wrote-as (ap (rowBytes letterG) (says .is)) (c .before .before .before .put-row .ensures)))
+    room (s .pre .1) (step (goal-begun _ _ _) (wrote-as (ap (λ (x : RestrictedAction). rowBytes letterG (inFour x)) (says .is)) (c .before .before .before .put-row .ensures)))
 
 same-length : tie.Need-same-length
 same-length c = search needs
@@ -47,7 +48,7 @@ returns : tie.Need-returns
 returns c =
     let s = c .before .before .before .before .before .before .before .before .before .before .before .before .before .before .before in
     let says = c .before .before .before .before .before .before .before .before .before .before .push-mode-condition .ensures (s .args .goal .numbers) (s .pre .0 .numbersLong) in
-    done (step (step (goal-begun _ _ _) (wrote-as (ap (rowBytes letterG) (says .is)) (c .before .before .before .before .before .before .put-row .ensures))) (c .before .before .put-end .ensures))
+    done (step (step (goal-begun _ _ _) (wrote-as (ap (λ (x : RestrictedAction). rowBytes letterG (inFour x)) (says .is)) (c .before .before .before .before .before .before .put-row .ensures))) (c .before .before .put-end .ensures))
 
 pub put-goal-spec : {M : Type 1} → statement M
 put-goal-spec =

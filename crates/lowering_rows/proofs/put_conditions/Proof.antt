@@ -1,23 +1,24 @@
 -- `lowering_rows::put_conditions` meets its contract: the loop writes each C. Assumes nothing.
-use Rattle.lowering_rows.proofs.Writing.{condition-coded}
-use Rattle.file_parts.specs.Row.{conditionIn}
-use Rattle.lowering_rows.specs.Bytes.{conditionBytes}
-use Rattle.lists.proofs.Writing.{room-as, wrote-as}
+use mathlib.Core.Path.{_≡_, sym}
+use Prim.Native.Nat.{_-_, _+_, _<_, _≤_}
+use native.Mathlib.Omega.{arith}
 use mir.Syntax.{w64}
 use mir.Val.{SFits}
 use mir.Facts.{toZ-ofZ}
-use mathlib.Core.Path.{_≡_, sym}
-use Prim.Native.Nat.{_-_, _+_, _<_, _≤_}
-use Rattle.model.specs.Steps.{naturalAt, integerAt}
-use Rattle.lowering_rows.proofs.Loops.{Writing, writing-start, writing-room, writing-next, writing-end, writing-long}
 use denote.Ref.{now}
-use native.Mathlib.Omega.{arith}
 use borrow.Author.Needs.{needs}
+use Rattle.lists.proofs.Writing.{room-as, wrote-as}
+use Rattle.model.specs.Steps.{naturalAt, integerAt}
+use Rattle.file_parts.specs.Row.{conditionIn, conditionsIn}
+use Rattle.lowering_rows.specs.Bytes.{fourBytes}
+use Rattle.lowering_rows.proofs.Writing.{four-coded, four-all}
+use Rattle.lowering_rows.proofs.Loops.{Writing, writing-start, writing-room, writing-next, writing-end, writing-long}
 use Rattle.lowering_rows.proofs.put_conditions.Statement.{statement}
 use Rattle.lowering_rows.proofs.put_conditions.Tie as tie
 
 abbrev Inv-loop : tie.InvT-loop
-Inv-loop out₀ at marks numbers count place₀ i₀ out place i = (count ≡ naturalAt marks 0) × (naturalAt marks 0 ≤ 24) × Writing conditionBytes (conditionIn marks numbers) (naturalAt marks 0) out₀ at out place i
+Inv-loop out₀ at marks numbers count place₀ i₀ out place i =
+    (count ≡ naturalAt marks 0) × (naturalAt marks 0 ≤ 24) × Writing fourBytes (conditionIn marks numbers) (naturalAt marks 0) out₀ at out place i
 
 abbrev μ-loop : tie.MeasureT-loop
 μ-loop out₀ at marks numbers count place₀ i₀ out place i = count - i
@@ -43,36 +44,30 @@ element-copy-out-low c = search (needs, arith)
 low-requires : tie.Need-low-requires Inv-loop μ-loop
 low-requires c κs = search (needs, arith)
 
-add-known-relation : tie.Need-add-known-relation Inv-loop μ-loop
-add-known-relation c = search (needs, arith)
+add-put-condition : tie.Need-add-put-condition Inv-loop μ-loop
+add-put-condition c = search (needs, arith)
 
-mul-known-relation : tie.Need-mul-known-relation Inv-loop μ-loop
-mul-known-relation c = search (needs, arith)
+mul-put-condition : tie.Need-mul-put-condition Inv-loop μ-loop
+mul-put-condition c = search (needs, arith)
 
-element-copy-out-known-relation : tie.Need-element-copy-out-known-relation Inv-loop μ-loop
-element-copy-out-known-relation c = search (needs, arith)
+element-copy-out-put-condition : tie.Need-element-copy-out-put-condition Inv-loop μ-loop
+element-copy-out-put-condition c = search (needs, arith)
 
-known-relation-requires : tie.Need-known-relation-requires Inv-loop μ-loop
-known-relation-requires c κs = search (needs, arith)
+mul-put-condition-2 : tie.Need-mul-put-condition-2 Inv-loop μ-loop
+mul-put-condition-2 c = search (needs, arith)
 
-mul-bits : tie.Need-mul-bits Inv-loop μ-loop
-mul-bits c = search (needs, arith)
-
-element-copy-out-bits : tie.Need-element-copy-out-bits Inv-loop μ-loop
-element-copy-out-bits c = search (needs, arith)
-
-bits-requires : tie.Need-bits-requires Inv-loop μ-loop
-bits-requires c κs =
-    let b : SFits w64 (integerAt (now (c .before .before .before .before .before .before .before .before .before .before .args .numbers)) (c .before .before .before .before .before .before .loop .i)) = search needs in
-    let l : c .before .before .before .before .before .before .loop .i < naturalAt (now (c .before .before .before .before .before .before .before .before .before .before .args .marks)) 0 = omega (arith, c .before .before .before .before .before .loop-test .taken, c .before .before .before .before .before .before .loop .inv .0) in
-    rw (toZ-ofZ b) (c .before .before .before .before .before .before .before .before .before .before .pre .0 .constants (c .before .before .before .before .before .before .loop .i) l)
+element-copy-out-put-condition-2 : tie.Need-element-copy-out-put-condition-2 Inv-loop μ-loop
+element-copy-out-put-condition-2 c = search (needs, arith)
 
 put-condition-requires : tie.Need-put-condition-requires Inv-loop μ-loop
 put-condition-requires c κs =
-    let b : SFits w64 (integerAt (now (c .before .before .before .before .before .before .before .before .before .before .before .before .args .numbers)) (c .before .before .before .before .before .before .before .before .loop .i)) = search needs in
-    let e = condition-coded (naturalAt (now (c .before .before .before .before .before .before .before .before .before .before .before .before .args .marks)) (1 + c .before .before .before .before .before .before .before .before .loop .i)) (naturalAt (now (c .before .before .before .before .before .before .before .before .before .before .before .before .args .marks)) (25 + c .before .before .before .before .before .before .before .before .loop .i)) (integerAt (now (c .before .before .before .before .before .before .before .before .before .before .before .before .args .numbers)) (c .before .before .before .before .before .before .before .before .loop .i)) _ _ _ (c .before .before .before .before .before .low .ensures) (c .before .before .before .known-relation .ensures) (rw (toZ-ofZ b) at (c .before .bits .ensures)) in
-    let l : c .before .before .before .before .before .before .before .before .loop .i < naturalAt (now (c .before .before .before .before .before .before .before .before .before .before .before .before .args .marks)) 0 = omega (arith, c .before .before .before .before .before .before .before .loop-test .taken, c .before .before .before .before .before .before .before .before .loop .inv .0) in
-    room-as e (writing-room (c .before .before .before .before .before .before .before .before .loop .inv .2) l (c .before .before .before .before .before .before .before .before .before .before .before .before .pre .1))
+    let l = c .before .before .before .before .before .before in
+    let s = l .before .before .before .before in
+    let i = l .loop .i in
+    let b : SFits w64 (integerAt (now (s .args .numbers)) i) = search needs in
+    let k : i < naturalAt (now (s .args .marks)) 0 = omega (arith, c .before .before .before .before .before .loop-test .taken, l .loop .inv .0) in
+    let e = four-coded (naturalAt (now (s .args .marks)) (1 + i)) (naturalAt (now (s .args .marks)) (25 + i)) (integerAt (now (s .args .numbers)) i) _ (c .before .before .before .low .ensures) in
+    rw (toZ-ofZ b) (s .pre .0 .constants i k, room-as e (writing-room (l .loop .inv .2) k (room-as (four-all (conditionsIn (now (s .args .marks)) (now (s .args .numbers)))) (s .pre .1))))
 
 add-i : tie.Need-add-i Inv-loop μ-loop
 add-i c = search (needs, arith)
@@ -82,16 +77,21 @@ loop-less c = search (needs, arith)
 
 loop-again : tie.Need-loop-again Inv-loop μ-loop
 loop-again c =
-    let b : SFits w64 (integerAt (now (c .before .before .before .before .before .before .before .before .before .before .before .before .before .before .before .args .numbers)) (c .before .before .before .before .before .before .before .before .before .before .before .loop .i)) = search needs in
-    let e = condition-coded (naturalAt (now (c .before .before .before .before .before .before .before .before .before .before .before .before .before .before .before .args .marks)) (1 + c .before .before .before .before .before .before .before .before .before .before .before .loop .i)) (naturalAt (now (c .before .before .before .before .before .before .before .before .before .before .before .before .before .before .before .args .marks)) (25 + c .before .before .before .before .before .before .before .before .before .before .before .loop .i)) (integerAt (now (c .before .before .before .before .before .before .before .before .before .before .before .before .before .before .before .args .numbers)) (c .before .before .before .before .before .before .before .before .before .before .before .loop .i)) _ _ _ (c .before .before .before .before .before .before .before .before .low .ensures) (c .before .before .before .before .before .before .known-relation .ensures) (rw (toZ-ofZ b) at (c .before .before .before .before .bits .ensures)) in
-    let l : c .before .before .before .before .before .before .before .before .before .before .before .loop .i < naturalAt (now (c .before .before .before .before .before .before .before .before .before .before .before .before .before .before .before .args .marks)) 0 = omega (arith, c .before .before .before .before .before .before .before .before .before .before .loop-test .taken, c .before .before .before .before .before .before .before .before .before .before .before .loop .inv .0) in
-    (c .before .before .before .before .before .before .before .before .before .before .before .loop .inv .0, c .before .before .before .before .before .before .before .before .before .before .before .loop .inv .1, writing-next (c .before .before .before .before .before .before .before .before .before .before .before .loop .inv .2) l (wrote-as (sym e) (c .before .before .put-condition .ensures)))
+    let l = c .before .before .before .before .before .before .before .before .before in
+    let s = l .before .before .before .before in
+    let i = l .loop .i in
+    let b : SFits w64 (integerAt (now (s .args .numbers)) i) = search needs in
+    let k : i < naturalAt (now (s .args .marks)) 0 = omega (arith, c .before .before .before .before .before .before .before .before .loop-test .taken, l .loop .inv .0) in
+    let e = four-coded (naturalAt (now (s .args .marks)) (1 + i)) (naturalAt (now (s .args .marks)) (25 + i)) (integerAt (now (s .args .numbers)) i) _ (c .before .before .before .before .before .before .low .ensures) in
+    (l .loop .inv .0, l .loop .inv .1, writing-next (l .loop .inv .2) k (wrote-as (sym e) (rw (toZ-ofZ b) at (c .before .before .put-condition .ensures))))
 
 same-length : tie.Need-same-length Inv-loop μ-loop
 same-length c = writing-long (c .before .loop .inv .2)
 
 returns : tie.Need-returns Inv-loop μ-loop
-returns c = writing-end (c .before .loop .inv .2) (omega (arith, c .loop-test .left, c .before .loop .inv .0))
+returns c = let s = c .before .before .before .before .before in
+    wrote-as (sym (four-all (conditionsIn (now (s .args .marks)) (now (s .args .numbers)))))
+    (writing-end (c .before .loop .inv .2) (omega (arith, c .loop-test .left, c .before .loop .inv .0)))
 
 pub put-conditions-spec : {M : Type 1} → statement M
 put-conditions-spec =
@@ -106,13 +106,11 @@ put-conditions-spec =
     mul-low
     element-copy-out-low
     low-requires
-    add-known-relation
-    mul-known-relation
-    element-copy-out-known-relation
-    known-relation-requires
-    mul-bits
-    element-copy-out-bits
-    bits-requires
+    add-put-condition
+    mul-put-condition
+    element-copy-out-put-condition
+    mul-put-condition-2
+    element-copy-out-put-condition-2
     put-condition-requires
     add-i
     loop-less

@@ -7,16 +7,17 @@ use mir.Facts.{toZ-ofZ}
 use mir.Syntax.{w64}
 use mir.Val.{SFits}
 use borrow.Author.Needs.{needs}
-use Rattle.integers.specs.Relation.{relationOf, above}
+use Rattle.integers.specs.Relation.{relationOf, equal}
 use Rattle.integers.proofs.Parts.{ints, abs}
 use Rattle.source_ready.proofs.narrowing.narrow.Statement.{statement}
 use Rattle.source_ready.proofs.narrowing.narrow.Tie as tie
 
-over-two : (n : ℕ) → 2 < n → relationOf n ≡ above
-over-two zero h = absurd (omega arith)
-over-two (suc zero) h = absurd (omega arith)
-over-two (suc (suc zero)) h = absurd (omega arith)
-over-two (suc (suc (suc n))) h = refl
+over-three : (n : ℕ) → 3 < n → relationOf n ≡ equal
+over-three zero h = absurd (omega arith)
+over-three (suc zero) h = absurd (omega arith)
+over-three (suc (suc zero)) h = absurd (omega arith)
+over-three (suc (suc (suc zero))) h = absurd (omega arith)
+over-three (suc (suc (suc (suc n)))) h = refl
 
 wide-requires : tie.Need-wide-requires
 wide-requires c κs = search needs
@@ -49,6 +50,15 @@ add-raise c = let s = c .before .before .before in
 raise-requires-2 : tie.Need-raise-requires-2
 raise-requires-2 c κs = search needs
 
+raise-requires-3 : tie.Need-raise-requires-3
+raise-requires-3 c κs = search needs
+
+add-cap-3 : tie.Need-add-cap-3
+add-cap-3 c = search needs
+
+cap-requires-3 : tie.Need-cap-requires-3
+cap-requires-3 c κs = search needs
+
 returns : tie.Need-returns
 returns c = let s = c .before .before .before .before in
     let a : SFits w64 (s .args .constant) = search needs in
@@ -69,7 +79,14 @@ returns-4 : tie.Need-returns-4
 returns-4 c = let s = c .before .before .before .before in
     let a : SFits w64 (s .args .constant) = search needs in
     let b : SFits w64 (s .args .constant +ℤ pos 1) = omega (ints, abs (s .args .constant), s .pre .1) in
-    rw (over-two (s .args .relation) (omega arith)) (rw (c .before .before .before .wide .ensures) at (simp (toZ-ofZ, a, b) at (c .raise2 .ensures)))
+    rw (c .before .before .match .keys4) (rw (c .before .before .before .wide .ensures) at (simp (toZ-ofZ, a, b) at (c .raise2 .ensures)))
+
+returns-5 : tie.Need-returns-5
+returns-5 c = let s = c .before .before .before .before .before .before in
+    let a : SFits w64 (s .args .constant) = search needs in
+    let i = c .before .before .before .before .before .wide .ensures in
+    rw (over-three (s .args .relation) (omega arith))
+    (rw (rw i at (simp (toZ-ofZ, a) at (c .before .before .raise3 .ensures))) at (rw i at (simp (toZ-ofZ, a) at (c .cap3 .ensures))))
 
 pub narrow-spec : {M : Type 1} → statement M
 narrow-spec =
@@ -84,7 +101,11 @@ narrow-spec =
     raise-requires
     add-raise
     raise-requires-2
+    raise-requires-3
+    add-cap-3
+    cap-requires-3
     returns
     returns-2
     returns-3
-    returns-4)
+    returns-4
+    returns-5)

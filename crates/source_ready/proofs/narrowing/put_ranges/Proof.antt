@@ -1,8 +1,7 @@
 -- `source_ready::narrowing::put_ranges` meets its contract. Assumes nothing.
 use denote.Ref.{now}
 use borrow.Author.Needs.{needs}
-use Rattle.model.specs.Limits.{sourceLimits}
-use Rattle.model.specs.TaskOk.{ConditionOk}
+use Rattle.model.specs.TaskOk.{ConditionIn}
 use Rattle.model.specs.Steps.{naturalAt}
 use Rattle.file_parts.specs.Layout.{conditionCount}
 use Rattle.file_parts.specs.Row.{conditionsIn, conditionIn}
@@ -22,8 +21,8 @@ returns c = let s = c .before .before .before .before in
     rw (c .narrow-all .ensures)
     (ranges-put (now (s .args .lower)) (now (s .args .upper)) (now (s .args .numbers)) _
     (conditionsIn (now (s .args .parts)) (now (s .args .constants))) (c .before .before .put-bounds .ensures)
-    (all-tabulate (ConditionOk sourceLimits 8) (naturalAt (now (s .args .parts)) conditionCount) (conditionIn (now (s .args .parts)) (now (s .args .constants)))
-    (λ i h. (s .pre .1 .declared i h, s .pre .1 .inRange i h))))
+    (all-tabulate (ConditionIn 8) (naturalAt (now (s .args .parts)) conditionCount) (conditionIn (now (s .args .parts)) (now (s .args .constants)))
+    (λ i h. s .pre .1 .declared i h)))
 
 pub put-ranges-spec : {M : Type 1} → statement M
 put-ranges-spec = tie.close (tie.spec put-bounds-requires narrow-all-requires returns)
