@@ -10,7 +10,7 @@
  * THREADS. The archive has no variables of its own, so calls may run in several threads at once, so long as none writes what another is
  * handed.
  *
- * STACK. What a call takes at most, whatever it is handed, measured (bench/stack.c) and rounded up; 1 KB is 1,000 bytes.
+ * STACK. What a call takes, measured with the worked file of docs/FORMAT.md (bench/stack.c) and rounded up; 1 KB is 1,000 bytes.
  * Where memcpy and memset are bound at their first call, as by default in a program that is linked dynamically, that call takes some 2.5 KB
  * more.
  *
@@ -22,7 +22,7 @@
  *    judging a restricted plan                                       420 KB
  *
  * TIME. Every call reads the task's file anew, which is most of what a step by itself takes: some 3 microseconds with the largest source
- * file, some 27 with its lowering (docs/PERFORMANCE.md). To check a plan judge it whole; don't take its steps one by one.
+ * file, some 21 with its lowering (docs/PERFORMANCE.md). To check a plan judge it whole; don't take its steps one by one.
  *
  * ANSWERS. A function returns 0, or the number of the refusal:
  *
