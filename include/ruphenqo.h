@@ -17,8 +17,8 @@
  *    reading, the place of an action, a start, a refusal's text        1 KB
  *    a step, the price of a step                                       4 KB
  *    lowering                                                          7 KB
- *    judging or pricing a source plan, expanding, listing             13 KB
- *    projecting                                                       15 KB
+ *    judging or pricing a source plan, expanding, listing             18 KB
+ *    projecting                                                       25 KB
  *    judging a restricted plan                                       420 KB
  *
  * TIME. Every call reads the task's file anew, which is most of what a step by itself takes: some 3 microseconds with the largest source
@@ -32,7 +32,7 @@
  *    4  one more than a limit                             at the offset of the command, as are 5, 6 and 7
  *    5  undeclared variable or mode, value or start of a mode not below its size, relation over 4 (restricted: over 3)
  *    6  operand out of range, zero where barred, lower above upper, start of a variable outside its bounds
- *    7  second numeric effect, second effect on a mode, a variable twice in T or in a restricted action's +
+ *    7  second numeric effect on a target, second effect on a mode, a variable twice in the T of an L
  *    8  the lent output is shorter than the result        the place is the bytes needed
  *    9  the expansion has over 1,000,000 steps            at the first source step passing it
  *   10  the plan's length is odd or over 2,000,000 bytes  the place is that length
@@ -61,8 +61,8 @@
  *
  * BYTES. A task is a file as docs/FORMAT.md has it. A plan is action numbers of 16 bits, least byte first. A state is the values of the
  * variables and of the modes, in the order of their declarations; entries past the declared ones are not read. Where a source task has n
- * variables and m modes, a state of its lowering has these first, then A as variable n, B as variable n + 1, and control as mode m; between
- * source steps all three are 0.
+ * variables and m modes, a state of its lowering has these first, then A as variable n, B as variable n + 1, where some action has two or
+ * more numeric effects three holds as variables n + 2 to n + 4, and control as mode m; between source steps all of these are 0.
  *
  * A PLAN UNDER WAY. Pricing, expanding, projecting and listing ask for the goal, as judging does (13). To list or price the steps taken so
  * far, hand over the task with an empty goal: its bytes up to G, then G and Z. G stands at *end of the last action (ruphenqo_source_action), and
@@ -78,7 +78,7 @@ extern "C" {
 #endif
 
 /* The version of this header: major * 10000 + minor * 100 + patch. ruphenqo_version() answers that of the archive. */
-#define RUPHENQO_VERSION 10100
+#define RUPHENQO_VERSION 10200
 
 /* The answers by name; what each means stands above, and in a line of text by ruphenqo_refusal_text. */
 enum {
@@ -159,7 +159,7 @@ uint32_t ruphenqo_price_plan(const uint8_t *task, size_t task_length, const uint
  * bytes needed: a call with out_length 0 asks for the length; it answers 0, with length 0, where the result is empty. Text has no byte 0 behind
  * it. */
 
-/* The restricted task's file, of at most 30,145 bytes. Refusals 1 to 7, 8. */
+/* The restricted task's file, of at most 86,000 bytes. Refusals 1 to 7, 8. */
 uint32_t ruphenqo_lower(const uint8_t *task, size_t task_length, uint8_t *out, size_t out_length, uint64_t *length, uint64_t *place);
 
 /* The restricted plan that a source plan becomes, of at most 2,000,000 bytes: a longer one gives 9. Refusals 1 to 7, 10 to 13 as by judging

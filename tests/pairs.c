@@ -13,7 +13,7 @@ enum { MOST = 64, ROOM = 65536 };
 
 static uint8_t task[256], lowered[ROOM];
 static size_t task_length;
-static uint64_t lowered_length, variables, modes, actions;
+static uint64_t lowered_length, variables, modes, lowered_variables, actions;
 static uint64_t plans, valid;
 
 static void fault(const char *what, const uint8_t *plan, size_t steps)
@@ -38,8 +38,9 @@ static void pair(const uint8_t *plan, size_t steps, const int64_t *values, const
         fault("another price", plan, steps);
     if (memcmp(values, source_values, variables * sizeof *values) || memcmp(controls, source_modes, modes * sizeof *controls))
         fault("another end state", plan, steps);
-    if (values[variables] || values[variables + 1] || controls[modes])
-        fault("helpers are not at rest", plan, steps);
+    for (uint64_t i = variables; i < lowered_variables; i++)
+        if (values[i] || controls[modes])
+            fault("helpers are not at rest", plan, steps);
     if (ruphenqo_expand(task, task_length, source, length, again, sizeof again, &written, &place) || written != 2 * steps || memcmp(again, plan, written))
         fault("another plan back", plan, steps);
     valid++;
@@ -72,7 +73,8 @@ static void put_byte(int b) { task[task_length++] = b; }
 static void put_word(int32_t z) { for (int i = 0; i < 4; i++) put_byte((uint32_t)z >> 8 * i & 255); }
 static void put_variable(int lower, int upper, int start) { put_byte('V'); put_word(lower); put_word(upper); put_word(start); }
 
-/* Two actions over two variables and a mode: a macro or + of every kind and sign; without a goal, with ≤, or with equal there and in an action. */
+/* Two actions over two variables and a mode: a macro or + of every kind and sign, or two effects together, which swap, divide, or set; without
+ * a goal, with ≤, or with equal there and in an action. */
 static void put_task(int kind, int c, int first, int second, int goal)
 {
     task_length = 0;
@@ -87,6 +89,9 @@ static void put_task(int kind, int c, int first, int second, int goal)
     if (kind == 2) { put("Q\0\1", 3); put_word(c); }
     if (kind == 3) { put("R\1\1", 3); put_word(c); }
     if (kind == 4) { put("Q\0\0", 3); put_word(c); }
+    if (kind == 5) { put("L\0", 2); put_word(0); put("T\1", 2); put_word(1); put("L\1", 2); put_word(c); put("T\0", 2); put_word(1); }
+    if (kind == 6) { put("R\1\1", 3); put_word(c); put("Q\0\1", 3); put_word(c); }
+    if (kind == 7) { put("L\1", 2); put_word(c); put("+\0", 2); put_word(c); }
     put("AP\0\1\0E\0\0\0", 9);
     put("+\1", 2);
     put_word(-1);
@@ -98,7 +103,7 @@ static void put_task(int kind, int c, int first, int second, int goal)
 int main(void)
 {
     uint64_t tasks = 0, counts[3], place;
-    for (int kind = 0; kind < 5; kind++)
+    for (int kind = 0; kind < 8; kind++)
         for (int c = -3; c <= 3; c++)
             for (int first = -2; first <= 2; first += 2)
                 for (int second = -1; second <= 2; second++)
@@ -111,6 +116,7 @@ int main(void)
                         modes = counts[1];
                         if (ruphenqo_read_restricted(lowered, lowered_length, counts, &place))
                             return puts("a lowered task is refused"), 1;
+                        lowered_variables = counts[0];
                         actions = counts[2];
                         tasks++;
                         try_plan(plan, 0);

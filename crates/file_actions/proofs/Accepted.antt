@@ -14,7 +14,7 @@ use Rattle.lists.specs.Answer.{given}
 use Rattle.lists.specs.Writing.{splice}
 use Rattle.lists.proofs.Writing.{splice-front}
 use Rattle.commands.specs.declared.Command.{Command}
-use Rattle.model.specs.Tasks.{NumericCondition, noEffect, SourceAction, RestrictedAction, SourceTask, RestrictedTask}
+use Rattle.model.specs.Tasks.{NumericCondition, SourceAction, RestrictedAction, SourceTask, RestrictedTask}
 use Rattle.model.specs.Limits.{Limits, sourceLimits, restrictedLimits}
 use Rattle.model.specs.Steps.{sizesOf}
 use Rattle.model.specs.Reading.{Verdict, Accepted, Rejected, verdictOf, commandsOf}
@@ -28,7 +28,7 @@ use Rattle.model.proofs.ActionBytes.{action-decodes}
 use Rattle.model.proofs.StageWalk.{all-get}
 use Rattle.file_parts.specs.Row.{rowIs, Says}
 use Rattle.file_parts.proofs.Pushing.{says-as}
-use Rattle.file_actions.specs.declared.SourceAction.{SourceAction as DecodedSource}
+use Rattle.file_actions.specs.declared.Effects.{Effects}
 use Rattle.file_actions.specs.Places.{edgesOf, goalPart}
 use Rattle.file_actions.specs.Views.{sourceActionIs, SourceDecoded, fittingSource, fittingRestricted}
 use Rattle.file_actions.specs.Within.{SourceWithin}
@@ -108,45 +108,53 @@ module _ (file : List ℕ) (bytes : Bytes file) (t : SourceTask) (is : readSourc
   pub source-edges : length (edgesOf file) ≡ suc (length (t .actions))
   source-edges = edges-of sourceLimits sourceTaskOf sourceActionOf (λ u. u .actions) (λ d. refl) file bytes t is
 
-  module _ (k : ℕ) (below : k < length (t .actions)) (a : DecodedSource)
-      (decoded : SourceDecoded (fittingSource (sourceActionOf (decodeAction (actionPart file k)))) a) where
+  module _ (k : ℕ) (below : k < length (t .actions)) (marks : List ℕ) (numbers : List ℤ) (r : Effects)
+      (decoded : SourceDecoded (fittingSource (sourceActionOf (decodeAction (actionPart file k)))) marks numbers r) where
     -- it is action k of the task
-    pub source-action-decoded : getElem? (t .actions) k ≡ some (sourceActionIs a)
+    pub source-action-decoded : getElem? (t .actions) k ≡ some (sourceActionIs marks numbers r)
     source-action-decoded = decoded-is sourceLimits sourceTaskOf sourceActionOf (λ u. u .actions) (λ d. refl) file bytes t is
         (SourceActionOk sourceLimits (length (t .variables)) (sizesOf (t .modes))) (sourceOk .actionsOk) fittingSource
-        (λ b h. source-fits (length (t .variables)) (sizesOf (t .modes)) b h sourceModes) k below (sourceActionIs a) (source-is decoded)
+        (λ b h. source-fits (length (t .variables)) (sizesOf (t .modes)) b h sourceModes) k below (sourceActionIs marks numbers r) (source-is decoded)
 
     -- and keeps to the rules
-    pub source-action-within : SourceWithin sourceLimits (length (t .variables)) (sizesOf (t .modes)) a
+    pub source-action-within : SourceWithin sourceLimits (length (t .variables)) (sizesOf (t .modes)) marks numbers r
     source-action-within = source-within sourceLimits (length (t .variables)) (sizesOf (t .modes))
-        (fittingSource (sourceActionOf (decodeAction (actionPart file k)))) a
+        (fittingSource (sourceActionOf (decodeAction (actionPart file k)))) marks numbers r
         (decoded-ok sourceLimits sourceTaskOf sourceActionOf (λ u. u .actions) (λ d. refl) file bytes t is
         (SourceActionOk sourceLimits (length (t .variables)) (sizesOf (t .modes))) (sourceOk .actionsOk) fittingSource
         (λ b h. source-fits (length (t .variables)) (sizesOf (t .modes)) b h sourceModes) k below
-        (fittingSource (sourceActionOf (decodeAction (actionPart file k)))) refl) decoded
+        (fittingSource (sourceActionOf (decodeAction (actionPart file k)))) refl) decoded (decoded .few)
 
   -- the goal as an action of the task, which has no effects
   abbrev pub goal-action : SourceAction
-  goal-action = record { modeConditions = t .goalModes; conditions = t .goalConditions; modeEffects = []; effect = noEffect }
+  goal-action = record { modeConditions = t .goalModes; conditions = t .goalConditions; modeEffects = []; effects = [] }
 
   pub goal-action-ok : SourceActionOk sourceLimits (length (t .variables)) (sizesOf (t .modes)) goal-action
-  goal-action-ok = record { conditionsOk = sourceOk .goal; modeEffectsIn = tt; modeEffectsOnce = tt; effectOk = tt }
+  goal-action-ok = record {
+    conditionsOk = sourceOk .goal;
+    modeEffectsIn = tt;
+    modeEffectsOnce = tt;
+    effectsFew = omega arith;
+    effectsOk = tt;
+    targetsOnce = tt;
+  }
 
   -- what is decoded as an action from its bytes is that
-  pub source-goal-decoded : (a : DecodedSource) → SourceDecoded (fittingSource (sourceActionOf (decodeAction (goalPart file (length (t .actions)))))) a
-      → SourceDecoded goal-action a
-  source-goal-decoded a e =
+  pub source-goal-decoded : (marks : List ℕ) (numbers : List ℤ) (r : Effects)
+      → SourceDecoded (fittingSource (sourceActionOf (decodeAction (goalPart file (length (t .actions)))))) marks numbers r
+      → SourceDecoded goal-action marks numbers r
+  source-goal-decoded marks numbers r e =
       let cs = decodeAction (goalPart file (length (t .actions))) in
       let asks = goal-is sourceLimits sourceTaskOf sourceActionOf (λ u. u .actions) (λ d. refl) file bytes t is
       (λ u. (u .goalModes, u .goalConditions)) (λ d. refl) in
-      let (modes, effect, none) = goal-without sourceLimits sourceTaskOf sourceActionOf (λ u. u .actions) (λ d. refl) file bytes t is in
+      let (modes, effects, none) = goal-without sourceLimits sourceTaskOf sourceActionOf (λ u. u .actions) (λ d. refl) file bytes t is in
       let same : sourceActionOf cs ≡ goal-action = λ i. record {
         modeConditions = sym (ap (λ z. z .0) asks) i;
         conditions = sym (ap (λ z. z .1) asks) i;
         modeEffects = modes i;
-        effect = effect i;
+        effects = effects i;
       } in
-      subst (λ (x : SourceAction). SourceDecoded x a)
+      subst (λ (x : SourceAction). SourceDecoded x marks numbers r)
       (ap fittingSource same ∙ source-fits (length (t .variables)) (sizesOf (t .modes)) goal-action goal-action-ok sourceModes) e
 
 -- ---- a restricted file
@@ -190,7 +198,7 @@ module _ (file : List ℕ) (bytes : Bytes file) (t : RestrictedTask) (is : readR
         let cs = decodeAction (goalPart file (length (t .actions))) in
         let asks = goal-is restrictedLimits restrictedTaskOf restrictedActionOf (λ u. u .actions) (λ d. refl) file bytes t is
         (λ u. (u .goalModes, u .goalConditions)) (λ d. refl) in
-        let (modes, effect, none) = goal-without restrictedLimits restrictedTaskOf restrictedActionOf (λ u. u .actions) (λ d. refl) file bytes t is in
+        let (modes, effects, none) = goal-without restrictedLimits restrictedTaskOf restrictedActionOf (λ u. u .actions) (λ d. refl) file bytes t is in
         let same : restrictedActionOf cs ≡ restricted-goal = λ i. record {
           modeConditions = sym (ap (λ z. z .0) asks) i;
           conditions = sym (ap (λ z. z .1) asks) i;

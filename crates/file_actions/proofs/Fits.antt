@@ -1,26 +1,27 @@
 -- An action that keeps to the rules on its file has room whole; and what the rules say of it, said of the elements of its row.
 -- Assumes nothing.
-use mathlib.Core.Path.{_≡_, refl, ap, subst, subst⁻¹}
-use mathlib.Core.List.{List, [], _∷_}
+use mathlib.Core.Path.{_≡_, refl, ap, ap₂, subst, subst⁻¹, _∙_}
+use mathlib.Core.List.{List, [], _∷_, map}
 use Prim.Native.Nat.{ℕ, zero, suc, _<_, _≤_}
 use native.Mathlib.Omega.{arith}
 use lib.IntN.{ℤ}
-use lib.ListN.{length, getD}
+use lib.ListN.{length, getD, take}
 use lib.Seq.{take-all}
 use Rattle.integers.specs.All.{All}
 use Rattle.lists.specs.Each.{tabulate}
 use Rattle.lists.proofs.Each.{length-tabulate}
-use Rattle.model.specs.Tasks.{Effect, noEffect, addEffect, linearEffect, quotientEffect, residueEffect, SourceAction, RestrictedAction}
+use Rattle.model.specs.Tasks.{Effect, addEffect, linearEffect, quotientEffect, residueEffect, SourceAction, RestrictedAction}
 use Rattle.model.specs.Steps.{naturalAt}
 use Rattle.model.specs.Limits.{Limits, sourceLimits, restrictedLimits}
+use Rattle.model.specs.InTask.{targets}
 use Rattle.model.specs.TaskOk.{Distinct, keys, ValuesIn, AmountOk, ConditionOk, EffectOk, SourceActionOk, RestrictedActionOk}
 use Rattle.model.proofs.ReadingLaws.{length-keys}
 use Rattle.file_parts.specs.Layout.{conditionRoom, modeConditionRoom, modeEffectRoom, additionRoom}
 use Rattle.file_parts.specs.Layout.{conditionCount, modeConditionCount, modeEffectCount, additionCount}
 use Rattle.file_parts.specs.Row.{conditionIn, modeConditionIn, modeEffectIn, additionIn, modeEffectsIn, rowIs, Says}
 use Rattle.file_parts.specs.With.{sourcePart}
-use Rattle.file_actions.specs.declared.SourceAction.{SourceAction as DecodedSource}
-use Rattle.file_actions.specs.Views.{termRoom, sourceActionIs, SourceDecoded, fittingEffect, fittingSource, fittingRestricted}
+use Rattle.file_actions.specs.declared.Effects.{Effects}
+use Rattle.file_actions.specs.Views.{effectRoom, termRoom, effectsIs, sourceActionIs, SourceDecoded, fittingEffect, fittingSource, fittingRestricted}
 use Rattle.file_actions.specs.Within.{RowWithin, SourceWithin}
 use Rattle.file_actions.proofs.Distinct.{few-distinct}
 
@@ -34,11 +35,14 @@ few-modes sizes es h d = subst (λ (m : ℕ). m ≤ length sizes) (length-keys e
 
 -- ---- there is room
 effect-fits : (n : ℕ) (e : Effect) → EffectOk sourceLimits n e → fittingEffect e ≡ e
-effect-fits n noEffect h = refl
 effect-fits n (addEffect t c) h = refl
 effect-fits n (linearEffect t w ts) h = ap (linearEffect t w) (take-all termRoom ts (h .2))
 effect-fits n (quotientEffect t o c) h = refl
 effect-fits n (residueEffect t o c) h = refl
+
+effects-fit : (n : ℕ) (es : List Effect) → All (EffectOk sourceLimits n) es → map fittingEffect es ≡ es
+effects-fit n [] h = refl
+effects-fit n (e ∷ es) (h, hs) = ap₂ (λ (x : Effect) (xs : List Effect). x ∷ xs) (effect-fits n e h) (effects-fit n es hs)
 
 module _ (n : ℕ) (sizes : List ℕ) where
   pub source-fits : (a : SourceAction) → SourceActionOk sourceLimits n sizes a → length sizes ≤ sourceLimits .modes → fittingSource a ≡ a
@@ -46,7 +50,7 @@ module _ (n : ℕ) (sizes : List ℕ) where
     modeConditions = take-all modeConditionRoom (a .modeConditions) (omega (arith, h .conditionsOk .modeConditionsFew)) i;
     conditions = take-all conditionRoom (a .conditions) (omega (arith, h .conditionsOk .conditionsFew)) i;
     modeEffects = take-all modeEffectRoom (a .modeEffects) (omega (arith, few-modes sizes (a .modeEffects) (h .modeEffectsIn) (h .modeEffectsOnce))) i;
-    effect = effect-fits n (a .effect) (h .effectOk) i;
+    effects = (ap (take effectRoom) (effects-fit n (a .effects) (h .effectsOk)) ∙ take-all effectRoom (a .effects) (h .effectsFew)) i;
   }
 
   pub restricted-fits : (a : RestrictedAction) → RestrictedActionOk restrictedLimits n sizes a → length sizes ≤ restrictedLimits .modes → fittingRestricted a ≡ a
@@ -64,13 +68,13 @@ all-at P zero f h i l = absurd (omega arith)
 all-at P (suc n) f (h, hs) zero l = h
 all-at P (suc n) f (h, hs) (suc i) l = all-at P n (λ k. f (suc k)) hs i (omega arith)
 
--- ---- a source action is what its row and its effect say
-pub source-is : {a : SourceAction} {r : DecodedSource} → SourceDecoded a r → sourceActionIs r ≡ a
+-- ---- a source action is what its row and its effects say
+pub source-is : {a : SourceAction} {marks : List ℕ} {numbers : List ℤ} {r : Effects} → SourceDecoded a marks numbers r → sourceActionIs marks numbers r ≡ a
 source-is d = λ i. record {
   modeConditions = d .parts .is i .modeConditions;
   conditions = d .parts .is i .conditions;
   modeEffects = d .parts .is i .modeEffects;
-  effect = d .effect i;
+  effects = d .effects i;
 }
 
 -- ---- the rules, of a row's elements
@@ -111,9 +115,10 @@ module _ (l : Limits) (n : ℕ) (sizes : List ℕ) where
         };
       }
 
-  pub source-within : (a : SourceAction) (r : DecodedSource) → SourceActionOk l n sizes a → SourceDecoded a r → SourceWithin l n sizes r
-  source-within a r h d = record {
-    row = row-within (sourcePart a) (r .marks) (r .numbers) (record {
+  pub source-within : (a : SourceAction) (marks : List ℕ) (numbers : List ℤ) (r : Effects) → SourceActionOk l n sizes a → SourceDecoded a marks numbers r
+      → r .count ≤ l .numericEffects → SourceWithin l n sizes marks numbers r
+  source-within a marks numbers r h d few = record {
+    row = row-within (sourcePart a) marks numbers (record {
       conditionsOk = h .conditionsOk;
       modeEffectsIn = h .modeEffectsIn;
       modeEffectsOnce = h .modeEffectsOnce;
@@ -121,5 +126,7 @@ module _ (l : Limits) (n : ℕ) (sizes : List ℕ) where
       additionsIn = tt;
       additionsOnce = tt;
     }) (d .parts);
-    effect = subst⁻¹ (EffectOk l n) (d .effect) (h .effectOk);
+    few = few;
+    effects = subst⁻¹ (All (EffectOk l n)) (d .effects) (h .effectsOk);
+    targetsOnce = subst⁻¹ (λ (es : List Effect). Distinct (targets es)) (d .effects) (h .targetsOnce);
   }

@@ -21,8 +21,7 @@ use Rattle.model.specs.Limits.{Limits}
 use Rattle.model.specs.ReadingState.{ReadingState, Taken, Going, begin, goOn}
 use Rattle.model.specs.Rules.{allowed, testsOf, nextOf, onwards, ruleOf}
 use Rattle.model.specs.Reading.{verdictOf, commandsOf, remainders}
-use Rattle.model.specs.Tasks.{noEffect}
-use Rattle.model.specs.Decoding.{upTo, actionsOf, goalOf, modeEffectsOf, additionsOf, effectOf}
+use Rattle.model.specs.Decoding.{upTo, actionsOf, goalOf, modeEffectsOf, additionsOf, effectsOf}
 use Rattle.model.specs.Trail.{Trail}
 use Rattle.model.specs.ActionBytes.{edgeOf, commandsIn, decodeAction, allAlong}
 use Rattle.commands.proofs.Encoding.{read-encode, drop-encode}
@@ -33,7 +32,7 @@ use Rattle.model.proofs.FileBytes.{file-is-its-commands}
 use Rattle.file_actions.specs.Places.{edgesOf, goalPart}
 use Rattle.file_actions.specs.Places.{EdgesLeft}
 use Rattle.file_actions.proofs.Edges.{all-left, at-goal, at-action, at-other}
-use Rattle.file_actions.proofs.Gathering.{size-positive}
+use Rattle.file_actions.proofs.Walking.{size-positive}
 
 -- ---- what matters of a command here: a command but A, G and Z changes neither the section, nor the actions, nor the goal
 record Plain (c : Command) : Type 0 where
@@ -88,7 +87,7 @@ none-after l (c ∷ cs) p s (a, g, t) = go (kind c) (λ q s′ t′. none-after 
 
 -- ---- and no effect: E and the numeric effects stand in an action, a T behind an L or T
 abbrev pub Quiet : List Command → Type 0
-Quiet cs = (modeEffectsOf cs ≡ []) × (effectOf cs ≡ noEffect) × (additionsOf cs ≡ [])
+Quiet cs = (modeEffectsOf cs ≡ []) × (effectsOf cs ≡ []) × (additionsOf cs ≡ [])
 
 module _ (p : ReadingState) (s : p .section ≡ 3) (z : p .terms ≡ 0) where
   no-effect-here : eqb (p .section) 2 ≡ true → ⊥

@@ -8,3 +8,4 @@ pub mod NumericPart
 pub mod Parts
 pub mod Refusals
 pub mod Taking
+pub mod Walking

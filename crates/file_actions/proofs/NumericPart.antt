@@ -1,91 +1,327 @@
--- Taking a command into the numeric part of a source action: the first effect stands, and terms follow it.
+-- The numeric effects of a source action, taken command by command: those taken, with those that the commands that are left give, are all of them,
+-- as far as there is room.
 -- Assumes nothing.
-use mathlib.Core.Path.{_≡_, refl, _∙_, sym, ap, ap₂}
+use mathlib.Core.Path.{_≡_, refl, _∙_, sym, ap}
 use mathlib.Core.Bool.{Bool, true, false, cond}
 use mathlib.Core.List.{List, [], _∷_, _++_, append-assoc, append-nil, map, map-append}
-use Prim.Native.Nat.{ℕ, _+_, _<_, _≤_}
+use mathlib.Core.Logic.{inl, inr}
+use Prim.Native.Nat.{ℕ, zero, suc, _+_, _<_, _≤_}
 use native.Mathlib.Omega.{arith}
 use native.Mathlib.Numerals.{add-one}
-use lib.Dec.{ltb}
+use denote.Enum.Declared.{tagOf}
+use lib.Dec.{ltb, lit<}
 use lib.IntN.{ℤ}
-use lib.ListN.{length, take, set, length-take, length-map}
+use lib.ListN.{length, getD, take, set, length-set, length-append, length-take, length-map}
 use lib.Seq.{take-suc-set, take-append-le, take-all}
 use borrow.Author.Tests.{ltb-true, ltb-false}
+use types.Run.{OneOf, miss}
+use Rattle.integers.specs.All.{All}
+use Rattle.commands.specs.Table.{rows, rowAt, letterA, letterC, letterE, letterG, letterP, letterT}
+use Rattle.commands.specs.Reading.{commandAt, readRow}
 use Rattle.commands.specs.declared.Command.{Command}
-use Rattle.commands.specs.declared.Command.the-variants.{Term as TermCommand}
-use Rattle.model.specs.Tasks.{noEffect, linearEffect}
+use Rattle.commands.specs.declared.Command.the-variants.{Variable, Start, Mode, Action, Condition, ModeCondition, ModeEffect, Add, Linear, Term}
+use Rattle.commands.specs.declared.Command.the-variants.{Quotient, Residue, Goal, End, Refused}
+use Rattle.commands.proofs.Command.{the-type}
+use Rattle.commands.proofs.Encoding.{byte-read}
+use Rattle.commands.proofs.Known.{others}
+use Rattle.model.specs.Tasks.{Effect}
 use Rattle.model.specs.Rules.{constant}
-use Rattle.model.specs.Decoding.{effectOf, termsOf}
-use Rattle.file_actions.specs.declared.Term.{Term}
+use Rattle.model.specs.Decoding.{isEdge, upTo, effectsOf, termsOf}
+use Rattle.model.specs.ActionBytes.{decodeAction}
+use Rattle.file_actions.specs.declared.Term.{Term as DecodedTerm}
+use Rattle.file_actions.specs.declared.Terms.{Terms}
 use Rattle.file_actions.specs.declared.Effect.{Effect as DecodedEffect}
-use Rattle.file_actions.specs.declared.Effect.the-variants.{None, Add, Linear, Quotient, Residue}
-use Rattle.file_actions.specs.declared.Numeric.{Numeric}
-use Rattle.file_actions.specs.Views.{termRoom, termIs, termsIs, effectIs, fittingEffect}
-use Rattle.file_actions.specs.Numeric.{term, withEffect, withTerm, effectFrom, effectWith, EffectTaken}
+use Rattle.file_actions.specs.declared.NumericEffect.{NumericEffect}
+use Rattle.file_actions.specs.declared.Effects.{Effects}
+use Rattle.file_actions.specs.Places.{bodyStart}
+use Rattle.file_actions.specs.Taking.{CommandsLeft}
+use Rattle.file_actions.specs.Views.{effectRoom, termRoom, termIs, termsIs, numericIs, effectsIs, fittingEffect}
+use Rattle.file_actions.specs.Numeric.{term, withTerm, TermsRead, noTerms, numericEffect, noEffects, withEffect, effectIn, FewTerms, EffectTaken, EffectsRead}
+use Rattle.file_actions.proofs.Taking.{of-row, other-inside}
+use Rattle.file_actions.proofs.Walking.{Turn, next-command, no-command-left, all-passed, Left, left-begin, left-end, some, left-edge, left-next}
 
--- a command that gives an effect: it stands if it is the first
-pub effect-taken : (n : Numeric) (e : DecodedEffect) (c : Command) → ((p : List Command) → effectFrom e [] (effectOf p) (termsOf p) ≡ fittingEffect (effectOf (c ∷ p))) → ((p : List Command) → termsOf (c ∷ p) ≡ termsOf p) → EffectTaken n c (withEffect n e)
-effect-taken n e c first others = record { few = count (n .effect); same = λ p. go (n .effect) p }
-  where
-    count : (d : DecodedEffect) → n .«term_count» ≤ termRoom → withEffect (record { effect = d; «term_count» = n .«term_count»; terms = n .terms }) e .«term_count» ≤ termRoom
-    count None h = omega arith
-    count (Add t k) h = h
-    count (Linear t w) h = h
-    count (Quotient t o k) h = h
-    count (Residue t o k) h = h
+-- ---- lists that are filled as far as there is room
+module _ {A : Type 0} (room : ℕ) where
+  -- the front of a list is enough for its front with more behind it
+  front-enough : (xs ys : List A) → take room (take room xs ++ ys) ≡ take room (xs ++ ys)
+  front-enough xs ys = go room xs
+    where
+      go : (n : ℕ) (xs : List A) → take n (take n xs ++ ys) ≡ take n (xs ++ ys)
+      go zero xs = refl
+      go (suc n) [] = refl
+      go (suc n) (x ∷ xs) = ap (λ (z : List A). x ∷ z) (go n xs)
 
-    go : (d : DecodedEffect) (p : List Command) → let n′ : Numeric = record { effect = d; «term_count» = n .«term_count»; terms = n .terms } in effectWith (withEffect n′ e) (effectOf p) (termsOf p) ≡ effectWith n′ (effectOf (c ∷ p)) (termsOf (c ∷ p))
-    go None p = first p
-    go (Add t k) p = refl
-    go (Linear t w) p = ap (λ (z : List (ℕ × ℤ)). linearEffect t w (take termRoom (termsIs (n .«term_count») (n .terms) ++ z))) (sym (others p))
-    go (Quotient t o k) p = refl
-    go (Residue t o k) p = refl
+  whole : (xs : List A) → length xs ≤ room → xs ≡ take room (xs ++ [])
+  whole xs h = sym (ap (take room) (append-nil xs) ∙ take-all room xs h)
 
--- a command that gives none, and no term
-pub effect-stays : (n : Numeric) (c : Command) → ((p : List Command) → effectOf (c ∷ p) ≡ effectOf p) → ((p : List Command) → termsOf (c ∷ p) ≡ termsOf p) → EffectTaken n c n
-effect-stays n c none others = record { few = λ h. h; same = λ p. sym (ap₂ (effectWith n) (none p) (others p)) }
+-- the first n of a row of places, read by f, with one more behind them
+module _ {A B : Type 0} (f : A → B) (room : ℕ) (places : List A) (n : ℕ) (x : A) (long : length places ≡ room) where
+  stored : n < room → map f (take (n + 1) (set places n x)) ≡ map f (take n places) ++ (f x ∷ [])
+  stored h =
+      ap (λ (k : ℕ). map f (take k (set places n x))) (add-one n) ∙ ap (map f) (take-suc-set places n x (omega (arith, long)))
+      ∙ map-append f (take n places) (x ∷ [])
+
+  filled : room ≤ n → (ys : List B) → take room (map f (take n places) ++ ys) ≡ map f (take n places)
+  filled h ys =
+      let l : length (map f (take n places)) ≡ room = omega (arith, length-map (take n places) f, length-take n places, long) in
+      take-append-le room (map f (take n places)) ys (omega (arith, l)) ∙ take-all room (map f (take n places)) (omega (arith, l))
+
+taken-few : {A B : Type 0} (f : A → B) (n : ℕ) (places : List A) (room : ℕ) → n ≤ room → length (map f (take n places)) ≤ room
+taken-few f n places room h = omega (arith, length-map (take n places) f, length-take n places)
 
 -- ---- terms
-module _ (n : ℕ) (terms : List Term) (v : ℕ) (w : ℤ) (rest : List (ℕ × ℤ)) (long : length terms ≡ termRoom) where
-  stored : n < termRoom → take termRoom (termsIs (n + 1) (set terms n (term v w)) ++ rest) ≡ take termRoom (termsIs n terms ++ ((v, w) ∷ rest))
-  stored h =
-      ap (λ (z : List (ℕ × ℤ)). take termRoom (z ++ rest))
-      (ap (λ (k : ℕ). termsIs k (set terms n (term v w))) (add-one n) ∙ ap (map termIs) (take-suc-set terms n (term v w) (omega arith)) ∙ map-append termIs (take n terms) (term v w ∷ []))
-      ∙ ap (take termRoom) (append-assoc (termsIs n terms) ((v, w) ∷ []) rest)
+-- the T's read, with those that are left from an offset on, are all of them
+pub record TermsFrom (s : List ℕ) (from at : ℕ) (r : Terms) : Type 0 where
+  pub few : r .count ≤ termRoom
+  pub long : length (r .places) ≡ termRoom
+  pub are : (left : List Command) → CommandsLeft s from left
+      → (more : List Command) × CommandsLeft s at more × (take termRoom (termsIs (r .count) (r .places) ++ termsOf more) ≡ take termRoom (termsOf left))
 
-  full : termRoom ≤ n → take termRoom (termsIs n terms ++ rest) ≡ take termRoom (termsIs n terms ++ ((v, w) ∷ rest))
-  full h =
-      let l : termRoom ≤ length (termsIs n terms) = omega (arith, length-map (take n terms) termIs, length-take n terms) in
-      take-append-le termRoom (termsIs n terms) rest l ∙ sym (take-append-le termRoom (termsIs n terms) ((v, w) ∷ rest) l)
+pub terms-begin : (s : List ℕ) (from : ℕ) → TermsFrom s from from noTerms
+terms-begin s from = record { few = omega arith; long = refl; are = λ left there. (left, there, refl) }
 
-pub term-taken : (n : Numeric) (v bits : ℕ) → length (n .terms) ≡ termRoom → EffectTaken n (TermCommand v bits) (withTerm n v (constant bits))
-term-taken n v bits long = record { few = count (ltb (n .«term_count») termRoom) refl; same = λ p. by (ltb (n .«term_count») termRoom) refl p }
-  where
-    more : Numeric
-    more = record { effect = n .effect; «term_count» = n .«term_count» + 1; terms = set (n .terms) (n .«term_count») (term v (constant bits)) }
+-- one term more
+module _ (r : Terms) (v : ℕ) (w : ℤ) where
+  abbrev one-more : Terms
+  one-more = record { count = r .count + 1; places = set (r .places) (r .count) (term v w) }
 
-    count : (t : Bool) → ltb (n .«term_count») termRoom ≡ t → n .«term_count» ≤ termRoom → cond t more n .«term_count» ≤ termRoom
-    count true e h = omega (arith, ltb-true (n .«term_count») termRoom e)
-    count false e h = h
+  term-fits : r .count ≤ termRoom → withTerm r v w .count ≤ termRoom
+  term-fits h = go (ltb (r .count) termRoom) refl
+    where
+      go : (t : Bool) → ltb (r .count) termRoom ≡ t → cond t one-more r .count ≤ termRoom
+      go true e = omega (arith, ltb-true (r .count) termRoom e)
+      go false e = h
 
-    goes : (d : DecodedEffect) (xs ys : List (ℕ × ℤ)) (p : List Command) → take termRoom (xs ++ termsOf p) ≡ take termRoom (ys ++ ((v, constant bits) ∷ termsOf p))
-        → effectFrom d xs (effectOf p) (termsOf p) ≡ effectFrom d ys (effectOf p) ((v, constant bits) ∷ termsOf p)
-    goes None xs ys p e = refl
-    goes (Add t k) xs ys p e = refl
-    goes (Linear t w) xs ys p e = ap (linearEffect t w) e
-    goes (Quotient t o k) xs ys p e = refl
-    goes (Residue t o k) xs ys p e = refl
+  term-long : length (r .places) ≡ termRoom → length (withTerm r v w .places) ≡ termRoom
+  term-long h = go (ltb (r .count) termRoom)
+    where
+      go : (t : Bool) → length (cond t one-more r .places) ≡ termRoom
+      go true = length-set (r .places) (r .count) (term v w) ∙ h
+      go false = h
 
-    by : (t : Bool) → ltb (n .«term_count») termRoom ≡ t → (p : List Command) → effectWith (cond t more n) (effectOf p) (termsOf p) ≡ effectWith n (effectOf p) ((v, constant bits) ∷ termsOf p)
-    by true e p = goes (n .effect) (termsIs (more .«term_count») (more .terms)) (termsIs (n .«term_count») (n .terms)) p (stored (n .«term_count») (n .terms) v (constant bits) (termsOf p) long (ltb-true (n .«term_count») termRoom e))
-    by false e p = goes (n .effect) (termsIs (n .«term_count») (n .terms)) (termsIs (n .«term_count») (n .terms)) p (full (n .«term_count») (n .terms) v (constant bits) (termsOf p) long (ltb-false (n .«term_count») termRoom e))
+  term-read : (rest : List (ℕ × ℤ)) → length (r .places) ≡ termRoom
+      → take termRoom (termsIs (withTerm r v w .count) (withTerm r v w .places) ++ rest) ≡ take termRoom (termsIs (r .count) (r .places) ++ ((v, w) ∷ rest))
+  term-read rest long = go (ltb (r .count) termRoom) refl
+    where
+      go : (t : Bool) → ltb (r .count) termRoom ≡ t
+          → take termRoom (termsIs (cond t one-more r .count) (cond t one-more r .places) ++ rest) ≡ take termRoom (termsIs (r .count) (r .places) ++ ((v, w) ∷ rest))
+      go true e =
+          ap (λ (z : List (ℕ × ℤ)). take termRoom (z ++ rest)) (stored termIs termRoom (r .places) (r .count) (term v w) long (ltb-true (r .count) termRoom e))
+          ∙ ap (take termRoom) (append-assoc (termsIs (r .count) (r .places)) ((v, w) ∷ []) rest)
+      go false e =
+          let full = ltb-false (r .count) termRoom e in
+          filled termIs termRoom (r .places) (r .count) (term v w) long full rest
+          ∙ sym (filled termIs termRoom (r .places) (r .count) (term v w) long full ((v, w) ∷ rest))
 
--- when nothing is left, what is taken is the effect
-pub effect-whole : (e : DecodedEffect) (n : ℕ) (terms : List Term) → n ≤ termRoom → effectIs e (termsIs n terms) ≡ effectFrom e (termsIs n terms) noEffect []
-effect-whole None n terms few = refl
-effect-whole (Add t k) n terms few = refl
-effect-whole (Linear t w) n terms few =
-    let l : length (termsIs n terms) ≤ termRoom = omega (arith, length-map (take n terms) termIs, length-take n terms) in
-    ap (linearEffect t w) (sym (ap (take termRoom) (append-nil (termsIs n terms)) ∙ take-all termRoom (termsIs n terms) l))
-effect-whole (Quotient t o k) n terms few = refl
-effect-whole (Residue t o k) n terms few = refl
+-- a command that is no T ends them
+no-term : (c : Command) (more : List Command) → OneOf (others 9) (tagOf the-type c) → termsOf (c ∷ more) ≡ []
+no-term (Variable a b d) more h = refl
+no-term (Start a) more h = refl
+no-term (Mode a b) more h = refl
+no-term Action more h = refl
+no-term (Condition a b d) more h = refl
+no-term (ModeCondition a b) more h = refl
+no-term (ModeEffect a b) more h = refl
+no-term (Add a b) more h = refl
+no-term (Linear a b) more h = refl
+no-term (Term a b) more h = absurd (miss (others 9) 9 tt h)
+no-term (Quotient a b d) more h = refl
+no-term (Residue a b d) more h = refl
+no-term Goal more h = refl
+no-term End more h = refl
+no-term (Refused a) more h = refl
+
+module _ {s : List ℕ} {from at : ℕ} {r : Terms} (g : TermsFrom s from at r) where
+  -- after the last command
+  pub terms-end : length s ≤ at → TermsRead s from r
+  terms-end h = record {
+    few = g .few;
+    are = λ left there.
+        let (more, behind, same) = g .are left there in
+        whole termRoom (termsIs (r .count) (r .places)) (taken-few termIs (r .count) (r .places) termRoom (g .few))
+        ∙ ap (λ (z : List Command). take termRoom (termsIs (r .count) (r .places) ++ termsOf z)) (sym (no-command-left s at more h behind)) ∙ same;
+  }
+
+  module _ {rest : List ℕ} {size : ℕ} (t : Turn s at rest size) where
+    pub terms-stop : {c : Command} → c ≡ commandAt rest → OneOf (others 9) (tagOf the-type c) → TermsFrom s from (length s) r
+    terms-stop {c} e other = record {
+      few = g .few;
+      long = g .long;
+      are = λ left there.
+          let (more, behind, same) = g .are left there in
+          let (fewer, is, next) = next-command t more behind in (
+            [],
+            all-passed s,
+            ap (λ (z : List (ℕ × ℤ)). take termRoom (termsIs (r .count) (r .places) ++ z))
+                (sym (ap termsOf (is ∙ ap (λ (d : Command). d ∷ fewer) (sym e)) ∙ no-term c fewer other)) ∙ same,
+          );
+    }
+
+    pub terms-next : (v bits : ℕ) → Term v bits ≡ commandAt rest → TermsFrom s from (at + size) (withTerm r v (constant bits))
+    terms-next v bits e = record {
+      few = term-fits r v (constant bits) (g .few);
+      long = term-long r v (constant bits) (g .long);
+      are = λ left there.
+          let (more, behind, same) = g .are left there in
+          let (fewer, is, next) = next-command t more behind in (
+            fewer,
+            next,
+            term-read r v (constant bits) (termsOf fewer) (g .long)
+                ∙ ap (λ (z : List Command). take termRoom (termsIs (r .count) (r .places) ++ termsOf z)) (sym (is ∙ ap (λ (d : Command). d ∷ fewer) (sym e)))
+                ∙ same,
+          );
+    }
+
+-- ---- effects
+all-set : {A : Type 0} (P : A → Type 0) (xs : List A) (i : ℕ) (x : A) → P x → All P xs → All P (set xs i x)
+all-set P [] i x p a = tt
+all-set P (y ∷ xs) zero x p (q, qs) = (p, qs)
+all-set P (y ∷ xs) (suc i) x p (q, qs) = (q, all-set P xs i x p qs)
+
+abbrev Few : NumericEffect → Type 0
+Few e = e .«term_count» ≤ termRoom
+
+module _ (s : List ℕ) (behind : ℕ) (n : Effects) where
+  -- a command that gives an effect
+  pub effect-taken : (e : DecodedEffect) (ts : Terms) (c : Command) → length (n .places) ≡ effectRoom → ts .count ≤ termRoom
+      → ((left : List Command) → CommandsLeft s behind left → numericIs (numericEffect e ts) ∷ [] ≡ map fittingEffect (effectIn c (termsOf left)))
+      → EffectTaken s behind n c (withEffect n (numericEffect e ts))
+  effect-taken e ts c long short is = record {
+    few = count (ltb (n .count) effectRoom) refl;
+    termsFew = terms (ltb (n .count) effectRoom);
+    are = λ few left there.
+        by (ltb (n .count) effectRoom) refl ∙ ap (λ (z : List Effect). take effectRoom (effectsIs n ++ z)) (is left there);
+  }
+    where
+      x : NumericEffect
+      x = numericEffect e ts
+
+      more : Effects
+      more = record { count = n .count + 1; places = set (n .places) (n .count) x }
+
+      count : (t : Bool) → ltb (n .count) effectRoom ≡ t → n .count ≤ effectRoom → cond t more n .count ≤ effectRoom
+      count true q h = omega (arith, ltb-true (n .count) effectRoom q)
+      count false q h = h
+
+      terms : (t : Bool) → FewTerms n → FewTerms (cond t more n)
+      terms true a = all-set Few (n .places) (n .count) x short a
+      terms false a = a
+
+      by : (t : Bool) → ltb (n .count) effectRoom ≡ t → effectsIs (cond t more n) ≡ take effectRoom (effectsIs n ++ (numericIs x ∷ []))
+      by true q =
+          let room = ltb-true (n .count) effectRoom q in
+          let l : length (effectsIs n ++ (numericIs x ∷ [])) ≤ effectRoom =
+          omega (arith, length-append (effectsIs n) (numericIs x ∷ []), length-map (take (n .count) (n .places)) numericIs, length-take (n .count) (n .places)) in
+          stored numericIs effectRoom (n .places) (n .count) x long room ∙ sym (take-all effectRoom (effectsIs n ++ (numericIs x ∷ [])) l)
+      by false q = sym (filled numericIs effectRoom (n .places) (n .count) x long (ltb-false (n .count) effectRoom q) (numericIs x ∷ []))
+
+  -- a command that gives none
+  pub effect-stays : (c : Command) → ((terms : List (ℕ × ℤ)) → effectIn c terms ≡ []) → EffectTaken s behind n c n
+  effect-stays c none = record {
+    few = λ h. h;
+    termsFew = λ h. h;
+    are = λ few left there.
+        whole effectRoom (effectsIs n) (taken-few numericIs (n .count) (n .places) effectRoom few)
+        ∙ ap (λ (z : List Effect). take effectRoom (effectsIs n ++ map fittingEffect z)) (sym (none (termsOf left)));
+  }
+
+-- the effects of a command and those behind it
+effects-behind : (c : Command) (cs : List Command) → effectsOf (c ∷ cs) ≡ effectIn c (termsOf cs) ++ effectsOf cs
+effects-behind (Variable a b d) cs = refl
+effects-behind (Start a) cs = refl
+effects-behind (Mode a b) cs = refl
+effects-behind Action cs = refl
+effects-behind (Condition a b d) cs = refl
+effects-behind (ModeCondition a b) cs = refl
+effects-behind (ModeEffect a b) cs = refl
+effects-behind (Add a b) cs = refl
+effects-behind (Linear a b) cs = refl
+effects-behind (Term a b) cs = refl
+effects-behind (Quotient a b d) cs = refl
+effects-behind (Residue a b d) cs = refl
+effects-behind Goal cs = refl
+effects-behind End cs = refl
+effects-behind (Refused a) cs = refl
+
+-- an A or G is no T: the T's that are left are those left of the action
+terms-inside : (cs : List Command) → termsOf cs ≡ termsOf (upTo cs)
+terms-inside [] = refl
+terms-inside (Variable a b d ∷ cs) = refl
+terms-inside (Start a ∷ cs) = refl
+terms-inside (Mode a b ∷ cs) = refl
+terms-inside (Action ∷ cs) = refl
+terms-inside (Condition a b d ∷ cs) = refl
+terms-inside (ModeCondition a b ∷ cs) = refl
+terms-inside (ModeEffect a b ∷ cs) = refl
+terms-inside (Add a b ∷ cs) = refl
+terms-inside (Linear a b ∷ cs) = refl
+terms-inside (Term a b ∷ cs) = ap (λ (z : List (ℕ × ℤ)). (a, constant b) ∷ z) (terms-inside cs)
+terms-inside (Quotient a b d ∷ cs) = refl
+terms-inside (Residue a b d ∷ cs) = refl
+terms-inside (Goal ∷ cs) = refl
+terms-inside (End ∷ cs) = refl
+terms-inside (Refused a ∷ cs) = refl
+
+-- the effects taken, with those that `rest` gives, are the action's
+pub record EffectsFrom (s : List ℕ) (n : Effects) (rest : List Command) : Type 0 where
+  pub few : n .count ≤ effectRoom
+  pub termsFew : FewTerms n
+  pub are : take effectRoom (effectsIs n ++ map fittingEffect (effectsOf rest)) ≡ take effectRoom (map fittingEffect (effectsOf (decodeAction s)))
+
+-- before the command at an offset
+abbrev pub EffectsLeft : List ℕ → ℕ → Effects → Type 0
+EffectsLeft s at n = Left s at (EffectsFrom s n)
+
+pub effects-begin : (s : List ℕ) → EffectsLeft s (bodyStart s) noEffects
+effects-begin s = left-begin s (EffectsFrom s noEffects)
+    (record { few = omega arith; termsFew = (omega arith, (omega arith, (omega arith, tt))); are = refl })
+
+pub effects-end : {s : List ℕ} {at : ℕ} {n : Effects} → EffectsLeft s at n → length s ≤ at → EffectsRead (decodeAction s) n
+effects-end {s} {at} {n} g h =
+    let p = left-end (EffectsFrom s n) g h in
+    record {
+      few = p .few;
+      termsFew = p .termsFew;
+      are = whole effectRoom (effectsIs n) (taken-few numericIs (n .count) (n .places) effectRoom (p .few)) ∙ p .are;
+    }
+
+module _ {s : List ℕ} {at : ℕ} {n : Effects} {rest : List ℕ} {size : ℕ} (t : Turn s at rest size) (g : EffectsLeft s at n) where
+  pub effects-edge : OneOf (letterA ∷ letterG ∷ []) (getD rest 0 0) → EffectsLeft s (length s) n
+  effects-edge = left-edge t (EffectsFrom s n) g
+
+  turn : {r : Effects} → isEdge (commandAt rest) ≡ false → EffectTaken s (at + size) n (commandAt rest) r → EffectsLeft s (at + size) r
+  turn {r} inside taken = left-next t (EffectsFrom s n) g inside (EffectsFrom s r) (λ more behind p. record {
+    few = taken .few (p .few);
+    termsFew = taken .termsFew (p .termsFew);
+    are =
+        let own : List Effect = map fittingEffect (effectIn (commandAt rest) (termsOf more)) in
+        let later : List Effect = map fittingEffect (effectsOf (upTo more)) in
+        let split : map fittingEffect (effectsOf (commandAt rest ∷ upTo more)) ≡ own ++ later =
+        ap (map fittingEffect) (effects-behind (commandAt rest) (upTo more)
+        ∙ ap (λ (z : List (ℕ × ℤ)). effectIn (commandAt rest) z ++ effectsOf (upTo more)) (sym (terms-inside more)))
+        ∙ map-append fittingEffect (effectIn (commandAt rest) (termsOf more)) (effectsOf (upTo more)) in
+        ap (λ (z : List Effect). take effectRoom (z ++ later)) (taken .are (p .few) more behind)
+        ∙ front-enough effectRoom (effectsIs n ++ own) later
+        ∙ ap (take effectRoom) (append-assoc (effectsIs n) own later)
+        ∙ ap (λ (z : List Effect). take effectRoom (effectsIs n ++ z)) (sym split)
+        ∙ p .are;
+  })
+
+  -- a C, E, P or T gives none
+  plain : (i : ℕ) → i < rows → getD rest 0 0 ≡ rowAt i .byte → isEdge (readRow rest i) ≡ false → ((terms : List (ℕ × ℤ)) → effectIn (readRow rest i) terms ≡ [])
+      → EffectsLeft s (at + size) n
+  plain i few b inside none =
+      let there = some t (EffectsFrom s n) g in
+      turn (of-row rest i few there b (λ (c : Command). isEdge c ≡ false) inside refl)
+      (effect-stays s (at + size) n (commandAt rest)
+      (of-row rest i few there b (λ (c : Command). (terms : List (ℕ × ℤ)) → effectIn c terms ≡ []) none (λ terms. refl)))
+
+  pub effects-pass : OneOf (letterC ∷ letterE ∷ letterP ∷ letterT ∷ []) (getD rest 0 0) → EffectsLeft s (at + size) n
+  effects-pass (inl b) = plain 4 (lit< tt) b refl (λ terms. refl)
+  effects-pass (inr (inl b)) = plain 6 (lit< tt) b refl (λ terms. refl)
+  effects-pass (inr (inr (inl b))) = plain 5 (lit< tt) b refl (λ terms. refl)
+  effects-pass (inr (inr (inr b))) = plain 9 (lit< tt) b refl (λ terms. refl)
+
+  -- any other command
+  pub effects-next : {r : Effects} → (OneOf (letterA ∷ letterG ∷ []) (getD rest 0 0) → ⊥) → EffectTaken s (at + size) n (commandAt rest) r → EffectsLeft s (at + size) r
+  effects-next noEdge taken = turn (other-inside (getD rest 0 0) (commandAt rest) (byte-read rest) (λ b. noEdge (inl b)) (λ b. noEdge (inr b))) taken

@@ -1,58 +1,87 @@
--- The numeric part of a source action while its commands are read.
+-- The numeric effects of a source action while its commands are read: as many as there is room for, an L with the T's directly behind it.
 -- Assumes nothing.
 use mathlib.Core.Path.{_≡_}
 use Prim.Native.Nat.{ℕ, _+_, _≤_}
 use mathlib.Core.Bool.{cond}
-use mathlib.Core.List.{List, _∷_, _++_}
+use mathlib.Core.List.{List, [], _∷_, _++_, map}
 use lib.Dec.{ltb}
 use lib.IntN.{ℤ, pos}
 use lib.ListN.{take, set, replicate}
+use Rattle.integers.specs.All.{All}
 use Rattle.commands.specs.declared.Command.{Command}
+use Rattle.commands.specs.declared.Command.the-variants.{Variable, Start, Mode, Action, Condition, ModeCondition, ModeEffect, Add as AddCommand}
+use Rattle.commands.specs.declared.Command.the-variants.{Linear as LinearCommand, Term as TermCommand, Quotient as QuotientCommand}
+use Rattle.commands.specs.declared.Command.the-variants.{Residue as ResidueCommand, Goal, End, Refused}
 use Rattle.model.specs.Tasks.{Effect, addEffect, linearEffect, quotientEffect, residueEffect}
-use Rattle.model.specs.Decoding.{effectOf, termsOf}
+use Rattle.model.specs.Rules.{constant}
+use Rattle.model.specs.Decoding.{effectsOf, termsOf}
 use Rattle.file_actions.specs.declared.Term.{Term}
+use Rattle.file_actions.specs.declared.Terms.{Terms}
 use Rattle.file_actions.specs.declared.Effect.{Effect as DecodedEffect}
-use Rattle.file_actions.specs.declared.Effect.the-variants.{None, Add, Linear, Quotient, Residue}
-use Rattle.file_actions.specs.declared.Numeric.{Numeric}
-use Rattle.file_actions.specs.Views.{termRoom, termsIs, fittingEffect}
+use Rattle.file_actions.specs.declared.Effect.the-variants.{None}
+use Rattle.file_actions.specs.declared.NumericEffect.{NumericEffect}
+use Rattle.file_actions.specs.declared.Effects.{Effects}
+use Rattle.file_actions.specs.Taking.{CommandsLeft}
+use Rattle.file_actions.specs.Views.{effectRoom, termRoom, termsIs, effectsIs, fittingEffect}
 
+-- ---- terms
 abbrev pub term : ℕ → ℤ → Term
 term v w = record { variable = v; weight = w }
 
-abbrev pub nothing : Numeric
-nothing = record { effect = None; «term_count» = 0; terms = replicate termRoom (term 0 (pos 0)) }
-
--- a choice by whether there is an effect
-abbrev pub ifNone : {A : Type 0} → DecodedEffect → A → A → A
-ifNone None x y = x
-ifNone (Add t c) x y = y
-ifNone (Linear t w) x y = y
-ifNone (Quotient t o c) x y = y
-ifNone (Residue t o c) x y = y
-
--- the first effect stands
-abbrev pub withEffect : Numeric → DecodedEffect → Numeric
-withEffect n e = ifNone (n .effect) (record { effect = e; «term_count» = 0; terms = n .terms }) n
+abbrev pub noTerms : Terms
+noTerms = record { count = 0; places = replicate termRoom (term 0 (pos 0)) }
 
 -- a term behind the others, where there is room
-abbrev pub withTerm : Numeric → ℕ → ℤ → Numeric
-withTerm n v w =
-    cond (ltb (n .«term_count») termRoom)
-    (record { effect = n .effect; «term_count» = n .«term_count» + 1; terms = set (n .terms) (n .«term_count») (term v w) })
-    n
+abbrev pub withTerm : Terms → ℕ → ℤ → Terms
+withTerm ts v w = cond (ltb (ts .count) termRoom) (record { count = ts .count + 1; places = set (ts .places) (ts .count) (term v w) }) ts
 
--- the effect of an action of which this is taken, and `effect` and `terms` are those of the commands that are left
-abbrev pub effectFrom : DecodedEffect → List (ℕ × ℤ) → Effect → List (ℕ × ℤ) → Effect
-effectFrom None passed effect terms = fittingEffect effect
-effectFrom (Add t c) passed effect terms = addEffect t c
-effectFrom (Linear t w) passed effect terms = linearEffect t w (take termRoom (passed ++ terms))
-effectFrom (Quotient t o c) passed effect terms = quotientEffect t o c
-effectFrom (Residue t o c) passed effect terms = residueEffect t o c
+-- the T's that stand from an offset on, as many as there is room for
+pub record TermsRead (s : List ℕ) (at : ℕ) (r : Terms) : Type 0 where
+  pub few : r .count ≤ termRoom
+  pub are : (left : List Command) → CommandsLeft s at left → termsIs (r .count) (r .places) ≡ take termRoom (termsOf left)
 
-abbrev pub effectWith : Numeric → Effect → List (ℕ × ℤ) → Effect
-effectWith n effect terms = effectFrom (n .effect) (termsIs (n .«term_count») (n .terms)) effect terms
+-- ---- effects
+abbrev pub numericEffect : DecodedEffect → Terms → NumericEffect
+numericEffect e ts = record { effect = e; «term_count» = ts .count; terms = ts .places }
 
--- r is n with what a command adds: whatever follows, the action's effect is the same; and there are no more terms than there is room for
-pub record EffectTaken (n : Numeric) (c : Command) (r : Numeric) : Type 0 where
-  pub few : n .«term_count» ≤ termRoom → r .«term_count» ≤ termRoom
-  pub same : (cs : List Command) → effectWith r (effectOf cs) (termsOf cs) ≡ effectWith n (effectOf (c ∷ cs)) (termsOf (c ∷ cs))
+abbrev pub noEffects : Effects
+noEffects = record { count = 0; places = replicate effectRoom (numericEffect None noTerms) }
+
+-- an effect behind the others, where there is room
+abbrev pub withEffect : Effects → NumericEffect → Effects
+withEffect r e = cond (ltb (r .count) effectRoom) (record { count = r .count + 1; places = set (r .places) (r .count) e }) r
+
+-- the effect that a command gives, an L with these terms
+abbrev pub effectIn : Command → List (ℕ × ℤ) → List Effect
+effectIn (AddCommand t k) terms = addEffect t (constant k) ∷ []
+effectIn (LinearCommand t k) terms = linearEffect t (constant k) terms ∷ []
+effectIn (QuotientCommand t y k) terms = quotientEffect t y (constant k) ∷ []
+effectIn (ResidueCommand t y k) terms = residueEffect t y (constant k) ∷ []
+effectIn (TermCommand v k) terms = []
+effectIn (Variable lower upper start) terms = []
+effectIn (Start start) terms = []
+effectIn (Mode size start) terms = []
+effectIn Action terms = []
+effectIn (Condition v r k) terms = []
+effectIn (ModeCondition m x) terms = []
+effectIn (ModeEffect m x) terms = []
+effectIn Goal terms = []
+effectIn End terms = []
+effectIn (Refused number) terms = []
+
+-- none has more terms than there is room for
+abbrev pub FewTerms : Effects → Type 0
+FewTerms r = All (λ (e : NumericEffect). e .«term_count» ≤ termRoom) (r .places)
+
+-- r is n with the effect that a command gives, behind which the commands from an offset on stand
+pub record EffectTaken (s : List ℕ) (behind : ℕ) (n : Effects) (c : Command) (r : Effects) : Type 0 where
+  pub few : n .count ≤ effectRoom → r .count ≤ effectRoom
+  pub termsFew : FewTerms n → FewTerms r
+  pub are : n .count ≤ effectRoom → (left : List Command) → CommandsLeft s behind left
+      → effectsIs r ≡ take effectRoom (effectsIs n ++ map fittingEffect (effectIn c (termsOf left)))
+
+-- r are the effects of the commands
+pub record EffectsRead (cs : List Command) (r : Effects) : Type 0 where
+  pub few : r .count ≤ effectRoom
+  pub termsFew : FewTerms r
+  pub are : effectsIs r ≡ take effectRoom (map fittingEffect (effectsOf cs))

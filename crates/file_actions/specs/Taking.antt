@@ -1,19 +1,25 @@
--- What is taken of the commands of an action into a parts row, and what is numeric of them: as much as there is room for.
+-- The commands of an action one by one, and what is taken of them into a parts row: as much as there is room for.
 -- Assumes nothing.
 use mathlib.Core.Path.{_≡_}
-use Prim.Native.Nat.{ℕ, _≤_}
-use mathlib.Core.Bool.{Bool, false, cond}
+use Prim.Native.Nat.{ℕ, _+_, _<_}
+use mathlib.Core.Bool.{Bool, cond}
 use mathlib.Core.List.{List, [], _∷_, _++_}
 use lib.IntN.{ℤ}
+use lib.ListN.{length, drop}
 use Rattle.commands.specs.declared.Command.{Command}
-use Rattle.model.specs.Tasks.{noEffect, RestrictedAction}
-use Rattle.model.specs.Decoding.{conditionsOf, modeConditionsOf, modeEffectsOf, additionsOf, effectOf}
+use Rattle.model.specs.Tasks.{RestrictedAction}
+use Rattle.model.specs.Decoding.{conditionsOf, modeConditionsOf, modeEffectsOf, additionsOf}
+use Rattle.model.specs.ActionBytes.{commandsIn}
 use Rattle.file_parts.specs.Row.{Says}
-use Rattle.file_actions.specs.declared.Numeric.{Numeric}
-use Rattle.file_actions.specs.Views.{termRoom, fittingEffect, fittingRestricted}
-use Rattle.file_actions.specs.Numeric.{effectWith}
+use Rattle.file_actions.specs.Views.{fittingRestricted}
 
--- the parts that commands give: C, P and E of either kind of action; a + is a part of a restricted one, and the effect of a source one
+-- `left` are the commands from an offset on
+pub record CommandsLeft (s : List ℕ) (at : ℕ) (left : List Command) : Type 0 where
+  pub most : ℕ
+  pub enough : length s < most + at
+  pub are : left ≡ commandsIn most (drop at s)
+
+-- the parts that commands give: C, P and E of either kind of action; a + is a part of a restricted one, and an effect of a source one
 abbrev pub partsOf : Bool → List Command → RestrictedAction
 partsOf restricted cs = record {
   modeConditions = modeConditionsOf cs;
@@ -27,9 +33,3 @@ abbrev pub Takes : (restricted : Bool) (c : Command) (marks : List ℕ) (numbers
 Takes restricted c marks numbers marks′ numbers′ =
     (passed : List Command) → Says (fittingRestricted (partsOf restricted passed)) marks numbers
     → Says (fittingRestricted (partsOf restricted (passed ++ (c ∷ [])))) marks′ numbers′
-
--- of all commands: rows that say their parts, and r the effect of those of a source action
-pub record Gathered (restricted : Bool) (cs : List Command) (marks : List ℕ) (numbers : List ℤ) (r : Numeric) : Type 0 where
-  pub parts : Says (fittingRestricted (partsOf restricted cs)) marks numbers
-  pub effect : restricted ≡ false → effectWith r noEffect [] ≡ fittingEffect (effectOf cs)
-  pub few : r .«term_count» ≤ termRoom

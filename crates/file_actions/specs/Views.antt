@@ -3,9 +3,10 @@
 use mathlib.Core.Path.{_≡_}
 use Prim.Native.Nat.{ℕ, _≤_}
 use mathlib.Core.List.{List, map}
+use Rattle.integers.specs.All.{All}
 use lib.ListN.{take}
-use lib.IntN.{ℤ}
-use Rattle.model.specs.Tasks.{Effect, noEffect, addEffect, linearEffect, quotientEffect, residueEffect, SourceAction, RestrictedAction}
+use lib.IntN.{ℤ, pos}
+use Rattle.model.specs.Tasks.{Effect, addEffect, linearEffect, quotientEffect, residueEffect, SourceAction, RestrictedAction}
 use Rattle.model.specs.Limits.{sourceLimits}
 use Rattle.file_parts.specs.Layout.{conditionRoom, modeConditionRoom, modeEffectRoom, additionRoom}
 use Rattle.file_parts.specs.Row.{conditionsIn, modeConditionsIn, modeEffectsIn, Says}
@@ -13,9 +14,13 @@ use Rattle.file_parts.specs.With.{sourcePart}
 use Rattle.file_actions.specs.declared.Term.{Term}
 use Rattle.file_actions.specs.declared.Effect.{Effect as DecodedEffect}
 use Rattle.file_actions.specs.declared.Effect.the-variants.{None, Add, Linear, Quotient, Residue}
-use Rattle.file_actions.specs.declared.SourceAction.{SourceAction as DecodedSource}
+use Rattle.file_actions.specs.declared.NumericEffect.{NumericEffect}
+use Rattle.file_actions.specs.declared.Effects.{Effects}
 
--- for how many terms there is room; for the other parts see file_parts, specs/Layout
+-- for how many effects there is room, and for how many terms of each; for the other parts see file_parts, specs/Layout
+abbrev pub effectRoom : ℕ
+effectRoom = sourceLimits .numericEffects
+
 abbrev pub termRoom : ℕ
 termRoom = sourceLimits .terms
 
@@ -26,26 +31,32 @@ termIs t = (t .variable, t .weight)
 abbrev pub termsIs : ℕ → List Term → List (ℕ × ℤ)
 termsIs n terms = map termIs (take n terms)
 
--- an effect, with the terms that stand beside it
+-- an effect, with the terms that stand beside it. A place that holds none would add 0, which no command of an accepted file does
 abbrev pub effectIs : DecodedEffect → List (ℕ × ℤ) → Effect
-effectIs None terms = noEffect
+effectIs None terms = addEffect 0 (pos 0)
 effectIs (Add target c) terms = addEffect target c
 effectIs (Linear target w) terms = linearEffect target w terms
 effectIs (Quotient target operand c) terms = quotientEffect target operand c
 effectIs (Residue target operand c) terms = residueEffect target operand c
 
--- a source action: its parts row, and its effect
-abbrev pub sourceActionIs : DecodedSource → SourceAction
-sourceActionIs r = record {
-  modeConditions = modeConditionsIn (r .marks);
-  conditions = conditionsIn (r .marks) (r .numbers);
-  modeEffects = modeEffectsIn (r .marks);
-  effect = effectIs (r .effect) (termsIs (r .«term_count») (r .terms));
+abbrev pub numericIs : NumericEffect → Effect
+numericIs e = effectIs (e .effect) (termsIs (e .«term_count») (e .terms))
+
+-- the first so many of the places are effects
+abbrev pub effectsIs : Effects → List Effect
+effectsIs r = map numericIs (take (r .count) (r .places))
+
+-- a source action: its parts row, and its effects
+abbrev pub sourceActionIs : List ℕ → List ℤ → Effects → SourceAction
+sourceActionIs marks numbers r = record {
+  modeConditions = modeConditionsIn marks;
+  conditions = conditionsIn marks numbers;
+  modeEffects = modeEffectsIn marks;
+  effects = effectsIs r;
 }
 
 -- as much of an action as there is room for
 abbrev pub fittingEffect : Effect → Effect
-fittingEffect noEffect = noEffect
 fittingEffect (addEffect target c) = addEffect target c
 fittingEffect (linearEffect target w terms) = linearEffect target w (take termRoom terms)
 fittingEffect (quotientEffect target operand c) = quotientEffect target operand c
@@ -56,7 +67,7 @@ fittingSource a = record {
   modeConditions = take modeConditionRoom (a .modeConditions);
   conditions = take conditionRoom (a .conditions);
   modeEffects = take modeEffectRoom (a .modeEffects);
-  effect = fittingEffect (a .effect);
+  effects = take effectRoom (map fittingEffect (a .effects));
 }
 
 abbrev pub fittingRestricted : RestrictedAction → RestrictedAction
@@ -67,8 +78,9 @@ fittingRestricted a = record {
   additions = take additionRoom (a .additions);
 }
 
--- r says the source action a, and has no +
-pub record SourceDecoded (a : SourceAction) (r : DecodedSource) : Type 0 where
-  pub parts : Says (sourcePart a) (r .marks) (r .numbers)
-  pub effect : effectIs (r .effect) (termsIs (r .«term_count») (r .terms)) ≡ a .effect
-  pub few : r .«term_count» ≤ termRoom
+-- rows and effects say the source action a; the row has no +
+pub record SourceDecoded (a : SourceAction) (marks : List ℕ) (numbers : List ℤ) (r : Effects) : Type 0 where
+  pub parts : Says (sourcePart a) marks numbers
+  pub effects : effectsIs r ≡ a .effects
+  pub few : r .count ≤ effectRoom
+  pub termsFew : All (λ (e : NumericEffect). e .«term_count» ≤ termRoom) (r .places)

@@ -4,13 +4,15 @@ use Prim.Native.Nat.{ℕ, _+_, _≤_, _<_}
 use mathlib.Core.List.{List}
 use lib.IntN.{ℤ, natAbs}
 use lib.ListN.{length}
+use Rattle.integers.specs.All.{All}
 use Rattle.model.specs.Steps.{integerAt, naturalAt}
 use Rattle.model.specs.Limits.{Limits}
-use Rattle.model.specs.TaskOk.{EffectOk}
+use Rattle.model.specs.InTask.{targets}
+use Rattle.model.specs.TaskOk.{Distinct, EffectOk}
 use Rattle.file_parts.specs.Layout.{conditionCount, conditionVariable, modeConditionCount, modeConditionMode, modeConditionValue}
 use Rattle.file_parts.specs.Layout.{modeEffectCount, modeEffectMode, modeEffectValue, additionCount, additionVariable, additionAmount}
-use Rattle.file_actions.specs.declared.SourceAction.{SourceAction}
-use Rattle.file_actions.specs.Views.{effectIs, termsIs}
+use Rattle.file_actions.specs.declared.Effects.{Effects}
+use Rattle.file_actions.specs.Views.{effectsIs}
 
 -- the conditions of a parts row, in a task of n variables
 pub record ConditionsWithin (l : Limits) (n : ℕ) (marks : List ℕ) (numbers : List ℤ) : Type 0 where
@@ -26,7 +28,7 @@ pub record ModesWithin (most : ℕ) (sizes : List ℕ) (count mode value : ℕ) 
 
 -- its additions
 pub record AdditionsWithin (l : Limits) (n : ℕ) (marks : List ℕ) (numbers : List ℤ) : Type 0 where
-  pub few : naturalAt marks additionCount ≤ l .additions
+  pub few : naturalAt marks additionCount ≤ l .numericEffects
   pub declared : (i : ℕ) → i < naturalAt marks additionCount → naturalAt marks (additionVariable + i) < n
   pub notZero : (i : ℕ) → i < naturalAt marks additionCount → 1 ≤ natAbs (integerAt numbers (additionAmount + i))
   pub inRange : (i : ℕ) → i < naturalAt marks additionCount → natAbs (integerAt numbers (additionAmount + i)) ≤ l .constant
@@ -38,6 +40,9 @@ pub record RowWithin (l : Limits) (n : ℕ) (sizes : List ℕ) (marks : List ℕ
   pub modeEffects : ModesWithin (length sizes) sizes modeEffectCount modeEffectMode modeEffectValue marks
   pub additions : AdditionsWithin l n marks numbers
 
-pub record SourceWithin (l : Limits) (n : ℕ) (sizes : List ℕ) (a : SourceAction) : Type 0 where
-  pub row : RowWithin l n sizes (a .marks) (a .numbers)
-  pub effect : EffectOk l n (effectIs (a .effect) (termsIs (a .«term_count») (a .terms)))
+-- the row and the effects of a source action
+pub record SourceWithin (l : Limits) (n : ℕ) (sizes : List ℕ) (marks : List ℕ) (numbers : List ℤ) (r : Effects) : Type 0 where
+  pub row : RowWithin l n sizes marks numbers
+  pub few : r .count ≤ l .numericEffects
+  pub effects : All (EffectOk l n) (effectsIs r)
+  pub targetsOnce : Distinct (targets (effectsIs r))

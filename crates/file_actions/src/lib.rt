@@ -30,11 +30,13 @@ ghost use Rattle.file_parts.specs.Layout.{MARKS, NUMBERS};
 ghost use Rattle.file_parts.specs.Row.{PartsFit, Says};
 ghost use Rattle.file_check.specs.Views.{verdictIs};
 ghost use Rattle.file_actions.specs.Places.{edgesOf, Found, bodyStart, partOf, placedIs, bytesTold, stepPlace, goalFrom, goalPart};
-ghost use Rattle.file_actions.specs.Numeric.{nothing, withEffect, withTerm, EffectTaken};
-ghost use Rattle.file_actions.specs.Taking.{Takes, Gathered};
+ghost use Rattle.file_actions.specs.Numeric.{noTerms, withTerm, TermsRead, noEffects, numericEffect, withEffect, EffectTaken, EffectsRead};
+ghost use Rattle.file_actions.specs.Taking.{partsOf, Takes};
 ghost use Rattle.file_actions.specs.Views.{SourceDecoded, fittingSource, fittingRestricted};
 
-// Room for the T of a source action.
+// Room for the numeric effects of a source action, and for the T of each.
+pub const EFFECTS: usize = 3;
+
 pub const TERMS: usize = 4;
 
 // A T: a variable and its weight.
@@ -43,7 +45,8 @@ pub struct Term {
     pub weight: i64,
 }
 
-// The numeric effect of a source action: + (target, c), L (target, w0, its terms standing beside it), Q and R (target, operand, c).
+// A numeric effect of a source action: + (target, c), L (target, w0, its terms standing beside it), Q and R (target, operand, c). None fills the
+// places past the last.
 pub enum Effect {
     None,
     Add(u8, i64),
@@ -52,14 +55,18 @@ pub enum Effect {
     Residue(u8, u8, i64),
 }
 
-// A source action by value: its C, P and E as a parts row, which has no +, and its numeric effect beside it. The first `term_count` terms count
-// where the effect is linear.
-pub struct SourceAction {
-    pub marks: [u16; MARKS],
-    pub numbers: [i64; NUMBERS],
+// An effect with its terms: the first `term_count` of them count where the effect is linear.
+pub struct NumericEffect {
     pub effect: Effect,
     pub term_count: usize,
     pub terms: [Term; TERMS],
+}
+
+// The numeric effects of a source action: the first `count` places, in the order of the file. Its C, P and E stand beside them, as a parts row that
+// has no +.
+pub struct Effects {
+    pub count: usize,
+    pub places: [NumericEffect; EFFECTS],
 }
 
 // From an offset on, the offset of the one of the commands A and, last, G before which so many of them stand; the file's length where there
@@ -320,112 +327,17 @@ fn body_start(bytes: &[u8]) -> usize
     commands::size_of(bytes[0])
 }
 
-// The numeric part of a source action, as far as its commands are taken.
-struct Numeric {
-    effect: Effect,
-    term_count: usize,
-    terms: [Term; TERMS],
-}
-
-fn no_effect() -> Numeric
-    ensures { λ r. ⌜ r ≡ nothing ⌝ }
-{
-    let term = Term {
-        variable: 0,
-        weight: 0,
-    };
-    let terms = [term; TERMS];
-    Numeric {
-        effect: Effect::None,
-        term_count: 0,
-        terms,
-    }
-}
-
-// An effect, unless there is one already; its terms are still to come.
-fn with_effect(numeric: Numeric, effect: Effect) -> Numeric
-    ensures { λ r. ⌜ r ≡ withEffect numeric effect ⌝ }
-{
-    let first = numeric.effect;
-    match first {
-        Effect::None => {
-            let terms = numeric.terms;
-            Numeric {
-                effect,
-                term_count: 0,
-                terms,
-            }
-        }
-        Effect::Add(_, _) => numeric,
-        Effect::Linear(_, _) => numeric,
-        Effect::Quotient(_, _, _) => numeric,
-        Effect::Residue(_, _, _) => numeric,
-    }
-}
-
-// A term behind the others, where there is room.
-fn with_term(numeric: Numeric, variable: u8, bits: u32) -> Numeric
-    ensures { λ r. ⌜ r ≡ withTerm numeric variable (constant bits) ⌝ }
-{
-    let weight = integers::signed(bits);
-    let count = numeric.term_count;
-    if count < TERMS {
-        let mut more = numeric;
-        more.terms[count] = Term { variable, weight };
-        more.term_count = count + 1;
-        return more;
-    }
-    numeric
-}
-
-// What a command adds to the numeric part.
-fn with_numeric(numeric: Numeric, command: Command) -> Numeric
-    ensures { λ r. ⌜ EffectTaken numeric command r ⌝ }
-{
-    match command {
-        Command::Add(target, bits) => with_effect(
-            numeric,
-            Effect::Add(target, integers::signed(bits)),
-        ),
-        Command::Linear(target, bits) => with_effect(
-            numeric,
-            Effect::Linear(target, integers::signed(bits)),
-        ),
-        Command::Term(variable, bits) => with_term(numeric, variable, bits),
-        Command::Quotient(target, operand, bits) => with_effect(
-            numeric,
-            Effect::Quotient(target, operand, integers::signed(bits)),
-        ),
-        Command::Residue(target, operand, bits) => with_effect(
-            numeric,
-            Effect::Residue(target, operand, integers::signed(bits)),
-        ),
-        Command::Variable(_, _, _) => numeric,
-        Command::Start(_) => numeric,
-        Command::Mode(_, _) => numeric,
-        Command::Action => numeric,
-        Command::Condition(_, _, _) => numeric,
-        Command::ModeCondition(_, _) => numeric,
-        Command::ModeEffect(_, _) => numeric,
-        Command::Goal => numeric,
-        Command::End => numeric,
-        Command::Refused(_) => numeric,
-    }
-}
-
-// The commands of an action or goal, taken one by one up to the next A or G into rows that are blanked first: C, P and E of either kind, the +
-// of a restricted action. What is numeric of a source action is handed back.
-fn gather(
+// The C, P and E of an action or goal, and the + of a restricted action, taken one by one up to the next A or G into rows that are blanked first.
+fn gather_parts(
     bytes: &[u8],
     restricted: bool,
     marks: &mut [u16; MARKS],
     numbers: &mut [i64; NUMBERS],
-) -> Numeric
+)
     requires { ⌜ (length (now marks) ≡ MARKS) × (length (now numbers) ≡ NUMBERS) ⌝ }
-    ensures { λ r. ⌜ Gathered restricted (decodeAction (now (bytes .entry))) (now (marks .exit)) (now (numbers .exit)) r ⌝ }
+    ensures { λ _. ⌜ Says (fittingRestricted (partsOf restricted (decodeAction (now (bytes .entry))))) (now (marks .exit)) (now (numbers .exit)) ⌝ }
 {
     file_parts::blank(marks);
-    let mut numeric = no_effect();
     let mut at = body_start(bytes);
     while at < bytes.len() {
         let rest = &bytes[at..];
@@ -438,15 +350,153 @@ fn gather(
             b'+' => {
                 if restricted {
                     take_addition(rest, marks, numbers);
-                } else {
-                    numeric = with_numeric(numeric, commands::read_add(rest));
                 }
             }
             b'A' | b'G' => at = bytes.len(),
-            _ => numeric = with_numeric(numeric, commands::read(rest)),
+            _ => {}
         }
     }
-    numeric
+}
+
+// The T of an L: the first `count` places.
+struct Terms {
+    count: usize,
+    places: [Term; TERMS],
+}
+
+fn no_terms() -> Terms
+    ensures { λ r. ⌜ r ≡ noTerms ⌝ }
+{
+    let term = Term {
+        variable: 0,
+        weight: 0,
+    };
+    let places = [term; TERMS];
+    Terms { count: 0, places }
+}
+
+// A term behind the others, where there is room.
+fn with_term(terms: Terms, variable: u8, bits: u32) -> Terms
+    ensures { λ r. ⌜ r ≡ withTerm terms variable (constant bits) ⌝ }
+{
+    let weight = integers::signed(bits);
+    let count = terms.count;
+    if count < TERMS {
+        let mut more = terms;
+        more.places[count] = Term { variable, weight };
+        more.count = count + 1;
+        return more;
+    }
+    terms
+}
+
+// The T that stand from an offset on, up to the first command of another kind.
+fn terms_at(bytes: &[u8], from: usize) -> Terms
+    ensures { λ r. ⌜ TermsRead (now (bytes .entry)) from r ⌝ }
+{
+    let mut terms = no_terms();
+    let mut at = from;
+    while at < bytes.len() {
+        let rest = &bytes[at..];
+        at += commands::size_of(rest[0]);
+        let Command::Term(variable, bits) = commands::read(rest) else {
+            at = bytes.len();
+            continue;
+        };
+        terms = with_term(terms, variable, bits);
+    }
+    terms
+}
+
+fn no_effects() -> Effects
+    ensures { λ r. ⌜ r ≡ noEffects ⌝ }
+{
+    let none = no_terms();
+    let terms = none.places;
+    let place = NumericEffect {
+        effect: Effect::None,
+        term_count: 0,
+        terms,
+    };
+    let places = [place; EFFECTS];
+    Effects { count: 0, places }
+}
+
+// An effect behind the others, where there is room.
+fn with_effect(effects: Effects, effect: Effect, read: Terms) -> Effects
+    ensures { λ r. ⌜ r ≡ withEffect effects (numericEffect effect read) ⌝ }
+{
+    let count = effects.count;
+    if count < EFFECTS {
+        let terms = read.places;
+        let mut more = effects;
+        more.places[count] = NumericEffect {
+            effect,
+            term_count: read.count,
+            terms,
+        };
+        more.count = count + 1;
+        return more;
+    }
+    effects
+}
+
+// What a command adds to the effects; the T of an L are those that stand from an offset on.
+fn with_command(effects: Effects, command: Command, bytes: &[u8], behind: usize) -> Effects
+    ensures { λ r. ⌜ EffectTaken (now (bytes .entry)) behind effects command r ⌝ }
+{
+    match command {
+        Command::Add(target, bits) => with_effect(
+            effects,
+            Effect::Add(target, integers::signed(bits)),
+            no_terms(),
+        ),
+        Command::Linear(target, bits) => with_effect(
+            effects,
+            Effect::Linear(target, integers::signed(bits)),
+            terms_at(bytes, behind),
+        ),
+        Command::Quotient(target, operand, bits) => with_effect(
+            effects,
+            Effect::Quotient(target, operand, integers::signed(bits)),
+            no_terms(),
+        ),
+        Command::Residue(target, operand, bits) => with_effect(
+            effects,
+            Effect::Residue(target, operand, integers::signed(bits)),
+            no_terms(),
+        ),
+        Command::Variable(_, _, _) => effects,
+        Command::Start(_) => effects,
+        Command::Mode(_, _) => effects,
+        Command::Action => effects,
+        Command::Condition(_, _, _) => effects,
+        Command::ModeCondition(_, _) => effects,
+        Command::ModeEffect(_, _) => effects,
+        Command::Term(_, _) => effects,
+        Command::Goal => effects,
+        Command::End => effects,
+        Command::Refused(_) => effects,
+    }
+}
+
+// The numeric effects of a source action, taken one by one up to the next A or G.
+fn gather_effects(bytes: &[u8]) -> Effects
+    ensures { λ r. ⌜ EffectsRead (decodeAction (now (bytes .entry))) r ⌝ }
+{
+    let mut effects = no_effects();
+    let mut at = body_start(bytes);
+    while at < bytes.len() {
+        let rest = &bytes[at..];
+        let byte = rest[0];
+        at += commands::size_of(byte);
+        match byte {
+            b'C' | b'P' | b'E' | b'T' => {}
+            b'A' | b'G' => at = bytes.len(),
+            _ => effects = with_command(effects, commands::read(rest), bytes, at),
+        }
+    }
+    effects
 }
 
 // The restricted action, or the goal of a restricted file, whose bytes these are, in rows that the caller lends and that may hold anything. Of
@@ -455,24 +505,20 @@ pub fn decode_restricted(bytes: &[u8], marks: &mut [u16; MARKS], numbers: &mut [
     requires { ⌜ (length (now marks) ≡ MARKS) × (length (now numbers) ≡ NUMBERS) ⌝ }
     ensures { λ _. ⌜ Says (fittingRestricted (restrictedActionOf (decodeAction (now (bytes .entry))))) (now (marks .exit)) (now (numbers .exit)) ⌝ }
 {
-    let _numeric = gather(bytes, true, marks, numbers);
+    gather_parts(bytes, true, marks, numbers);
 }
 
-// The source action, or the goal of a source file, whose bytes these are. Of more commands than there is room for, which no accepted file has,
-// the first are taken.
-pub fn decode_source(bytes: &[u8]) -> SourceAction
-    ensures { λ r. ⌜ SourceDecoded (fittingSource (sourceActionOf (decodeAction (now (bytes .entry))))) r ⌝ }
+// The source action, or the goal of a source file, whose bytes these are: its C, P and E in rows that the caller lends and that may hold
+// anything, its effects by value. Of more commands than there is room for, which no accepted file has, the first are taken.
+pub fn decode_source(
+    bytes: &[u8],
+    marks: &mut [u16; MARKS],
+    numbers: &mut [i64; NUMBERS],
+) -> Effects
+    requires { ⌜ (length (now marks) ≡ MARKS) × (length (now numbers) ≡ NUMBERS) ⌝ }
+    ensures { λ r. ⌜ SourceDecoded (fittingSource (sourceActionOf (decodeAction (now (bytes .entry)))))
+        (now (marks .exit)) (now (numbers .exit)) r ⌝ }
 {
-    let mut marks = [0u16; MARKS];
-    let mut numbers = [0i64; NUMBERS];
-    let numeric = gather(bytes, false, &mut marks, &mut numbers);
-    let effect = numeric.effect;
-    let terms = numeric.terms;
-    SourceAction {
-        marks,
-        numbers,
-        effect,
-        term_count: numeric.term_count,
-        terms,
-    }
+    gather_parts(bytes, false, marks, numbers);
+    gather_effects(bytes)
 }

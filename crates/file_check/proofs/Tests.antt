@@ -29,7 +29,6 @@ zero-bits bits = by-half (ltb (2 * bits) (256 ^ 4)) refl
     by-half true e = refl
     by-half false e = ne-eqb bits 0 (λ z. omega (arith, ltb-false (2 * bits) (256 ^ 4) e)) ∙ sym (eqb·suc-zero (256 ^ 4 - suc bits))
 
--- a + that is not refused leaves room to count it: `restricted` says which of the two counts was tested
-pub add-counted : (restricted seen : Bool) (most n : ℕ) → cond restricted (leb most n) false ≡ false → cond restricted seen (leb 1 n) ≡ false → most < 2 ^ 32 → n + 1 < 2 ^ 32
-add-counted true seen most n over again h = omega (arith, leb-false most n over)
-add-counted false seen most n over again h = omega (arith, leb-false 1 n again)
+-- where there is room for one more, it can be counted
+pub counted : {r : Bool} (most n : ℕ) → r ≡ leb most n → r ≡ false → most < 2 ^ 32 → n + 1 < 2 ^ 32
+counted most n e h fits = omega (arith, leb-false most n (told e h))

@@ -25,21 +25,22 @@ limitsOf l = record {
   actions = l .actions;
   conditions = l .conditions;
   modeConditions = l .«mode_conditions»;
-  additions = l .additions;
+  numericEffects = l .«numeric_effects»;
   terms = l .terms;
   constant = l .constant;
   relations = l .relations;
 }
 
--- the counts, and beside them the lists that the code keeps in lent arrays: `sizes`, `modesSet` and `variablesSeen` of the state
-abbrev pub stateOf : Counts → List ℕ → List ℕ → List ℕ → ReadingState
-stateOf p sizes set seen = record {
+-- the counts, and beside them the lists that the code keeps in lent arrays: `sizes`, `modesSet`, `targetsSeen`
+-- and `termsSeen` of the state
+abbrev pub stateOf : Counts → List ℕ → List ℕ → List ℕ → List ℕ → ReadingState
+stateOf p sizes set targets terms = record {
   section = p .section;
   terms = p .terms;
   actions = p .actions;
   declared = record { variables = p .variables; modes = p .modes; sizes = sizes };
   counts = record { conditions = p .conditions; modeConditions = p .«mode_conditions»; numericEffects = p .«numeric_effects» };
-  marks = record { modesSet = set; variablesSeen = seen };
+  marks = record { modesSet = set; targetsSeen = targets; termsSeen = terms };
 }
 
 abbrev pub progressOf : Progress → ModelProgress
@@ -47,12 +48,13 @@ progressOf Going = going
 progressOf Ended = ended
 progressOf (Stopped number) = stopped number
 
-abbrev pub takenOf : Taken → List ℕ → List ℕ → List ℕ → ModelTaken
-takenOf t sizes set seen = record { state = stateOf (t .counts) sizes set seen; progress = progressOf (t .progress) }
+abbrev pub takenOf : Taken → List ℕ → List ℕ → List ℕ → List ℕ → ModelTaken
+takenOf t sizes set targets terms = record { state = stateOf (t .counts) sizes set targets terms; progress = progressOf (t .progress) }
 
 -- what comes of a command that touches none of the lists: what its rule says, whatever they hold
 abbrev pub Ruled : Taken → Limits → Counts → Command → Type 0
-Ruled t l p c = (sizes set seen : List ℕ) → takenOf t sizes set seen ≡ ruleOf (limitsOf l) (stateOf p sizes set seen) c
+Ruled t l p c =
+    (sizes set targets terms : List ℕ) → takenOf t sizes set targets terms ≡ ruleOf (limitsOf l) (stateOf p sizes set targets terms) c
 
 abbrev pub verdictIs : Verdict → ModelVerdict
 verdictIs (Accepted variables modes actions) = accepted variables modes actions

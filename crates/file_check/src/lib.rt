@@ -6,7 +6,6 @@
 // here mean in them.
 use commands::Command;
 ghost use mathlib.Core.Path.{_≡_};
-ghost use mathlib.Core.Bool.{cond, false};
 ghost use mathlib.Core.List.{List};
 ghost use Prim.Native.Nat.{ℕ, _+_, _<_, _^_};
 ghost use lib.Dec.{leb, ltb};
@@ -16,13 +15,13 @@ ghost use Rattle.commands.specs.Table.{letterV, letterU, letterM, letterC, lett
 ghost use Rattle.commands.specs.Reading.{commandAt};
 ghost use Rattle.commands.specs.declared.Command.the-variants.{Action, Goal, End, Quotient};
 ghost use Rattle.model.specs.Limits.{sourceLimits, restrictedLimits};
-ghost use Rattle.model.specs.ReadingState.{stop, goOn, opened, noModes, noVariables, begin};
+ghost use Rattle.model.specs.ReadingState.{stop, goOn, opened, withNumericEffect, noModes, noVariables, begin};
 ghost use Rattle.model.specs.Rules.{allowed, constant, isZero, ruleOf, takeOf};
 ghost use Rattle.model.specs.Reading.{refusedAt, endedAt, verdictOf};
 ghost use Rattle.file_check.specs.Views.{limitsOf, stateOf, takenOf, verdictIs, Ruled};
 
-// What a kind of file allows. `size` is of a mode; `conditions` and `mode_conditions` are C and P of an action or goal, `additions` + of a
-// restricted action, `terms` T of an L. Every constant lies within ± `constant`; `relations` is the largest relation.
+// What a kind of file allows. `size` is of a mode; `conditions` and `mode_conditions` are C and P of an action or goal, `numeric_effects`
+// of an action, which in a restricted one are its +, `terms` T of an L. Every constant lies within ± `constant`; `relations` is the largest relation.
 pub struct Limits {
     pub restricted: bool,
     pub variables: u32,
@@ -31,7 +30,7 @@ pub struct Limits {
     pub actions: u32,
     pub conditions: u32,
     pub mode_conditions: u32,
-    pub additions: u32,
+    pub numeric_effects: u32,
     pub terms: u32,
     pub constant: u32,
     pub relations: u32,
@@ -97,7 +96,7 @@ fn source_limits() -> Limits
         actions: 32,
         conditions: 8,
         mode_conditions: 8,
-        additions: 1,
+        numeric_effects: 3,
         terms: 4,
         constant: 10_000,
         relations: SOURCE_RELATIONS,
@@ -115,7 +114,7 @@ fn restricted_limits() -> Limits
         actions: 16_384,
         conditions: 24,
         mode_conditions: 16,
-        additions: 16,
+        numeric_effects: 16,
         terms: 0,
         constant: 1_000_000_000,
         relations: RESTRICTED_RELATIONS,
@@ -124,7 +123,7 @@ fn restricted_limits() -> Limits
 
 // The command is refused, and the state stays.
 fn refuse(p: Counts, number: u8) -> Taken
-    ensures { λ r. ⌜ ((sizes set seen : List ℕ) → takenOf r sizes set seen ≡ stop (stateOf p sizes set seen) number) ⌝ }
+    ensures { λ r. ⌜ ((sizes set targets terms : List ℕ) → takenOf r sizes set targets terms ≡ stop (stateOf p sizes set targets terms) number) ⌝ }
 {
     Taken {
         counts: p,
@@ -134,7 +133,7 @@ fn refuse(p: Counts, number: u8) -> Taken
 
 // The command is taken, with these counts after it.
 fn go_on(p: Counts) -> Taken
-    ensures { λ r. ⌜ ((sizes set seen : List ℕ) → takenOf r sizes set seen ≡ goOn (stateOf p sizes set seen)) ⌝ }
+    ensures { λ r. ⌜ ((sizes set targets terms : List ℕ) → takenOf r sizes set targets terms ≡ goOn (stateOf p sizes set targets terms)) ⌝ }
 {
     Taken {
         counts: p,
@@ -195,7 +194,7 @@ fn is_zero(bits: u32) -> bool
 
 // Whether a command may stand where the reading is, by its byte alone.
 fn is_allowed(l: Limits, p: Counts, byte: u8) -> bool
-    ensures { λ r. ⌜ ((sizes set seen : List ℕ) → r ≡ allowed (limitsOf l) (stateOf p sizes set seen) byte) ⌝ }
+    ensures { λ r. ⌜ ((sizes set targets terms : List ℕ) → r ≡ allowed (limitsOf l) (stateOf p sizes set targets terms) byte) ⌝ }
 {
     match byte {
         b'V' => !l.restricted && p.section == IN_DECLARATIONS,
@@ -267,8 +266,8 @@ fn take_start(l: Limits, p: Counts, rest: &[u8]) -> Taken
 // M size, start: the next mode. A start not below the size is 5, so a size of 0 is.
 fn take_mode(l: Limits, p: Counts, rest: &[u8], sizes: &mut [u16; MODES]) -> Taken
     requires { ⌜ (0 < length (now rest)) × (getD (now rest) 0 0 ≡ letterM) ⌝ }
-    ensures { λ r. ⌜ ((set seen : List ℕ) → takenOf r (now (sizes .exit)) set seen
-        ≡ ruleOf (limitsOf l) (stateOf p (now (sizes .entry)) set seen) (commandAt (now (rest .entry)))) ⌝ }
+    ensures { λ r. ⌜ ((set targets terms : List ℕ) → takenOf r (now (sizes .exit)) set targets terms
+        ≡ ruleOf (limitsOf l) (stateOf p (now (sizes .entry)) set targets terms) (commandAt (now (rest .entry)))) ⌝ }
 {
     let Command::Mode(size, start) = commands::read_mode(rest) else {
         return refuse(p, 2);
@@ -291,7 +290,8 @@ fn take_mode(l: Limits, p: Counts, rest: &[u8], sizes: &mut [u16; MODES]) -> Tak
 
 // The counts where an action or the goal begins: nothing is counted in it yet.
 fn open(p: Counts, section: u32, actions: u32) -> Counts
-    ensures { λ r. ⌜ ((sizes set seen : List ℕ) → stateOf r sizes noModes noVariables ≡ opened (stateOf p sizes set seen) section actions) ⌝ }
+    ensures { λ r. ⌜ ((sizes set targets terms : List ℕ) → stateOf r sizes noModes noVariables noVariables
+        ≡ opened (stateOf p sizes set targets terms) section actions) ⌝ }
 {
     Counts {
         section,
@@ -310,16 +310,18 @@ fn take_action(
     l: Limits,
     p: Counts,
     modes_set: &mut [u8; MODES],
-    variables_seen: &mut [u8; VARIABLES],
+    targets_seen: &mut [u8; VARIABLES],
+    terms_seen: &mut [u8; VARIABLES],
 ) -> Taken
-    ensures { λ r. ⌜ ((sizes : List ℕ) → takenOf r sizes (now («modes_set» .exit)) (now («variables_seen» .exit))
-        ≡ ruleOf (limitsOf l) (stateOf p sizes (now («modes_set» .entry)) (now («variables_seen» .entry))) Action) ⌝ }
+    ensures { λ r. ⌜ ((sizes : List ℕ) → takenOf r sizes (now («modes_set» .exit)) (now («targets_seen» .exit)) (now («terms_seen» .exit))
+        ≡ ruleOf (limitsOf l) (stateOf p sizes (now («modes_set» .entry)) (now («targets_seen» .entry)) (now («terms_seen» .entry))) Action) ⌝ }
 {
     if l.actions <= p.actions {
         return refuse(p, 4);
     }
     *modes_set = [0; MODES];
-    *variables_seen = [0; VARIABLES];
+    *targets_seen = [0; VARIABLES];
+    *terms_seen = [0; VARIABLES];
     go_on(open(p, IN_ACTION, p.actions + 1))
 }
 
@@ -352,8 +354,8 @@ fn take_condition(l: Limits, p: Counts, rest: &[u8]) -> Taken
 // P mode, value.
 fn take_mode_condition(l: Limits, p: Counts, rest: &[u8], sizes: &[u16; MODES]) -> Taken
     requires { ⌜ (0 < length (now rest)) × (getD (now rest) 0 0 ≡ letterP) ⌝ }
-    ensures { λ r. ⌜ ((set seen : List ℕ) → takenOf r (now (sizes .entry)) set seen
-        ≡ ruleOf (limitsOf l) (stateOf p (now (sizes .entry)) set seen) (commandAt (now (rest .entry)))) ⌝ }
+    ensures { λ r. ⌜ ((set targets terms : List ℕ) → takenOf r (now (sizes .entry)) set targets terms
+        ≡ ruleOf (limitsOf l) (stateOf p (now (sizes .entry)) set targets terms) (commandAt (now (rest .entry)))) ⌝ }
 {
     let Command::ModeCondition(mode, value) = commands::read_mode_condition(rest) else {
         return refuse(p, 2);
@@ -382,8 +384,8 @@ fn take_mode_effect(
     modes_set: &mut [u8; MODES],
 ) -> Taken
     requires { ⌜ (0 < length (now rest)) × (getD (now rest) 0 0 ≡ letterE) ⌝ }
-    ensures { λ r. ⌜ ((seen : List ℕ) → takenOf r (now (sizes .entry)) (now («modes_set» .exit)) seen
-        ≡ ruleOf (limitsOf l) (stateOf p (now (sizes .entry)) (now («modes_set» .entry)) seen) (commandAt (now (rest .entry)))) ⌝ }
+    ensures { λ r. ⌜ ((targets terms : List ℕ) → takenOf r (now (sizes .entry)) (now («modes_set» .exit)) targets terms
+        ≡ ruleOf (limitsOf l) (stateOf p (now (sizes .entry)) (now («modes_set» .entry)) targets terms) (commandAt (now (rest .entry)))) ⌝ }
 {
     let Command::ModeEffect(mode, value) = commands::read_mode_effect(rest) else {
         return refuse(p, 2);
@@ -403,34 +405,49 @@ fn take_mode_effect(
     go_on(q)
 }
 
-// Whether a + is one too many in a restricted action; a source action has another rule.
-fn is_over(l: Limits, p: Counts) -> bool
-    ensures { λ r. ⌜ r ≡ cond (l .restricted) (leb (l .additions) (p .«numeric_effects»)) false ⌝ }
+// Whether a numeric effect is one too many.
+fn has_no_room(l: Limits, p: Counts) -> bool
+    ensures { λ r. ⌜ r ≡ leb (l .«numeric_effects») (p .«numeric_effects») ⌝ }
 {
-    l.restricted && l.additions <= p.numeric_effects
+    l.numeric_effects <= p.numeric_effects
 }
 
-// Whether a + repeats: a second numeric effect of a source action, the variable a second time in a restricted one.
-fn is_repeated(l: Limits, p: Counts, variables_seen: &[u8; VARIABLES], variable: usize) -> bool
-    ensures { λ r. ⌜ r ≡ cond (l .restricted) (leb 1 (getD (now («variables_seen» .entry)) variable 0)) (leb 1 (p .«numeric_effects»)) ⌝ }
+// A numeric effect on a target is taken: the target is marked, no T of the effect is read yet, and `terms` is as given.
+fn go_on_with_effect(
+    p: Counts,
+    target: usize,
+    terms: u64,
+    targets_seen: &mut [u8; VARIABLES],
+    terms_seen: &mut [u8; VARIABLES],
+) -> Taken
+    requires { ⌜ p .«numeric_effects» + 1 < 2 ^ 32 ⌝ }
+    ensures { λ r. ⌜ ((sizes set : List ℕ) → takenOf r sizes set (now («targets_seen» .exit)) (now («terms_seen» .exit))
+        ≡ goOn (withNumericEffect (stateOf p sizes set (now («targets_seen» .entry)) (now («terms_seen» .entry))) target terms)) ⌝ }
 {
-    if l.restricted {
-        is_marked(variables_seen, variable)
-    } else {
-        1 <= p.numeric_effects
-    }
+    put_mark(targets_seen, target);
+    *terms_seen = [0; VARIABLES];
+    let mut q = p;
+    q.numeric_effects = p.numeric_effects + 1;
+    q.terms = terms;
+    go_on(q)
 }
 
 // + variable, constant.
-fn take_add(l: Limits, p: Counts, rest: &[u8], variables_seen: &mut [u8; VARIABLES]) -> Taken
+fn take_add(
+    l: Limits,
+    p: Counts,
+    rest: &[u8],
+    targets_seen: &mut [u8; VARIABLES],
+    terms_seen: &mut [u8; VARIABLES],
+) -> Taken
     requires { ⌜ (0 < length (now rest)) × (getD (now rest) 0 0 ≡ plusSign) ⌝ }
-    ensures { λ r. ⌜ ((sizes set : List ℕ) → takenOf r sizes set (now («variables_seen» .exit))
-        ≡ ruleOf (limitsOf l) (stateOf p sizes set (now («variables_seen» .entry))) (commandAt (now (rest .entry)))) ⌝ }
+    ensures { λ r. ⌜ ((sizes set : List ℕ) → takenOf r sizes set (now («targets_seen» .exit)) (now («terms_seen» .exit))
+        ≡ ruleOf (limitsOf l) (stateOf p sizes set (now («targets_seen» .entry)) (now («terms_seen» .entry))) (commandAt (now (rest .entry)))) ⌝ }
 {
     let Command::Add(variable, constant) = commands::read_add(rest) else {
         return refuse(p, 2);
     };
-    if is_over(l, p) {
+    if has_no_room(l, p) {
         return refuse(p, 4);
     }
     if p.variables <= variable as u32 {
@@ -442,44 +459,47 @@ fn take_add(l: Limits, p: Counts, rest: &[u8], variables_seen: &mut [u8; VARIABL
     if is_outside(l.constant, constant) {
         return refuse(p, 6);
     }
-    if is_repeated(l, p, variables_seen, variable as usize) {
+    if is_marked(targets_seen, variable as usize) {
         return refuse(p, 7);
     }
-    put_mark(variables_seen, variable as usize);
-    let mut q = p;
-    q.numeric_effects = p.numeric_effects + 1;
-    q.terms = 0;
-    go_on(q)
+    go_on_with_effect(p, variable as usize, 0, targets_seen, terms_seen)
 }
 
 // L target, w0; T may follow.
-fn take_linear(l: Limits, p: Counts, rest: &[u8]) -> Taken
+fn take_linear(
+    l: Limits,
+    p: Counts,
+    rest: &[u8],
+    targets_seen: &mut [u8; VARIABLES],
+    terms_seen: &mut [u8; VARIABLES],
+) -> Taken
     requires { ⌜ (0 < length (now rest)) × (getD (now rest) 0 0 ≡ letterL) ⌝ }
-    ensures { λ r. ⌜ Ruled r l p (commandAt (now (rest .entry))) ⌝ }
+    ensures { λ r. ⌜ ((sizes set : List ℕ) → takenOf r sizes set (now («targets_seen» .exit)) (now («terms_seen» .exit))
+        ≡ ruleOf (limitsOf l) (stateOf p sizes set (now («targets_seen» .entry)) (now («terms_seen» .entry))) (commandAt (now (rest .entry)))) ⌝ }
 {
     let Command::Linear(target, constant) = commands::read_linear(rest) else {
         return refuse(p, 2);
     };
+    if has_no_room(l, p) {
+        return refuse(p, 4);
+    }
     if p.variables <= target as u32 {
         return refuse(p, 5);
     }
     if is_outside(l.constant, constant) {
         return refuse(p, 6);
     }
-    if 1 <= p.numeric_effects {
+    if is_marked(targets_seen, target as usize) {
         return refuse(p, 7);
     }
-    let mut q = p;
-    q.numeric_effects = p.numeric_effects + 1;
-    q.terms = 1;
-    go_on(q)
+    go_on_with_effect(p, target as usize, 1, targets_seen, terms_seen)
 }
 
 // T variable, weight.
-fn take_term(l: Limits, p: Counts, rest: &[u8], variables_seen: &mut [u8; VARIABLES]) -> Taken
+fn take_term(l: Limits, p: Counts, rest: &[u8], terms_seen: &mut [u8; VARIABLES]) -> Taken
     requires { ⌜ (0 < length (now rest)) × (getD (now rest) 0 0 ≡ letterT) ⌝ }
-    ensures { λ r. ⌜ ((sizes set : List ℕ) → takenOf r sizes set (now («variables_seen» .exit))
-        ≡ ruleOf (limitsOf l) (stateOf p sizes set (now («variables_seen» .entry))) (commandAt (now (rest .entry)))) ⌝ }
+    ensures { λ r. ⌜ ((sizes set targets : List ℕ) → takenOf r sizes set targets (now («terms_seen» .exit))
+        ≡ ruleOf (limitsOf l) (stateOf p sizes set targets (now («terms_seen» .entry))) (commandAt (now (rest .entry)))) ⌝ }
 {
     let Command::Term(variable, weight) = commands::read_term(rest) else {
         return refuse(p, 2);
@@ -496,19 +516,31 @@ fn take_term(l: Limits, p: Counts, rest: &[u8], variables_seen: &mut [u8; VARIAB
     if is_outside(l.constant, weight) {
         return refuse(p, 6);
     }
-    if is_marked(variables_seen, variable as usize) {
+    if is_marked(terms_seen, variable as usize) {
         return refuse(p, 7);
     }
-    put_mark(variables_seen, variable as usize);
+    put_mark(terms_seen, variable as usize);
     let mut q = p;
     q.terms = p.terms + 1;
     go_on(q)
 }
 
 // The tests of Q and R, which are the same.
-fn take_division(l: Limits, p: Counts, target: u8, operand: u8, divisor: u32) -> Taken
-    ensures { λ r. ⌜ Ruled r l p (Quotient target operand divisor) ⌝ }
+fn take_division(
+    l: Limits,
+    p: Counts,
+    target: u8,
+    operand: u8,
+    divisor: u32,
+    targets_seen: &mut [u8; VARIABLES],
+    terms_seen: &mut [u8; VARIABLES],
+) -> Taken
+    ensures { λ r. ⌜ ((sizes set : List ℕ) → takenOf r sizes set (now («targets_seen» .exit)) (now («terms_seen» .exit))
+        ≡ ruleOf (limitsOf l) (stateOf p sizes set (now («targets_seen» .entry)) (now («terms_seen» .entry))) (Quotient target operand divisor)) ⌝ }
 {
+    if has_no_room(l, p) {
+        return refuse(p, 4);
+    }
     if p.variables <= target as u32 {
         return refuse(p, 5);
     }
@@ -521,35 +553,46 @@ fn take_division(l: Limits, p: Counts, target: u8, operand: u8, divisor: u32) ->
     if is_outside(l.constant, divisor) {
         return refuse(p, 6);
     }
-    if 1 <= p.numeric_effects {
+    if is_marked(targets_seen, target as usize) {
         return refuse(p, 7);
     }
-    let mut q = p;
-    q.numeric_effects = p.numeric_effects + 1;
-    q.terms = 0;
-    go_on(q)
+    go_on_with_effect(p, target as usize, 0, targets_seen, terms_seen)
 }
 
 // Q target, operand, divisor.
-fn take_quotient(l: Limits, p: Counts, rest: &[u8]) -> Taken
+fn take_quotient(
+    l: Limits,
+    p: Counts,
+    rest: &[u8],
+    targets_seen: &mut [u8; VARIABLES],
+    terms_seen: &mut [u8; VARIABLES],
+) -> Taken
     requires { ⌜ (0 < length (now rest)) × (getD (now rest) 0 0 ≡ letterQ) ⌝ }
-    ensures { λ r. ⌜ Ruled r l p (commandAt (now (rest .entry))) ⌝ }
+    ensures { λ r. ⌜ ((sizes set : List ℕ) → takenOf r sizes set (now («targets_seen» .exit)) (now («terms_seen» .exit))
+        ≡ ruleOf (limitsOf l) (stateOf p sizes set (now («targets_seen» .entry)) (now («terms_seen» .entry))) (commandAt (now (rest .entry)))) ⌝ }
 {
     let Command::Quotient(target, operand, divisor) = commands::read_quotient(rest) else {
         return refuse(p, 2);
     };
-    take_division(l, p, target, operand, divisor)
+    take_division(l, p, target, operand, divisor, targets_seen, terms_seen)
 }
 
 // R target, operand, divisor.
-fn take_residue(l: Limits, p: Counts, rest: &[u8]) -> Taken
+fn take_residue(
+    l: Limits,
+    p: Counts,
+    rest: &[u8],
+    targets_seen: &mut [u8; VARIABLES],
+    terms_seen: &mut [u8; VARIABLES],
+) -> Taken
     requires { ⌜ (0 < length (now rest)) × (getD (now rest) 0 0 ≡ letterR) ⌝ }
-    ensures { λ r. ⌜ Ruled r l p (commandAt (now (rest .entry))) ⌝ }
+    ensures { λ r. ⌜ ((sizes set : List ℕ) → takenOf r sizes set (now («targets_seen» .exit)) (now («terms_seen» .exit))
+        ≡ ruleOf (limitsOf l) (stateOf p sizes set (now («targets_seen» .entry)) (now («terms_seen» .entry))) (commandAt (now (rest .entry)))) ⌝ }
 {
     let Command::Residue(target, operand, divisor) = commands::read_residue(rest) else {
         return refuse(p, 2);
     };
-    take_division(l, p, target, operand, divisor)
+    take_division(l, p, target, operand, divisor, targets_seen, terms_seen)
 }
 
 // G: the goal. The marks of the last action are cleared.
@@ -557,13 +600,15 @@ fn take_goal(
     l: Limits,
     p: Counts,
     modes_set: &mut [u8; MODES],
-    variables_seen: &mut [u8; VARIABLES],
+    targets_seen: &mut [u8; VARIABLES],
+    terms_seen: &mut [u8; VARIABLES],
 ) -> Taken
-    ensures { λ r. ⌜ ((sizes : List ℕ) → takenOf r sizes (now («modes_set» .exit)) (now («variables_seen» .exit))
-        ≡ ruleOf (limitsOf l) (stateOf p sizes (now («modes_set» .entry)) (now («variables_seen» .entry))) Goal) ⌝ }
+    ensures { λ r. ⌜ ((sizes : List ℕ) → takenOf r sizes (now («modes_set» .exit)) (now («targets_seen» .exit)) (now («terms_seen» .exit))
+        ≡ ruleOf (limitsOf l) (stateOf p sizes (now («modes_set» .entry)) (now («targets_seen» .entry)) (now («terms_seen» .entry))) Goal) ⌝ }
 {
     *modes_set = [0; MODES];
-    *variables_seen = [0; VARIABLES];
+    *targets_seen = [0; VARIABLES];
+    *terms_seen = [0; VARIABLES];
     go_on(open(p, IN_GOAL, p.actions))
 }
 
@@ -578,17 +623,21 @@ fn take_end(l: Limits, p: Counts) -> Taken
 }
 
 // The command at the front of what remains of a file: 1 by its byte alone, then what its own rule says, 2 first. The arrays are what
-// the state has beside its counts: the sizes of the modes, the modes that have their effect, the variables seen in a T or a +.
+// the state has beside its counts: the sizes of the modes, the modes that have their effect, the
+// variables that are a target, those in a T of the last L.
 fn take(
     l: Limits,
     p: Counts,
     rest: &[u8],
     sizes: &mut [u16; MODES],
     modes_set: &mut [u8; MODES],
-    variables_seen: &mut [u8; VARIABLES],
+    targets_seen: &mut [u8; VARIABLES],
+    terms_seen: &mut [u8; VARIABLES],
 ) -> Taken
-    ensures { λ r. ⌜ takenOf r (now (sizes .exit)) (now («modes_set» .exit)) (now («variables_seen» .exit))
-        ≡ takeOf (limitsOf l) (stateOf p (now (sizes .entry)) (now («modes_set» .entry)) (now («variables_seen» .entry))) (now (rest .entry)) ⌝ }
+    ensures { λ r. ⌜ takenOf r (now (sizes .exit)) (now («modes_set» .exit)) (now («targets_seen» .exit)) (now («terms_seen» .exit))
+        ≡ takeOf (limitsOf l)
+        (stateOf p (now (sizes .entry)) (now («modes_set» .entry)) (now («targets_seen» .entry)) (now («terms_seen» .entry)))
+        (now (rest .entry)) ⌝ }
 {
     if rest.len() == 0 {
         return refuse(p, 2);
@@ -601,16 +650,16 @@ fn take(
         b'V' => take_variable(l, p, rest),
         b'U' => take_start(l, p, rest),
         b'M' => take_mode(l, p, rest, sizes),
-        b'A' => take_action(l, p, modes_set, variables_seen),
+        b'A' => take_action(l, p, modes_set, targets_seen, terms_seen),
         b'C' => take_condition(l, p, rest),
         b'P' => take_mode_condition(l, p, rest, sizes),
         b'E' => take_mode_effect(l, p, rest, sizes, modes_set),
-        b'+' => take_add(l, p, rest, variables_seen),
-        b'L' => take_linear(l, p, rest),
-        b'T' => take_term(l, p, rest, variables_seen),
-        b'Q' => take_quotient(l, p, rest),
-        b'R' => take_residue(l, p, rest),
-        b'G' => take_goal(l, p, modes_set, variables_seen),
+        b'+' => take_add(l, p, rest, targets_seen, terms_seen),
+        b'L' => take_linear(l, p, rest, targets_seen, terms_seen),
+        b'T' => take_term(l, p, rest, terms_seen),
+        b'Q' => take_quotient(l, p, rest, targets_seen, terms_seen),
+        b'R' => take_residue(l, p, rest, targets_seen, terms_seen),
+        b'G' => take_goal(l, p, modes_set, targets_seen, terms_seen),
         b'Z' => take_end(l, p),
         _ => refuse(p, 1),
     }
@@ -618,7 +667,7 @@ fn take(
 
 // Before the first command.
 fn begun() -> Counts
-    ensures { λ r. ⌜ stateOf r noModes noModes noVariables ≡ begin ⌝ }
+    ensures { λ r. ⌜ stateOf r noModes noModes noVariables noVariables ≡ begin ⌝ }
 {
     Counts {
         section: IN_DECLARATIONS,
@@ -646,7 +695,7 @@ fn refused_at(number: u8, at: usize, length: usize) -> Verdict
 // Z, with so many bytes remaining from it on: 3, at the offset after Z, where bytes follow it.
 fn ended_at(p: Counts, at: usize, remaining: usize) -> Verdict
     requires { ⌜ at + 1 < 2 ^ 64 ⌝ }
-    ensures { λ r. ⌜ ((sizes set seen : List ℕ) → verdictIs r ≡ endedAt (stateOf p sizes set seen) at remaining) ⌝ }
+    ensures { λ r. ⌜ ((sizes set targets terms : List ℕ) → verdictIs r ≡ endedAt (stateOf p sizes set targets terms) at remaining) ⌝ }
 {
     if remaining == 1 {
         Verdict::Accepted(p.variables, p.modes, p.actions)
@@ -662,11 +711,20 @@ fn check(l: Limits, file: &[u8]) -> Verdict
     let mut p = begun();
     let mut sizes = [0u16; MODES];
     let mut modes_set = [0u8; MODES];
-    let mut variables_seen = [0u8; VARIABLES];
+    let mut targets_seen = [0u8; VARIABLES];
+    let mut terms_seen = [0u8; VARIABLES];
     let mut at: usize = 0;
     while at < file.len() {
         let rest = &file[at..];
-        let taken = take(l, p, rest, &mut sizes, &mut modes_set, &mut variables_seen);
+        let taken = take(
+            l,
+            p,
+            rest,
+            &mut sizes,
+            &mut modes_set,
+            &mut targets_seen,
+            &mut terms_seen,
+        );
         let counts = taken.counts;
         let progress = taken.progress;
         match progress {

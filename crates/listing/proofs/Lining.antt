@@ -5,7 +5,6 @@ use Prim.Native.Nat.{ℕ, suc, _+_, _-_, _*_, _≤_, _<_}
 use native.Mathlib.Omega.{arith}
 use native.Mathlib.Numerals.{add-one}
 use mathlib.Core.Bool.{true, false}
-use mathlib.Core.Option.{Option, none, some}
 use mathlib.Core.List.{List, [], _∷_, _++_, append-nil, append-assoc}
 use lib.ListN.{length, getD, take, drop, drop-of-length-le}
 use lib.Seq.{drop-cons, getD-take, length-take-le}
@@ -15,9 +14,9 @@ use Rattle.lists.specs.Writing.{Wrote}
 use Rattle.lists.proofs.Writing.{Left, start, step, done, recast, long, room}
 use Rattle.model.specs.Tasks.{State}
 use Rattle.model.specs.Listing.{stepLine}
-use Rattle.source_step.specs.Step.{state, settled}
-use Rattle.source_step.proofs.Sound.{length-setAt}
-use Rattle.source_step.specs.Row.{outcomeAt, valuesAfter, modesAfter}
+use Rattle.source_step.specs.Step.{state}
+use Rattle.source_step.proofs.Sound.{length-settled}
+use Rattle.source_step.specs.Row.{outcomesAt, valuesAfter, modesAfter}
 use Rattle.source_step.specs.Ready.{marksOf, numbersOf}
 use Rattle.source_step.specs.Table.{Table, takesBy, priceBy, Usables}
 use Rattle.plan_strokes.specs.declared.Turn.{Turn}
@@ -36,10 +35,6 @@ pub record Reached (p : List ℕ) (values : List ℤ) (modes : List ℕ) (i : �
 
 abbrev leftBy : Table → List ℕ → ℕ → List ℤ → List ℕ → List ℕ
 leftBy T p i values modes = linesBy T i (drop i p) (state values modes)
-
-length-settled : (n : ℕ) (o : Option (ℕ × ℤ)) (values : List ℤ) → length (settled n o values) ≡ length values
-length-settled n none values = refl
-length-settled n (some q) values = length-setAt n values (q .0) (q .1)
 
 module _ (T : Table) (p : List ℕ) (values : List ℤ) (modes : List ℕ) (i : ℕ) where
   abbrev x : State
@@ -86,7 +81,7 @@ module _ (T : Table) (p : List ℕ) (values : List ℤ) (modes : List ℕ) (i : 
           bound = omega arith;
           valuesLong =
               ap length valuesAre
-              ∙ length-settled (T .variables) (outcomeAt (T .variables) (marksOf (T .marks) k) (numbersOf (T .numbers) k) values) values
+              ∙ length-settled (T .variables) (outcomesAt (T .variables) (marksOf (T .marks) k) (numbersOf (T .numbers) k) values) values
               ∙ r .valuesLong;
           modesLong = ap length modesAre ∙ long-after (T .modes) (marksOf (T .marks) k) modes (u .modesFew) (r .modesLong);
         }

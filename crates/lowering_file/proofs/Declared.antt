@@ -19,9 +19,11 @@ use Rattle.model.specs.Decoding.{sourceActionOf, readSource}
 use Rattle.model.specs.ActionBytes.{decodeAction}
 use Rattle.model.specs.TaskOk.{ConditionOk}
 use Rattle.model.specs.Steps.{integerAt, sourceStart}
+use Rattle.model.specs.Stages.{holdCount}
+use Rattle.model.specs.Lowering.{restingHelpers}
 use Rattle.model.proofs.AcceptedOk.{accepted-source-ok}
 use Rattle.model.proofs.LoweredOk.{lowered-task-ok}
-use Rattle.file_actions.specs.declared.SourceAction.{SourceAction as DecodedSource}
+use Rattle.file_actions.specs.declared.Effects.{Effects}
 use Rattle.file_actions.specs.Places.{edgesOf, goalPart}
 use Rattle.file_actions.specs.Views.{SourceDecoded, fittingSource}
 use Rattle.file_actions.proofs.Accepted.{source-edges, places-at, source-goal-decoded}
@@ -80,7 +82,7 @@ module _ (file : List ℕ) (count : ℕ) (bytes : Bytes file) (accepted : Accept
         let e : take (r .variables) start ≡ sourceStart (taskOf file) .values = ap (λ (x : State). x .values) (h .startIs) in
         let ok = lowered-task-ok (taskOf file) (accepted-source-ok file (taskOf file) is) .startsIn in
         let long : i < length (sourceStart (taskOf file) .values) = omega (arith, l, h .variableCount, length-map (taskOf file .variables) (λ (b : SourceVariable). b .start)) in
-        let small = front-small 1000000000 (sourceStart (taskOf file) .values) (pos 0 ∷ pos 0 ∷ []) i ok long in
+        let small = front-small 1000000000 (sourceStart (taskOf file) .values) (restingHelpers (holdCount (taskOf file .actions))) i ok long in
         let same : integerAt (sourceStart (taskOf file) .values) i ≡ getD start i (pos 0) = ap (λ (z : List ℤ). integerAt z i) (sym e) ∙ getD-take (r .variables) start i (pos 0) l in
         let bound : natAbs (getD start i (pos 0)) ≤ 1000000000 = subst (λ (z : ℤ). natAbs z ≤ 1000000000) same small in
         omega (arith, bound)
@@ -94,10 +96,12 @@ module _ (file : List ℕ) (count : ℕ) (bytes : Bytes file) (accepted : Accept
       modesAre = pairs-are (r .modes) sizes values (taskOf file .modes) (h .modeCount) (h .sizesAre) (ap (λ (x : State). x .modes) (h .startIs));
     }
 
-  pub goal-read : (g : DecodedSource) → SourceDecoded (fittingSource (sourceActionOf (decodeAction (goalPart file count)))) g → GoalOf file g
-  goal-read g d =
-      let e = subst (λ (n : ℕ). SourceDecoded (fittingSource (sourceActionOf (decodeAction (goalPart file n)))) g) counted d in
-      let says = source-goal-decoded file bytes (taskOf file) is g e .parts in
+  pub goal-read : (marks : List ℕ) (numbers : List ℤ) (r : Effects)
+      → SourceDecoded (fittingSource (sourceActionOf (decodeAction (goalPart file count)))) marks numbers r
+      → GoalOf file marks numbers
+  goal-read marks numbers r d =
+      let e = subst (λ (n : ℕ). SourceDecoded (fittingSource (sourceActionOf (decodeAction (goalPart file n)))) marks numbers r) counted d in
+      let says = source-goal-decoded file bytes (taskOf file) is marks numbers r e .parts in
       let ok = accepted-source-ok file (taskOf file) is .goal in
       record {
         writable = record {

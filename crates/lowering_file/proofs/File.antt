@@ -2,13 +2,15 @@
 -- accepted, comes to.
 -- Assumes nothing.
 use mathlib.Core.Path.{_≡_, refl, sym, ap, ap₂, _∙_}
+use mathlib.Core.Bool.{Bool}
 use mathlib.Core.List.{List, [], _∷_, _++_, flatMap, append-assoc, append-nil}
-use Prim.Native.Nat.{ℕ, suc, _+_, _*_, _≤_, _<_}
+use Prim.Native.Nat.{ℕ, zero, suc, _+_, _*_, _≤_, _<_}
 use native.Mathlib.Omega.{arith}
-use lib.ListN.{length, take, length-append, length-map}
+use lib.ListN.{length, take, replicate, length-append, length-map}
 use lib.IntN.{ℤ, pos}
 use Rattle.integers.specs.All.{All}
 use Rattle.integers.specs.Numbers.{bitsOf}
+use Rattle.lists.specs.Each.{tabulate}
 use Rattle.lists.specs.Answer.{Answer, given, refused, then}
 use Rattle.lists.proofs.Each.{flatMap-nil, flatMap-append, length-flatMap}
 use Rattle.lists.proofs.Writing.{joined, Left, start}
@@ -21,21 +23,20 @@ use Rattle.model.specs.Limits.{sourceLimits, restrictedLimits}
 use Rattle.model.specs.TaskOk.{ValuesIn, keys, RestrictedActionOk, RestrictedTaskOk}
 use Rattle.model.specs.Reading.{Verdict, Rejected, verdictOf}
 use Rattle.model.specs.Decoding.{onVerdict, readSource}
-use Rattle.model.specs.Steps.{sizesOf, sourceStart}
-use Rattle.model.specs.Lowering.{startCommands, modeCommands, modeConditionCommands, conditionCommands, encodeFile, lowerTask, lowerFile}
+use Rattle.model.specs.Steps.{sizesOf}
+use Rattle.model.specs.Lowering.{restingHelpers, startCommands, modeCommands, modeConditionCommands, conditionCommands, encodeFile, lowerTask, lowerFile}
 use Rattle.model.specs.Judging.{lowerBytes}
 use Rattle.model.proofs.AcceptedOk.{accepted-source-ok}
 use Rattle.model.proofs.LoweredOk.{lowered-task-ok}
-use Rattle.file_actions.specs.declared.SourceAction.{SourceAction as DecodedSource}
-use Rattle.file_actions.proofs.Distinct.{few-distinct}
 use Rattle.file_parts.specs.Row.{rowIs}
 use Rattle.file_parts.specs.With.{withModeCondition}
+use Rattle.file_actions.proofs.Distinct.{few-distinct}
 use Rattle.lowering_rows.specs.Bytes.{modeConditionBytes, conditionBytes, modeEffectBytes, additionBytes, restrictedActionBytes, inFour, rowBytes}
 use Rattle.lowering_rows.proofs.Parts.{run-bytes, mode-conditions-bytes, conditions-bytes, actions-bytes}
 use Rattle.lowering_rows.proofs.Writing.{action-row}
 use Rattle.lowering_file.specs.declared.Declarations.{Declarations}
-use Rattle.lowering_file.specs.Parts.{startBytes, modeBytes, modesIn}
-use Rattle.lowering_file.specs.Held.{taskOf, Declares, GoalOf, stagesOfTask, fileWith}
+use Rattle.lowering_file.specs.Parts.{startBytes, modeBytes, modesIn, holdsOf}
+use Rattle.lowering_file.specs.Held.{taskOf, Declares, GoalOf, Told, startsPart, modesPart, actionsPart, goalEnd, inFileOrder, actionsFirst}
 
 -- ---- the starts, the modes, and the whole file
 starts-bytes : (zs : List ℤ) (more : List Command) → encodeAll (startCommands zs more) ≡ flatMap startBytes zs ++ encodeAll more
@@ -44,9 +45,26 @@ starts-bytes = run-bytes (λ z. Start (bitsOf 4 z)) startCommands (λ m. refl) (
 modes-bytes : (ms : List (ℕ × ℕ)) (more : List Command) → encodeAll (modeCommands ms more) ≡ flatMap modeBytes ms ++ encodeAll more
 modes-bytes = run-bytes (λ m. Mode (m .0) (m .1)) modeCommands (λ m. refl) (λ x xs m. refl)
 
-pub starts-begun : (old : List ℕ) (at : ℕ) (zs : List ℤ) (y z : ℤ) → Left old at (flatMap startBytes (zs ++ (y ∷ z ∷ []))) old at (flatMap startBytes zs ∷ startBytes y ∷ startBytes z ∷ [])
-unfolding flatMap
-starts-begun old at zs y z = start old at (flatMap-append startBytes zs (y ∷ z ∷ []))
+-- so many zeros, by number
+tabulated : (n : ℕ) → replicate n (pos 0) ≡ tabulate n (λ i. pos 0)
+unfolding tabulate
+tabulated zero = refl
+tabulated (suc n) = ap (λ (zs : List ℤ). pos 0 ∷ zs) (tabulated n)
+
+pub zeros : (n : ℕ) → flatMap startBytes (replicate n (pos 0)) ≡ flatMap startBytes (tabulate n (λ i. pos 0))
+zeros n = ap (flatMap startBytes) (tabulated n)
+
+-- A, B and the holds, as many as there are
+resting : (holds n : ℕ) → n ≡ 2 + holds → restingHelpers holds ≡ replicate n (pos 0)
+resting holds n e = let z : n ≡ suc (suc holds) = omega arith in rw z
+
+pub starts-begun : (old : List ℕ) (at : ℕ) (zs : List ℤ) (holds n : ℕ) → n ≡ 2 + holds
+    → Left old at (flatMap startBytes (zs ++ restingHelpers holds)) old at (flatMap startBytes zs ∷ flatMap startBytes (replicate n (pos 0)) ∷ [])
+starts-begun old at zs holds n e =
+    start old at
+    (flatMap-append startBytes zs (restingHelpers holds)
+    ∙ ap (λ (ys : List ℤ). flatMap startBytes zs ++ flatMap startBytes ys) (resting holds n e)
+    ∙ ap (λ (ys : List ℕ). flatMap startBytes zs ++ ys) (sym (append-nil (flatMap startBytes (replicate n (pos 0))))))
 
 pub modes-begun : (old : List ℕ) (at : ℕ) (ms : List (ℕ × ℕ)) (m : ℕ × ℕ) → Left old at (flatMap modeBytes (ms ++ (m ∷ []))) old at (flatMap modeBytes ms ∷ modeBytes m ∷ [])
 unfolding flatMap
@@ -83,50 +101,40 @@ pub goal-begun : (old : List ℕ) (at : ℕ) (row : List ℕ) → Left old at (r
 goal-begun old at row = start old at (ap (λ (z : List ℕ). row ++ z) (sym (append-nil (encode End))))
 
 -- ---- the parts that are written, from what is read
-abbrev taskParts : List ℤ → List (ℕ × ℕ) → ℕ → List RestrictedAction → RestrictedAction → ℕ → List (List ℕ)
-taskParts starts modes size acts goal control =
-    flatMap startBytes (starts ++ (pos 0 ∷ pos 0 ∷ [])) ∷ flatMap modeBytes (modes ++ ((size, 0) ∷ [])) ∷ flatMap restrictedActionBytes acts
-    ∷ (rowBytes letterG (inFour (withModeCondition goal (control, 0))) ++ encode End) ∷ []
+module _ {file : List ℕ} {count : ℕ} {d : Declarations} (D : Declares file count d) where
+  module _ {control : ℕ} {several : Bool} (told : Told file control several) where
+    pub starts-are : flatMap startBytes (take (d .shape .variables) (d .starts) ++ restingHelpers (holdsOf several)) ≡ startsPart file
+    starts-are = ap₂ (λ (zs : List ℤ) (n : ℕ). flatMap startBytes (zs ++ restingHelpers n)) (D .startsAre) (told .holdsAre)
 
-abbrev pub partsOf : List ℕ → Declarations → DecodedSource → ℕ → List (List ℕ)
-partsOf file d g size =
-    taskParts (take (d .shape .variables) (d .starts)) (modesIn (d .shape .modes) (d .shape .sizes) (d .values)) size (lowerTask (taskOf file) .actions) (rowIs (g .marks) (g .numbers)) (d .shape .modes)
+    pub modes-are : flatMap modeBytes (modesIn (d .shape .modes) (d .shape .sizes) (d .values) ++ ((control, 0) ∷ [])) ≡ modesPart file
+    modes-are = ap₂ (λ (ms : List (ℕ × ℕ)) (n : ℕ). flatMap modeBytes (ms ++ ((n, 0) ∷ []))) (D .modesAre) (told .controlIs)
 
-module _ (file : List ℕ) (count : ℕ) (d : Declarations) (g : DecodedSource) (size : ℕ) (D : Declares file count d) (G : GoalOf file g) where
-  parts-are : size ≡ suc (stagesOfTask file) → fileParts (lowerTask (taskOf file)) ≡ partsOf file d g size
-  parts-are e =
-      let t = taskOf file in
-      let acts = lowerTask t .actions in
-      sym
-      (ap (λ (z : List ℤ). taskParts z (modesIn (d .shape .modes) (d .shape .sizes) (d .values)) size acts (rowIs (g .marks) (g .numbers)) (d .shape .modes)) (D .startsAre)
-      ∙ ap (λ (z : List (ℕ × ℕ)). taskParts (sourceStart t .values) z size acts (rowIs (g .marks) (g .numbers)) (d .shape .modes)) (D .modesAre)
-      ∙ ap (λ (z : ℕ). taskParts (sourceStart t .values) (t .modes) z acts (rowIs (g .marks) (g .numbers)) (d .shape .modes)) e
-      ∙ ap₂ (λ (z : RestrictedAction) (m : ℕ). taskParts (sourceStart t .values) (t .modes) (suc (stagesOfTask file)) acts z m) (G .is) (D .held .modesAre)
-      ∙ ap (λ (z : List ℕ). flatMap startBytes (lowerTask t .starts) ∷ flatMap modeBytes (lowerTask t .modes) ∷ flatMap restrictedActionBytes acts ∷ z ∷ []) (sym (goal-bytes (lowerTask t .goalModes) (lowerTask t .goalConditions))))
+  pub goal-are : {marks : List ℕ} {numbers : List ℤ} → GoalOf file marks numbers
+      → rowBytes letterG (inFour (withModeCondition (rowIs marks numbers) (d .shape .modes, 0))) ++ encode End ≡ goalEnd file
+  goal-are g = ap₂ (λ (x : RestrictedAction) (m : ℕ). rowBytes letterG (inFour (withModeCondition x (m, 0))) ++ encode End) (g .is) (D .held .modesAre)
 
-  -- with the size that control has, it is the lowered file
-  pub task-is : size ≡ suc (stagesOfTask file) → fileWith file d g size ≡ lowerFile (taskOf file)
-  task-is e = sym (file-parts (lowerTask (taskOf file)) ∙ ap joined (parts-are e))
+-- ---- all of them, in the order of the file, are the lowered file
+pub file-is : (file : List ℕ) → inFileOrder file ≡ lowerFile (taskOf file)
+file-is file =
+    let t = taskOf file in
+    sym
+    (file-parts (lowerTask t)
+    ∙ ap (λ (z : List ℕ). startsPart file ++ (modesPart file ++ (actionsPart file ++ (z ++ []))))
+    (goal-bytes (lowerTask t .goalModes) (lowerTask t .goalConditions)))
 
--- whatever the size of control, its length is the same
-pub same-long : (file : List ℕ) (d : Declarations) (g : DecodedSource) (c c′ : ℕ) → length (fileWith file d g c) ≡ length (fileWith file d g c′)
-same-long file d g c c′ =
-    by (flatMap startBytes (take (d .shape .variables) (d .starts) ++ (pos 0 ∷ pos 0 ∷ [])))
-    (flatMap restrictedActionBytes (lowerTask (taskOf file) .actions) ++ ((rowBytes letterG (inFour (withModeCondition (rowIs (g .marks) (g .numbers)) (d .shape .modes, 0))) ++ encode End) ++ []))
-    (flatMap modeBytes (ms ++ ((c, 0) ∷ []))) (flatMap modeBytes (ms ++ ((c′, 0) ∷ []))) (long c ∙ sym (long c′))
+-- with the actions first there are as many
+pub same-long : (file : List ℕ) → length (actionsFirst file) ≡ length (lowerFile (taskOf file))
+same-long file = by (startsPart file) (modesPart file) (actionsPart file) (goalEnd file ++ []) ∙ ap length (file-is file)
   where
-    ms : List (ℕ × ℕ)
-    ms = modesIn (d .shape .modes) (d .shape .sizes) (d .values)
-
-    long : (c : ℕ) → length (flatMap modeBytes (ms ++ ((c, 0) ∷ []))) ≡ 5 * (length ms + 1)
-    long c = length-flatMap modeBytes 5 (λ y. refl) (ms ++ ((c, 0) ∷ [])) ∙ ap (λ (n : ℕ). 5 * n) (length-append ms ((c, 0) ∷ []))
-
-    by : (xs zs ys ys′ : List ℕ) → length ys ≡ length ys′ → length (xs ++ (ys ++ zs)) ≡ length (xs ++ (ys′ ++ zs))
-    by xs zs ys ys′ e = omega (arith, e, length-append xs (ys ++ zs), length-append ys zs, length-append xs (ys′ ++ zs), length-append ys′ zs)
+    by : (xs ys zs rest : List ℕ) → length (zs ++ (xs ++ (ys ++ rest))) ≡ length (xs ++ (ys ++ (zs ++ rest)))
+    by xs ys zs rest = simp length-append (omega arith)
 
 -- before anything is written
-pub task-begun : (file : List ℕ) (d : Declarations) (g : DecodedSource) (size : ℕ) (old : List ℕ) → Left old 0 (fileWith file d g size) old 0 (partsOf file d g size)
-task-begun file d g size old = start old 0 refl
+pub file-begun : (file old : List ℕ) → Left old 0 (inFileOrder file) old 0 (startsPart file ∷ modesPart file ∷ actionsPart file ∷ goalEnd file ∷ [])
+file-begun file old = start old 0 refl
+
+pub count-begun : (file old : List ℕ) → Left old 0 (actionsFirst file) old 0 (actionsPart file ∷ startsPart file ∷ modesPart file ∷ goalEnd file ∷ [])
+count-begun file old = start old 0 refl
 
 -- ---- a file that keeps to the limits is short
 row-length : (b : ℕ) (x : RestrictedAction) → length (rowBytes b x) ≡ 1 + 4 * length (x .modeConditions) + 7 * length (x .conditions) + 4 * length (x .modeEffects) + 6 * length (x .additions)

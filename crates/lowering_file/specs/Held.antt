@@ -1,31 +1,32 @@
 -- What is known of an accepted file while its task is lowered.
 -- Assumes nothing.
 use mathlib.Core.Path.{_≡_}
-use Prim.Native.Nat.{ℕ, _≤_}
+use mathlib.Core.Bool.{Bool}
 use mathlib.Core.List.{List, [], _∷_, _++_, map, flatMap}
+use Prim.Native.Nat.{ℕ, suc, _≤_}
 use lib.ListN.{length, take, drop, getD}
+use lib.IntN.{ℤ}
 use Rattle.integers.specs.Numbers.{Bytes}
 use Rattle.lists.specs.Answer.{given}
+use Rattle.commands.specs.Table.{letterG}
+use Rattle.commands.specs.Encoding.{encode}
+use Rattle.commands.specs.declared.Command.the-variants.{End}
 use Rattle.model.specs.Tasks.{SourceVariable, SourceTask, RestrictedAction}
 use Rattle.model.specs.Limits.{sourceLimits}
 use Rattle.model.specs.Reading.{commandsOf}
 use Rattle.model.specs.ActionBytes.{edgeOf}
 use Rattle.model.specs.Decoding.{sourceTaskOf, readSource}
 use Rattle.model.specs.Steps.{lowerBounds, upperBounds, sourceStart}
-use Rattle.model.specs.Stages.{lowerActions, stageCount}
+use Rattle.model.specs.Stages.{lowerActions, stageCount, holdCount}
 use Rattle.model.specs.Lowering.{numberedAll, lowerTask}
-use Rattle.commands.specs.Table.{letterG}
-use Rattle.commands.specs.Encoding.{encode}
-use Rattle.commands.specs.declared.Command.the-variants.{End}
-use Rattle.file_actions.specs.declared.SourceAction.{SourceAction as DecodedSource}
 use Rattle.source_step.specs.Sizes.{VARIABLES}
-use Rattle.lowering_stages.specs.declared.Shape.{Shape}
-use lib.IntN.{pos}
 use Rattle.file_parts.specs.Row.{rowIs}
 use Rattle.file_parts.specs.With.{withModeCondition}
-use Rattle.lowering_rows.specs.Bytes.{restrictedActionBytes, inFour, rowBytes}
-use Rattle.lowering_file.specs.Parts.{startBytes, modeBytes, modesIn, Constants, GoalWritable}
+use Rattle.lowering_stages.specs.declared.Shape.{Shape}
+use Rattle.lowering_rows.specs.Bytes.{restrictedActionBytes, inFour, rowBytes, WroteRows}
+use Rattle.lowering_file.specs.Parts.{startBytes, modeBytes, modesIn, holdsOf, Constants, GoalWritable}
 use Rattle.lowering_file.specs.declared.Declarations.{Declarations}
+use Rattle.lowering_file.specs.declared.Put.{Put}
 
 -- the task of an accepted file
 abbrev pub taskOf : List ℕ → SourceTask
@@ -57,9 +58,9 @@ pub record Declares (file : List ℕ) (count : ℕ) (d : Declarations) : Type 0 
 abbrev pub goalOf : List ℕ → RestrictedAction
 goalOf file = record { modeConditions = taskOf file .goalModes; conditions = taskOf file .goalConditions; modeEffects = []; additions = [] }
 
-pub record GoalOf (file : List ℕ) (g : DecodedSource) : Type 0 where
-  pub writable : GoalWritable (g .marks) (g .numbers)
-  pub is : rowIs (g .marks) (g .numbers) ≡ goalOf file
+pub record GoalOf (file : List ℕ) (marks : List ℕ) (numbers : List ℤ) : Type 0 where
+  pub writable : GoalWritable marks numbers
+  pub is : rowIs marks numbers ≡ goalOf file
 
 -- ---- what is left of the lowered actions at source action k, whose stages are numbered from `from`
 abbrev pub restAt : List ℕ → ℕ → ℕ → List RestrictedAction
@@ -71,10 +72,32 @@ restAt file from k =
 abbrev pub stagesOfTask : List ℕ → ℕ
 stagesOfTask file = stageCount (lowerBounds (taskOf file)) (upperBounds (taskOf file)) (taskOf file .actions)
 
--- ---- the file that is written from what is read, the size of control being given
-abbrev pub fileWith : List ℕ → Declarations → DecodedSource → ℕ → List ℕ
-fileWith file d g size =
-    flatMap startBytes (take (d .shape .variables) (d .starts) ++ (pos 0 ∷ pos 0 ∷ []))
-    ++ (flatMap modeBytes (modesIn (d .shape .modes) (d .shape .sizes) (d .values) ++ ((size, 0) ∷ []))
-    ++ (flatMap restrictedActionBytes (lowerTask (taskOf file) .actions)
-    ++ ((rowBytes letterG (inFour (withModeCondition (rowIs (g .marks) (g .numbers)) (d .shape .modes, 0))) ++ encode End) ++ [])))
+-- ---- what the declarations take from the actions: the size of control, and whether some action has several effects
+pub record Told (file : List ℕ) (control : ℕ) (several : Bool) : Type 0 where
+  pub controlIs : control ≡ suc (stagesOfTask file)
+  pub holdsAre : holdsOf several ≡ holdCount (taskOf file .actions)
+
+-- ---- the lowered file by its parts: all U, all M, the actions, and the goal with the end behind it
+abbrev pub startsPart : List ℕ → List ℕ
+startsPart file = flatMap startBytes (lowerTask (taskOf file) .starts)
+
+abbrev pub modesPart : List ℕ → List ℕ
+modesPart file = flatMap modeBytes (lowerTask (taskOf file) .modes)
+
+abbrev pub actionsPart : List ℕ → List ℕ
+actionsPart file = flatMap restrictedActionBytes (lowerTask (taskOf file) .actions)
+
+abbrev pub goalEnd : List ℕ → List ℕ
+goalEnd file = rowBytes letterG (inFour (withModeCondition (goalOf file) (length (taskOf file .modes), 0))) ++ encode End
+
+-- in the order of the file; and with the actions first, as they are counted
+abbrev pub inFileOrder : List ℕ → List ℕ
+inFileOrder file = startsPart file ++ (modesPart file ++ (actionsPart file ++ (goalEnd file ++ [])))
+
+abbrev pub actionsFirst : List ℕ → List ℕ
+actionsFirst file = actionsPart file ++ (startsPart file ++ (modesPart file ++ (goalEnd file ++ [])))
+
+-- ---- output with bytes written, rows that are whole, and what the declarations take from the actions
+pub record Acted (file out : List ℕ) (at : ℕ) (xs after : List ℕ) (p : Put) (marks : List ℕ) (numbers : List ℤ) : Type 0 where
+  pub rows : WroteRows out at xs after (p .place) marks numbers
+  pub told : Told file (p .control) (p .several)

@@ -2,6 +2,7 @@
 -- Assumes nothing.
 use mathlib.Core.Path.{_≡_}
 use Prim.Native.Nat.{ℕ, _<_}
+use mathlib.Core.Bool.{Bool, cond}
 use mathlib.Core.List.{List}
 use lib.ListN.{length, getD}
 use lib.IntN.{ℤ, pos, natAbs}
@@ -27,6 +28,10 @@ modeAt sizes values i = (naturalAt sizes i, naturalAt values i)
 
 abbrev pub modesIn : ℕ → List ℕ → List ℕ → List (ℕ × ℕ)
 modesIn n sizes values = tabulate n (modeAt sizes values)
+
+-- ---- how many holds there are, by whether some action has several effects
+abbrev pub holdsOf : Bool → ℕ
+holdsOf several = cond several 3 0
 
 -- ---- what a writer requires: numbers fit the width of a file's
 abbrev pub Constants : ℕ → List ℤ → Type 0

@@ -127,7 +127,3 @@ pub there : {A : Type 0} (xs : List A) (j : ℕ) (d : A) → j < length xs → g
 there [] j d h = absurd (omega arith)
 there (x ∷ xs) zero d h = refl
 there (x ∷ xs) (suc j) d h = there xs j d (omega arith)
-
--- an index below the count of stages, the bounds said in another way
-pub same-below : (S : ℤ → ℤ → List ModelStage) {j : ℕ} {lower lower′ upper upper′ : ℤ} → lower ≡ lower′ → upper ≡ upper′ → j < length (S lower′ upper′) → j < length (S lower upper)
-same-below S e f h = rw (e, f) h

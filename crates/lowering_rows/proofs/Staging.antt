@@ -1,4 +1,4 @@
--- The loop over the stages of an effect: what is left to write at each is its three actions, and what is left behind it.
+-- The loop over the stages of an action: what is left to write at each is its three actions, and what is left behind it.
 -- Assumes nothing.
 use mathlib.Core.Path.{_≡_, refl, sym, ap, _∙_}
 use mathlib.Core.Option.{some, Option·none-ne-some}
@@ -14,6 +14,7 @@ use Rattle.lists.proofs.Writing.{Left, start, step, done, recast, room}
 use Rattle.model.specs.Stages.{NamedAction, Stage, stageActions, firstStage, stagesActions}
 use Rattle.model.specs.Lowering.{numberedAll}
 use Rattle.lowering_rows.specs.Bytes.{restrictedActionBytes}
+use Rattle.lowering_rows.specs.Macros.{stagesBytes}
 use Rattle.lowering_stages.specs.Shapes.{nextNumber}
 use Rattle.lowering_stages.proofs.Effects.{first-next}
 
@@ -31,10 +32,6 @@ left-behind : {A : Type 0} (xs : List A) (k : ℕ) → length (drop (suc k) xs) 
 left-behind [] k = omega arith
 left-behind (x ∷ xs) zero = omega arith
 left-behind (x ∷ xs) (suc k) = left-behind xs k ∙ omega arith
-
--- the bytes of stages numbered from s
-abbrev pub stagesBytes : ℕ → ℕ → ℕ → List Stage → List ℕ
-stagesBytes n m s ds = flatMap restrictedActionBytes (numberedAll n m (stagesActions s ds))
 
 -- into `old` from index `at` on: the output is `out`, the next byte goes to `place`, and the next stage is stage j, with this number
 pub record Staging (n m from : ℕ) (ds : List Stage) (old : List ℕ) (at : ℕ) (out : List ℕ) (place number j : ℕ) : Type 0 where

@@ -1,10 +1,7 @@
 // Parts rows as bytes of a restricted file, and what a source action becomes, row by row, written into lent output.
 //
 // It never looks whether there is room (its caller shows that there is) and never refuses.
-use file_actions::Effect;
-use file_actions::SourceAction;
-use file_actions::TERMS;
-use file_actions::Term;
+use file_actions::Effects;
 use file_parts::ADDITION_AMOUNT;
 use file_parts::ADDITION_COUNT;
 use file_parts::ADDITION_VARIABLE;
@@ -24,23 +21,20 @@ use lowering_stages::Stage;
 ghost use mathlib.Core.Path.{_≡_};
 ghost use Prim.Native.Nat.{_+_, _≤_, _<_, _%_};
 ghost use mathlib.Core.Bool.{cond};
-ghost use mathlib.Core.List.{[], flatMap};
+ghost use mathlib.Core.List.{flatMap};
 ghost use lib.Dec.{eqb};
+ghost use lib.ListN.{length};
 ghost use Rattle.lists.specs.Writing.{Room, Wrote};
 ghost use Rattle.commands.specs.Table.{letterA};
-ghost use Rattle.source_step.specs.Sizes.{VARIABLES};
 ghost use Rattle.file_parts.specs.Layout.{MARKS, NUMBERS};
 ghost use Rattle.file_parts.specs.Row.{rowIs, PartsFit};
 ghost use Rattle.file_parts.specs.With.{condition};
-ghost use Rattle.model.specs.Stages.{stagesActions};
-ghost use Rattle.model.specs.Lowering.{numberedAll};
+ghost use Rattle.file_actions.specs.Views.{effectsIs, sourceActionIs};
+ghost use Rattle.lowering_stages.specs.Stages.{Small, PlacesOk, mostStages, stageNumbers};
+ghost use Rattle.lowering_stages.specs.Shapes.{Bounded};
 ghost use Rattle.lowering_rows.specs.Bytes.{conditionBytes, fourBytes, modePartBytes, additionBytes, restrictedActionBytes, inFour};
-ghost use Rattle.file_actions.specs.Views.{termRoom, effectIs, termsIs};
-ghost use Rattle.lowering_stages.specs.Openings.{Moderate, withOpening};
-ghost use Rattle.lowering_rows.specs.Macros.{Constant, Fit, MacroFit, macroWith, Lowerable, macroIn, Sound};
 ghost use Rattle.lowering_rows.specs.Bytes.{ModePartsThere, modePartsIn, rowBytes, Writable, stageRows, WroteRows};
-ghost use lib.ListN.{length};
-ghost use Rattle.lowering_stages.specs.Stages.{Small, BoundsSmall, StagesSmall, stagesWith, mostStages, stageNumbers};
+ghost use Rattle.lowering_rows.specs.Macros.{Constant, Fit, openingIn, Lowerable, stagesIn, stagesBytes, macroIn, Sound};
 
 // The relation that a restricted file does not have, and the two that stand for it.
 const EQUAL: u16 = 4;
@@ -220,36 +214,43 @@ fn put_stage(
     put_row(out, third, commands::ACTION_BYTE, marks, numbers)
 }
 
-// The stages, so many, of an effect with k terms, whose target has these bounds, through two lent rows; they are numbered from `from`.
+// The stages, so many, of an action with these effects; they are numbered from `from`. Its rows are its own and not lent, so that they need not
+// stay in memory.
 fn put_stages(
     out: &mut [u8],
     at: usize,
-    marks: &mut [u16; MARKS],
-    numbers: &mut [i64; NUMBERS],
-    effect: Effect,
-    k: usize,
-    terms: [Term; TERMS],
-    lower: i64,
-    upper: i64,
+    effects: Effects,
+    shape: Shape,
     count: usize,
-    a: u8,
-    control: u8,
     from: u16,
 ) -> usize
-    requires { ⌜ (length (now marks) ≡ MARKS) × (length (now numbers) ≡ NUMBERS) × (k ≤ termRoom) × StagesSmall effect k terms × BoundsSmall lower upper ⌝ }
-    requires { ⌜ (count ≡ length (stagesWith effect k terms lower upper)) × (count ≤ mostStages) × (a ≤ VARIABLES) × (0 < from) × (from ≤ stageNumbers) ⌝ }
-    requires { ⌜ Room (now out) at (flatMap restrictedActionBytes (numberedAll a control (stagesActions from (stagesWith effect k terms lower upper)))) ⌝ }
-    ensures { λ r. ⌜ Wrote (now (out .entry)) at (flatMap restrictedActionBytes (numberedAll a control
-        (stagesActions from (stagesWith effect k terms lower upper)))) (now (out .exit)) r ⌝ }
+    requires { ⌜ Bounded shape × PlacesOk (shape .variables) effects ⌝ }
+    requires { ⌜ (count ≡ length (stagesIn shape effects)) × (count ≤ mostStages) × (0 < from) × (from ≤ stageNumbers) ⌝ }
+    requires { ⌜ Room (now out) at (stagesBytes (shape .variables) (shape .modes) from (stagesIn shape effects)) ⌝ }
+    ensures { λ r. ⌜ Wrote (now (out .entry)) at (stagesBytes (shape .variables) (shape .modes) from (stagesIn shape effects)) (now (out .exit)) r ⌝ }
 {
+    let a = shape.variables as u8;
+    let control = shape.modes as u8;
+    let mut marks = [0u16; MARKS];
+    let mut numbers = [0i64; NUMBERS];
     let mut place = at;
     let mut number = from;
     let mut j: usize = 0;
     while j < count {
-        let stage = lowering_stages::stage_at(effect, k, terms, lower, upper, a, j);
+        let stage = lowering_stages::stage_at(effects, shape, a, j);
         j += 1;
         let next = lowering_stages::next_stage(number, count - j);
-        place = put_stage(out, place, marks, numbers, stage, a, control, number, next);
+        place = put_stage(
+            out,
+            place,
+            &mut marks,
+            &mut numbers,
+            stage,
+            a,
+            control,
+            number,
+            next,
+        );
         number += 1;
     }
     place
@@ -271,103 +272,41 @@ fn put_opening(
     at: usize,
     marks: &mut [u16; MARKS],
     numbers: &mut [i64; NUMBERS],
-    effect: Effect,
-    lower: i64,
-    upper: i64,
-    a: u8,
-    control: u8,
+    effects: Effects,
+    shape: Shape,
     next: u16,
 ) -> usize
-    requires { ⌜ PartsFit 1 1 1 1 (now marks) × (length (now numbers) ≡ NUMBERS) × BoundsSmall lower upper × Moderate effect ⌝ }
-    requires { ⌜ Fit (withOpening a control next lower upper (effectIs effect []) (rowIs (now marks) (now numbers))) ⌝ }
-    requires { ⌜ Room (now out) at (rowBytes letterA (inFour (withOpening a control next lower upper (effectIs effect [])
-        (rowIs (now marks) (now numbers))))) ⌝ }
-    ensures { λ r. ⌜ WroteRows (now (out .entry)) at (rowBytes letterA (inFour (withOpening a control next lower upper (effectIs effect [])
-        (rowIs (now (marks .entry)) (now (numbers .entry)))))) (now (out .exit)) r (now (marks .exit)) (now (numbers .exit)) ⌝ }
+    requires { ⌜ PartsFit 1 1 1 1 (now marks) × (length (now numbers) ≡ NUMBERS) × Bounded shape × PlacesOk (shape .variables) effects ⌝ }
+    requires { ⌜ Fit (openingIn shape next (effectsIs effects) (rowIs (now marks) (now numbers))) ⌝ }
+    requires { ⌜ Room (now out) at (rowBytes letterA (inFour (openingIn shape next (effectsIs effects) (rowIs (now marks) (now numbers))))) ⌝ }
+    ensures { λ r. ⌜ WroteRows (now (out .entry)) at
+        (rowBytes letterA (inFour (openingIn shape next (effectsIs effects) (rowIs (now (marks .entry)) (now (numbers .entry))))))
+        (now (out .exit)) r (now (marks .exit)) (now (numbers .exit)) ⌝ }
 {
-    lowering_stages::push_opening(marks, numbers, effect, lower, upper, a, control, next);
+    let a = shape.variables as u8;
+    let control = shape.modes as u8;
+    lowering_stages::push_opening(marks, numbers, effects, shape, a, control, next);
     put_row(out, at, commands::ACTION_BYTE, marks, numbers)
 }
 
-// What a source action becomes whose parts stand in two lent rows, and whose effect with k terms has a target with these bounds.
-fn put_effect(
+// What a source action becomes whose parts stand in two lent rows, its stages being numbered from `from`. The rows are written over.
+pub fn put_macro(
     out: &mut [u8],
     at: usize,
     marks: &mut [u16; MARKS],
     numbers: &mut [i64; NUMBERS],
-    effect: Effect,
-    k: usize,
-    terms: [Term; TERMS],
-    lower: i64,
-    upper: i64,
-    a: u8,
-    control: u8,
+    effects: Effects,
+    shape: Shape,
     from: u16,
 ) -> usize
-    requires { ⌜ PartsFit 1 1 1 1 (now marks) × (length (now numbers) ≡ NUMBERS) × BoundsSmall lower upper × Moderate effect ⌝ }
-    requires { ⌜ (k ≤ termRoom) × StagesSmall effect k terms × (a ≤ VARIABLES) × (0 < from) × (from ≤ stageNumbers) × MacroFit (macroWith a control from
-        (rowIs (now marks) (now numbers)) (effectIs effect (termsIs k terms)) lower upper) ⌝ }
-    requires { ⌜ Room (now out) at (flatMap restrictedActionBytes (macroWith a control from (rowIs (now marks) (now numbers))
-        (effectIs effect (termsIs k terms)) lower upper)) ⌝ }
-    ensures { λ r. ⌜ Wrote (now (out .entry)) at (flatMap restrictedActionBytes (macroWith a control from
-        (rowIs (now (marks .entry)) (now (numbers .entry))) (effectIs effect (termsIs k terms)) lower upper)) (now (out .exit)) r ⌝ }
+    requires { ⌜ Lowerable shape (now marks) (now numbers) effects × (0 < from) × (from ≤ stageNumbers)
+        × Sound (macroIn shape from (sourceActionIs (now marks) (now numbers) effects)) ⌝ }
+    requires { ⌜ Room (now out) at (flatMap restrictedActionBytes (macroIn shape from (sourceActionIs (now marks) (now numbers) effects))) ⌝ }
+    ensures { λ r. ⌜ WroteRows (now (out .entry)) at (flatMap restrictedActionBytes (macroIn shape from
+        (sourceActionIs (now (marks .entry)) (now (numbers .entry)) effects))) (now (out .exit)) r (now (marks .exit)) (now (numbers .exit)) ⌝ }
 {
-    let count = lowering_stages::stage_count(effect, k);
+    let count = lowering_stages::stage_count(effects);
     let next = first_stage(from, count);
-    let place = put_opening(
-        out,
-        at,
-        marks,
-        numbers,
-        effect,
-        lower,
-        upper,
-        a,
-        control,
-        next,
-    );
-    put_stages(
-        out,
-        place,
-        marks,
-        numbers,
-        effect,
-        k,
-        terms,
-        lower,
-        upper,
-        count,
-        a,
-        control,
-        from,
-    )
-}
-
-// What a source action becomes, its stages being numbered from `from`.
-pub fn put_macro(out: &mut [u8], at: usize, action: SourceAction, shape: Shape, from: u16) -> usize
-    requires { ⌜ Lowerable shape action × (0 < from) × (from ≤ stageNumbers) × Sound (macroIn shape from action) ⌝ }
-    requires { ⌜ Room (now out) at (flatMap restrictedActionBytes (macroIn shape from action)) ⌝ }
-    ensures { λ r. ⌜ Wrote (now (out .entry)) at (flatMap restrictedActionBytes (macroIn shape from action)) (now (out .exit)) r ⌝ }
-{
-    let effect = action.effect;
-    let terms = action.terms;
-    let mut marks = action.marks;
-    let mut numbers = action.numbers;
-    let target = lowering_stages::target_of(effect);
-    let lower = lowering_stages::lower_of(shape, target);
-    let upper = lowering_stages::upper_of(shape, target);
-    put_effect(
-        out,
-        at,
-        &mut marks,
-        &mut numbers,
-        effect,
-        action.term_count,
-        terms,
-        lower,
-        upper,
-        shape.variables as u8,
-        shape.modes as u8,
-        from,
-    )
+    let place = put_opening(out, at, marks, numbers, effects, shape, next);
+    put_stages(out, place, effects, shape, count, from)
 }

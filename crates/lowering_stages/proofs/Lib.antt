@@ -1,4 +1,5 @@
 pub mod Effects
+pub mod Holds
 pub mod Making
 pub mod Numbers
 pub mod Openings

@@ -1,6 +1,6 @@
 -- The numbers of each kind of stage are those of the model's.
 -- Assumes nothing.
-use mathlib.Core.Path.{_≡_, refl, ap}
+use mathlib.Core.Path.{_≡_, refl, ap, ap₂}
 use Prim.Native.Nat.{ℕ, zero, suc, _+_, _≤_}
 use native.Mathlib.Numerals.{add-one}
 use native.Mathlib.Omega.{arith}
@@ -11,13 +11,13 @@ use lib.IntN.{ℤ, pos, negsuc, natAbs, negℤ}
 use Rattle.integers.specs.Division.{unitLess, sign}
 use Rattle.lists.specs.Each.{tabulate}
 use Rattle.model.specs.Steps.{integerAt}
-use Rattle.model.specs.Stages.{Name, drain, refill, divide, empty, move}
-use Rattle.model.specs.Lowering.{numberOfName}
+use Rattle.model.specs.Stages.{Name, hold, drain, refill, divide, empty, move, moveToHold}
+use Rattle.model.specs.Lowering.{numberOfName, numberedAdditions}
 use Rattle.lowering_stages.specs.declared.Stage.{Stage as Numbers}
-use Rattle.lowering_stages.specs.Stages.{Small, Stands}
+use Rattle.lowering_stages.specs.Stages.{givenIs, Small, Stands}
 
-abbrev numbersOf : ℕ → ℤ → ℕ → List ℕ → List ℤ → Numbers
-numbersOf counter unit added variables amounts = record {
+abbrev giving : ℕ → ℤ → ℕ → List ℕ → List ℤ → ℤ → Numbers
+giving counter unit added variables amounts gives = record {
   counter = counter;
   unit = unit;
   deep = pos 0;
@@ -28,8 +28,11 @@ numbersOf counter unit added variables amounts = record {
   target = 0;
   lower = pos 0;
   upper = pos 0;
-  gives = pos 0;
+  gives = gives;
 }
+
+abbrev numbersOf : ℕ → ℤ → ℕ → List ℕ → List ℤ → Numbers
+numbersOf counter unit added variables amounts = giving counter unit added variables amounts (pos 0)
 
 abbrev moving : ℕ → ℕ → ℤ → ℤ → Numbers
 moving t v lower upper = record {
@@ -126,4 +129,27 @@ move-stands t v lower upper hl hu a name e = record {
   asks = refl;
   gives = refl;
   adds = ap (λ (b : ℕ). (t, pos 1) ∷ (b, negsuc 0) ∷ []) e;
+}
+
+pub hold-stands : (a e v h : ℕ) (gives : ℤ) → h ≡ numberOfName a (hold e) → natAbs gives ≤ 10000 → (name : Name) (entering : List (Name × ℤ)) → v
+    ≡ numberOfName a name
+    → givenIs a gives ≡ numberedAdditions a entering
+    → Stands a (moveToHold e name entering) (giving v (pos 1) 2 (v ∷ h ∷ 0 ∷ 0 ∷ []) (negsuc 0 ∷ pos 1 ∷ pos 0 ∷ pos 0 ∷ []) gives)
+unfolding tabulate
+hold-stands a e v h gives isHold small name entering isName isGiven = record {
+  small = record {
+    unit = lit≤ tt;
+    deep = lit≤ tt;
+    few = lit≤ tt;
+    lower = lit≤ tt;
+    upper = lit≤ tt;
+    gives = small;
+    amounts = four (negsuc 0) (pos 1) (pos 0) (pos 0) (lit≤ tt) (lit≤ tt) (lit≤ tt) (lit≤ tt);
+  };
+  counter = isName;
+  unit = refl;
+  deep = refl;
+  asks = refl;
+  gives = isGiven;
+  adds = ap₂ (λ (x y : ℕ). (x, negsuc 0) ∷ (y, pos 1) ∷ []) isName isHold;
 }

@@ -1,4 +1,4 @@
--- The opening or single action of a source action: the parts of the source action, what its effect needs and adds, and control.
+-- The opening or single action of a source action: the parts of the source action, what its effects need and add, and control.
 -- Assumes nothing.
 use mathlib.Core.Path.{_≡_, refl, sym, ap, ap₂, _∙_}
 use mathlib.Core.Bool.{Bool, true, false, cond}
@@ -10,45 +10,50 @@ use lib.Dec.{eqb, lit≤}
 use lib.ListN.{length, length-append}
 use lib.IntN.{ℤ, pos, negsuc, _-ℤ_}
 use lib.Signed.{ltZ}
-use Rattle.model.specs.Tasks.{NumericCondition, Effect, noEffect, addEffect, linearEffect, quotientEffect, residueEffect, RestrictedAction}
+use Rattle.model.specs.Tasks.{NumericCondition, Effect, addEffect, linearEffect, quotientEffect, residueEffect, RestrictedAction}
 use Rattle.integers.specs.Relation.{atMost, atLeast}
-use Rattle.model.specs.Stages.{source, when, addedBound, openingAdditions}
+use Rattle.model.specs.Stages.{source, when, addToA, enteringAdditions, addedBound, openingAdditions}
 use Rattle.model.specs.Lowering.{numberedAdditions, numberedConditions}
 use Rattle.file_parts.specs.Row.{rowIs, PartsFit, Says}
 use Rattle.file_parts.specs.With.{condition, withCondition, withModeCondition, withModeEffect, withAddition}
 use Rattle.file_parts.proofs.Pushing.{Sized, parts-fit}
-use Rattle.lowering_stages.specs.Stages.{givenIs, withAdditions}
+use Rattle.lowering_stages.specs.Stages.{givenIs, withAdditions, enteringAmount}
 use Rattle.lowering_stages.specs.Openings.{boundIs, withNumeric, withOpening}
-use Rattle.lowering_stages.proofs.Rows.{sized, said}
+use Rattle.lowering_stages.proofs.Effects.{entering-given}
+use Rattle.lowering_stages.proofs.Rows.{sized}
 
--- ---- what an effect needs and adds
-module _ (a : ℕ) (lower upper : ℤ) where
-  pub nothing-more : (e : Effect) (x : RestrictedAction) → addedBound (λ t. lower) (λ t. upper) e ≡ [] → openingAdditions e ≡ [] → x ≡ withNumeric a lower upper e x
-  nothing-more e x f g = rw (f, g, append-nil (x .conditions), append-nil (x .additions))
+-- ---- what effects need and add
+module _ (a : ℕ) (lower upper : ℕ → ℤ) where
+  pub nothing-more : (es : List Effect) (x : RestrictedAction) → addedBound lower upper es ≡ [] → openingAdditions es ≡ [] → x ≡ withNumeric a lower upper es x
+  nothing-more es x f g = rw (f, g, append-nil (x .conditions), append-nil (x .additions))
 
-  pub add-more : (t : ℕ) (c : ℤ) (x : RestrictedAction) → withAddition (withCondition x (boundIs t c lower upper)) (t, c) ≡ withNumeric a lower upper (addEffect t c) x
+  pub add-more : (t : ℕ) (c : ℤ) (x : RestrictedAction)
+      → withAddition (withCondition x (boundIs t c (lower t) (upper t))) (t, c) ≡ withNumeric a lower upper (addEffect t c ∷ []) x
   add-more t c x = by (ltZ (pos 0) c)
     where
-      by : (b : Bool) → withAddition (withCondition x (cond b (condition t 1 (upper -ℤ c)) (condition t 2 (lower -ℤ c)))) (t, c)
+      by : (b : Bool) → withAddition (withCondition x (cond b (condition t 1 (upper t -ℤ c)) (condition t 2 (lower t -ℤ c)))) (t, c)
           ≡ record {
             modeConditions = x .modeConditions;
-            conditions = x .conditions ++ numberedConditions a (cond b (when (source t) atMost (upper -ℤ c)) (when (source t) atLeast (lower -ℤ c)) ∷ []);
+            conditions = x .conditions ++ numberedConditions a (cond b (when (source t) atMost (upper t -ℤ c)) (when (source t) atLeast (lower t -ℤ c)) ∷ []);
             modeEffects = x .modeEffects;
             additions = x .additions ++ ((t, c) ∷ []);
           }
       by true = refl
       by false = refl
 
-  pub linear-more : (t : ℕ) (w : ℤ) (x : RestrictedAction) → withAdditions x (givenIs a w) ≡ withNumeric a lower upper (linearEffect t w []) x
-  linear-more t (pos zero) x = rw (append-nil (x .conditions))
-  linear-more t (pos (suc k)) x = rw (append-nil (x .conditions), ne-eqb (suc k) 0 (λ q. omega arith))
-  linear-more t (negsuc k) x = rw (append-nil (x .conditions), ne-eqb (suc k) 0 (λ q. omega arith))
+  given-more : (es : List Effect) (z : ℤ) (x : RestrictedAction) → addedBound lower upper es ≡ [] → givenIs a z ≡ numberedAdditions a (openingAdditions es)
+      → withAdditions x (givenIs a z) ≡ withNumeric a lower upper es x
+  given-more es z x f g = rw (f, g, append-nil (x .conditions))
 
-  -- its parts pushed, of rows that say x, the bounds said in another way
-  pub numeric-pushed : (e : Effect) {lower′ upper′ : ℤ} {x : RestrictedAction} {marks marks′ : List ℕ} {numbers numbers′ : List ℤ} → lower′ ≡ lower → upper′ ≡ upper → Says x marks numbers
-      → Says (withNumeric a lower′ upper′ e (rowIs marks numbers)) marks′ numbers′ → Says (withNumeric a lower upper e x) marks′ numbers′
-  numeric-pushed e {lower′} {upper′} {x} f g h w =
-      said (ap₂ (λ (l u : ℤ). withNumeric a l u e x) f g) (record { marksLong = w .marksLong; numbersLong = w .numbersLong; is = w .is ∙ ap (withNumeric a lower′ upper′ e) (h .is) })
+  pub linear-more : (t : ℕ) (w : ℤ) (ts : List (ℕ × ℤ)) (x : RestrictedAction) → withAdditions x (givenIs a w)
+      ≡ withNumeric a lower upper (linearEffect t w ts ∷ []) x
+  linear-more t w ts x = given-more (linearEffect t w ts ∷ []) w x refl (entering-given a (linearEffect t w ts))
+
+  -- several: what entering the stages of the first adds
+  pub several-more : (e : Effect) (es : List Effect) (x : RestrictedAction) → 1 ≤ length es → withAdditions x (givenIs a (enteringAmount e))
+      ≡ withNumeric a lower upper (e ∷ es) x
+  several-more e [] x h = absurd (omega arith)
+  several-more e (f ∷ es) x h = given-more (e ∷ f ∷ es) (enteringAmount e) x refl (entering-given a e)
 
 -- ---- room
 module _ {marks : List ℕ} where
@@ -84,35 +89,52 @@ module _ {marks : List ℕ} where
         additions = z .additions;
       })
 
-  -- and for control, the effect being there
-  module _ (numbers : List ℤ) (r : PartsFit 1 1 1 1 marks) (a : ℕ) (lower upper : ℤ) where
-    bound-few : (y : Effect) → length (numberedConditions a (addedBound (λ t. lower) (λ t. upper) y)) ≤ 1
-    bound-few noEffect = lit≤ tt
-    bound-few (addEffect t c) = lit≤ tt
-    bound-few (linearEffect t v ts) = lit≤ tt
-    bound-few (quotientEffect t v c) = lit≤ tt
-    bound-few (residueEffect t v c) = lit≤ tt
+  -- and for control, the effects being there
+  module _ (numbers : List ℤ) (r : PartsFit 1 1 1 1 marks) (a : ℕ) (lower upper : ℕ → ℤ) where
+    bound-few : (es : List Effect) → length (numberedConditions a (addedBound lower upper es)) ≤ 1
+    bound-few [] = lit≤ tt
+    bound-few (addEffect t c ∷ []) = lit≤ tt
+    bound-few (linearEffect t v ts ∷ []) = lit≤ tt
+    bound-few (quotientEffect t v c ∷ []) = lit≤ tt
+    bound-few (residueEffect t v c ∷ []) = lit≤ tt
+    bound-few (e ∷ f ∷ es) = lit≤ tt
 
-    added-few : (y : Effect) → length (numberedAdditions a (openingAdditions y)) ≤ 1
-    added-few noEffect = lit≤ tt
-    added-few (addEffect t c) = lit≤ tt
-    added-few (linearEffect t (pos zero) ts) = lit≤ tt
-    added-few (linearEffect t (pos (suc n)) ts) = lit≤ tt
-    added-few (linearEffect t (negsuc n) ts) = lit≤ tt
-    added-few (quotientEffect t v c) = lit≤ tt
-    added-few (residueEffect t v c) = lit≤ tt
+    given-few : (z : ℤ) → length (numberedAdditions a (addToA z)) ≤ 1
+    given-few (pos zero) = lit≤ tt
+    given-few (pos (suc n)) = lit≤ tt
+    given-few (negsuc n) = lit≤ tt
 
-    module _ (y : Effect) where
-      conditions-few : length (rowIs marks numbers .conditions ++ numberedConditions a (addedBound (λ t. lower) (λ t. upper) y)) ≤ 24
-      conditions-few = let z = sized numbers r in omega (arith, z .conditions, length-append (rowIs marks numbers .conditions) (numberedConditions a (addedBound (λ t. lower) (λ t. upper) y)), bound-few y)
+    entering-few : (e : Effect) → length (numberedAdditions a (enteringAdditions e)) ≤ 1
+    entering-few (addEffect t c) = given-few c
+    entering-few (linearEffect t w ts) = given-few w
+    entering-few (quotientEffect t v c) = lit≤ tt
+    entering-few (residueEffect t v c) = lit≤ tt
 
-      additions-few : length (rowIs marks numbers .additions ++ numberedAdditions a (openingAdditions y)) ≤ 16
-      additions-few = let z = sized numbers r in omega (arith, z .additions, length-append (rowIs marks numbers .additions) (numberedAdditions a (openingAdditions y)), added-few y)
+    added-few : (es : List Effect) → length (numberedAdditions a (openingAdditions es)) ≤ 1
+    added-few [] = lit≤ tt
+    added-few (addEffect t c ∷ []) = lit≤ tt
+    added-few (linearEffect t w ts ∷ []) = given-few w
+    added-few (quotientEffect t v c ∷ []) = lit≤ tt
+    added-few (residueEffect t v c ∷ []) = lit≤ tt
+    added-few (e ∷ f ∷ es) = entering-few e
+
+    module _ (es : List Effect) where
+      conditions-few : length (rowIs marks numbers .conditions ++ numberedConditions a (addedBound lower upper es)) ≤ 24
+      conditions-few =
+          let z = sized numbers r in
+          omega (arith, z .conditions, length-append (rowIs marks numbers .conditions) (numberedConditions a (addedBound lower upper es)), bound-few es)
+
+      additions-few : length (rowIs marks numbers .additions ++ numberedAdditions a (openingAdditions es)) ≤ 16
+      additions-few =
+          let z = sized numbers r in
+          omega (arith, z .additions, length-append (rowIs marks numbers .additions) (numberedAdditions a (openingAdditions es)), added-few es)
 
       asked-few : (p : ℕ × ℕ) → length (rowIs marks numbers .modeConditions ++ (p ∷ [])) ≤ 16
       asked-few p = let z = sized numbers r in omega (arith, z .modeConditions, length-append (rowIs marks numbers .modeConditions) (p ∷ []))
 
-      pub opened-room : (p : ℕ × ℕ) {marks′ : List ℕ} {numbers′ : List ℤ} → Says (withNumeric a lower upper y (withModeCondition (rowIs marks numbers) p)) marks′ numbers′ → PartsFit 0 0 1 0 marks′
+      pub opened-room : (p : ℕ × ℕ) {marks′ : List ℕ} {numbers′ : List ℤ}
+          → Says (withNumeric a lower upper es (withModeCondition (rowIs marks numbers) p)) marks′ numbers′
+          → PartsFit 0 0 1 0 marks′
       opened-room p w =
           parts-fit w (record {
             conditions = omega (arith, conditions-few);
@@ -122,11 +144,16 @@ module _ {marks : List ℕ} where
           })
 
       -- the whole has no more parts than there is room for
-      pub opening-sized : (m next : ℕ) → Sized 0 0 0 0 (withOpening a m next lower upper y (rowIs marks numbers))
+      pub opening-sized : (m next : ℕ) → Sized 0 0 0 0 (withOpening a m next lower upper es (rowIs marks numbers))
       opening-sized m next = record {
         conditions = omega (arith, conditions-few);
         modeConditions = omega (arith, asked-few (m, 0));
-        modeEffects = omega (arith, sized numbers r .modeEffects, length-append (rowIs marks numbers .modeEffects) (cond (eqb 0 next) [] ((m, next) ∷ [])), set-few (eqb 0 next) (m, next));
+        modeEffects = omega (
+          arith,
+          sized numbers r .modeEffects,
+          length-append (rowIs marks numbers .modeEffects) (cond (eqb 0 next) [] ((m, next) ∷ [])),
+          set-few (eqb 0 next) (m, next),
+        );
         additions = omega (arith, additions-few);
       }
         where
@@ -135,13 +162,10 @@ module _ {marks : List ℕ} where
           set-few false e = lit≤ tt
 
 -- ---- control after it: as it was, or at the first stage
-module _ (a m next : ℕ) (lower upper : ℤ) (e : Effect) (x : RestrictedAction) where
-  pub single-is : next ≡ 0 → withNumeric a lower upper e (withModeCondition x (m, 0)) ≡ withOpening a m next lower upper e x
+module _ (a m next : ℕ) (lower upper : ℕ → ℤ) (es : List Effect) (x : RestrictedAction) where
+  pub single-is : next ≡ 0 → withNumeric a lower upper es (withModeCondition x (m, 0)) ≡ withOpening a m next lower upper es x
   single-is z = rw (z, append-nil (x .modeEffects))
 
-  pub macro-opens : (next ≡ 0 → ⊥) → withModeEffect (withNumeric a lower upper e (withModeCondition x (m, 0))) (m, next) ≡ withOpening a m next lower upper e x
+  pub macro-opens : (next ≡ 0 → ⊥) → withModeEffect (withNumeric a lower upper es (withModeCondition x (m, 0))) (m, next)
+      ≡ withOpening a m next lower upper es x
   macro-opens h = rw (ne-eqb 0 next (λ q. h (sym q)))
-
-  -- its bounds said in another way
-  pub opening-said : {lower′ upper′ : ℤ} {marks : List ℕ} {numbers : List ℤ} → lower′ ≡ lower → upper′ ≡ upper → Says (withOpening a m next lower′ upper′ e x) marks numbers → Says (withOpening a m next lower upper e x) marks numbers
-  opening-said f g w = said (ap₂ (λ (l u : ℤ). withOpening a m next l u e x) f g) w

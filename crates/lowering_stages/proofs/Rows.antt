@@ -6,7 +6,7 @@ use native.Mathlib.Numerals.{add-one}
 use native.Mathlib.Omega.{arith}
 use mathlib.Core.Bool.{Bool, true, false, cond}
 use mathlib.Core.List.{List, [], _∷_, _++_, append-assoc, append-nil}
-use mathlib.Core.Option.{Option, some}
+use mathlib.Core.Option.{Option, some, Option·none-ne-some}
 use lib.Dec.{eqb, lit≤}
 use lib.ListN.{length, length-append}
 use lib.IntN.{ℤ, pos, negsuc, natAbs, negℤ, _-ℤ_, +ℤ-idr}
@@ -26,7 +26,7 @@ use Rattle.file_parts.specs.With.{condition, withCondition, withAddition}
 use Rattle.file_parts.proofs.Pushing.{Sized, parts-fit, pushed}
 use Rattle.lowering_stages.proofs.Numbers.{one-less}
 use Rattle.lowering_stages.specs.declared.Stage.{Stage as Numbers}
-use Rattle.lowering_stages.specs.Stages.{signedAt, addedIs, askedIs, givenIs, strokeIs, turnIs, Stands, withConditions, withAdditions}
+use Rattle.lowering_stages.specs.Stages.{signedAt, addedIs, askedIs, givenIs, strokeIs, turnIs, Stands, StandsAt, withConditions, withAdditions}
 
 -- ---- what a turn asks of its target is in the four relations as it is
 pub asks-in-four : (s : Numbers) → allInFourRelations (askedIs s) ≡ askedIs s
@@ -114,6 +114,12 @@ given {a} {x} {r} h d e = let f : x ≡ d = cc in subst (λ (z : Stage). Stands 
 
 pub known : {a : ℕ} {x : Stage} {r : Numbers} {o : Option Stage} → Stands a x r → o ≡ some x → (d : Stage) → o ≡ some d → Stands a d r
 known h e d f = given h d (sym e ∙ f)
+
+-- of two stages the second, where there is one
+pub second : {a : ℕ} (x : Stage) {y : Stage} {r : Numbers} → Stands a y r → (j : ℕ) → (j ≡ 0 → ⊥) → StandsAt a (x ∷ y ∷ []) j r
+second x h zero n = absurd (n refl)
+second x h (suc zero) n = given h
+second x h (suc (suc j)) n = λ d e. absurd (Option·none-ne-some d e)
 
 -- ---- the bounds of a target, and what a turn gives
 module _ (marks : List ℕ) (numbers : List ℤ) (c : NumericCondition ℕ) {marks′ : List ℕ} {numbers′ : List ℤ} where

@@ -5,22 +5,24 @@ use Prim.Native.Nat.{ℕ, suc, _+_, _*_, _<_, _≤_}
 use mathlib.Core.Bool.{Bool, true, cond}
 use mathlib.Core.List.{List, [], _∷_, _++_}
 use mathlib.Core.Option.{some}
-use lib.ListN.{getD, getElem?}
+use lib.ListN.{length, getD, getElem?, drop}
 use lib.Dec.{eqb}
 use lib.IntN.{ℤ, pos, negsuc, natAbs, negℤ, _-ℤ_}
+use Rattle.integers.specs.All.{All}
 use Rattle.lists.specs.Each.{tabulate}
-use Rattle.model.specs.Tasks.{NumericCondition, RestrictedAction}
+use Rattle.model.specs.Tasks.{NumericCondition, Effect, addEffect, linearEffect, quotientEffect, residueEffect, RestrictedAction}
 use Rattle.model.specs.Steps.{integerAt, naturalAt}
 use Rattle.model.specs.Limits.{sourceLimits}
-use Rattle.model.specs.TaskOk.{InRange, Factor}
-use Rattle.model.specs.Stages.{Stage, Name, helperA, leftOver, drain, refill, divide, empty, clear, move, drainTerms, stagesOf}
+use Rattle.model.specs.TaskOk.{InRange, EffectOk}
+use Rattle.model.specs.Stages.{Stage, leftOver, resultStages, holdStages}
 use Rattle.model.specs.Lowering.{numberOfName, numberedAdditions, numberedConditions}
 use Rattle.file_actions.specs.declared.Term.{Term}
-use Rattle.file_actions.specs.declared.Effect.{Effect}
-use Rattle.file_actions.specs.declared.Effect.the-variants.{None, Add, Linear, Quotient, Residue}
-use Rattle.file_actions.specs.Views.{termRoom, termsIs, effectIs}
+use Rattle.file_actions.specs.declared.NumericEffect.{NumericEffect}
+use Rattle.file_actions.specs.declared.Effects.{Effects}
+use Rattle.file_actions.specs.Views.{effectRoom, termRoom, numericIs, effectsIs}
 use Rattle.file_parts.specs.With.{condition}
 use Rattle.lowering_stages.specs.declared.Stage.{Stage as Numbers}
+use Rattle.lowering_stages.specs.declared.Found.{Found}
 
 -- ---- what it adds, falling or rising; what its turn asks of the target, and adds
 abbrev pub signed : Bool → ℤ → ℤ
@@ -94,44 +96,54 @@ withAdditions x es = record { modeConditions = x .modeConditions; conditions = x
 abbrev pub StandsAt : ℕ → List Stage → ℕ → Numbers → Type 0
 StandsAt a stages j s = (d : Stage) → getElem? stages j ≡ some d → Stands a d s
 
--- ---- the stages of each effect that has any, its target's bounds given
-abbrev pub linearStages : ℕ → List (ℕ × ℤ) → ℤ → ℤ → List Stage
-linearStages t ts lower upper = drainTerms ts (clear t ∷ move t helperA lower upper ∷ [])
+-- ---- stages of several effects
+-- of stage j, in which effect's stages it stands, and as which of them, its Move into a hold being the last; where `effect` is their count, as
+-- which of those behind all of these
+pub record FoundAt (es : List Effect) (j : ℕ) (p : Found) : Type 0 where
+  pub within : p .effect ≤ length es
+  pub inside : (e : Effect) → getElem? es (p .effect) ≡ some e → p .stage ≤ length (resultStages e [])
+  pub same : (rest : List Stage) → getElem? (holdStages 0 es rest) j ≡ getElem? (holdStages (p .effect) (drop (p .effect) es) rest) (p .stage)
 
--- Q and R: which helper is emptied, and which is moved
-abbrev pub divisionStages : ℕ → ℕ → ℤ → Name → Name → ℤ → ℤ → List Stage
-divisionStages t y c emptied moved lower upper = drain y (pos 1) ∷ refill y ∷ divide c ∷ empty emptied ∷ clear t ∷ move t moved lower upper ∷ []
+-- what entering an effect's stages adds to A: w0, and of + its c
+abbrev pub enteringAmount : Effect → ℤ
+enteringAmount (addEffect t c) = c
+enteringAmount (linearEffect t w ts) = w
+enteringAmount (quotientEffect t y c) = pos 0
+enteringAmount (residueEffect t y c) = pos 0
 
--- the stages of an effect with k terms, its target's bounds given
-abbrev pub stagesWith : Effect → ℕ → List Term → ℤ → ℤ → List Stage
-stagesWith e k terms lower upper = stagesOf (λ t. lower) (λ t. upper) (effectIs e (termsIs k terms))
+-- behind an effect's stages: of the next, where there is one
+abbrev pub nextAmount : List Effect → ℤ
+nextAmount [] = pos 0
+nextAmount (e ∷ es) = enteringAmount e
 
--- the most stages that an effect has: those of an L with all its terms
+-- the most stages of one effect before Clear: those of an L with all its terms
+abbrev pub mostResultStages : ℕ
+mostResultStages = 2 * termRoom
+
+-- the most stages of an action: of each of its effects these, the Move into its hold, Clear, and the Move out of it
 abbrev pub mostStages : ℕ
-mostStages = 2 * termRoom + 2
+mostStages = effectRoom * (mostResultStages + 3)
 
--- a number that the stages of no task reach
+-- the most stages of a task
 abbrev pub stageNumbers : ℕ
-stageNumbers = 1000
+stageNumbers = sourceLimits .actions * mostStages
 
--- the target of an effect, 0 where there is none
-abbrev pub targetIs : Effect → ℕ
-targetIs None = 0
-targetIs (Add t c) = t
-targetIs (Linear t w) = t
-targetIs (Quotient t y c) = t
-targetIs (Residue t y c) = t
+-- ---- what is known of an effect in a source task with n variables, and of the effects of an action
+pub record PlaceOk (n : ℕ) (e : NumericEffect) : Type 0 where
+  pub termsFew : e .«term_count» ≤ termRoom
+  pub effectOk : EffectOk sourceLimits n (numericIs e)
 
--- ---- the numbers of an effect are those of a source file: the bounds of its target, the weights of its first k terms, its constant
+pub record PlacesFew (r : Effects) : Type 0 where
+  pub few : r .count ≤ effectRoom
+  pub termsFew : All (λ (e : NumericEffect). e .«term_count» ≤ termRoom) (r .places)
+
+pub record PlacesOk (n : ℕ) (r : Effects) : Type 0 where
+  pub few : PlacesFew r
+  pub effectsOk : All (EffectOk sourceLimits n) (effectsIs r)
+
+-- the bounds of a target, and the weights of the first k terms, are those of a source file
 abbrev pub BoundsSmall : ℤ → ℤ → Type 0
 BoundsSmall lower upper = InRange sourceLimits lower × InRange sourceLimits upper
 
 abbrev pub WeightsSmall : ℕ → List Term → Type 0
 WeightsSmall k terms = (i : ℕ) (d : Term) → i < k → InRange sourceLimits (getD terms i d .weight)
-
-abbrev pub StagesSmall : Effect → ℕ → List Term → Type 0
-StagesSmall None k terms = Unit {0}
-StagesSmall (Add t c) k terms = Unit {0}
-StagesSmall (Linear t w) k terms = WeightsSmall k terms
-StagesSmall (Quotient t y c) k terms = Factor sourceLimits c
-StagesSmall (Residue t y c) k terms = Factor sourceLimits c

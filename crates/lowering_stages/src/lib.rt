@@ -1,7 +1,9 @@
 // A stage of a macro as a struct of numbers, made by a constructor for each kind, and the actions that it becomes, as parts rows.
 //
-// It knows one effect and the numbers that it needs of its task, never a file, and it writes no byte.
+// It knows the effects of one action and the numbers that it needs of its task, never a file, and it writes no byte.
 use file_actions::Effect;
+use file_actions::Effects;
+use file_actions::NumericEffect;
 use file_actions::TERMS;
 use file_actions::Term;
 use file_parts::MARKS;
@@ -10,25 +12,29 @@ use source_step::MODES;
 use source_step::VARIABLES;
 ghost use mathlib.Core.Path.{_≡_};
 ghost use mathlib.Core.Bool.{cond};
-ghost use mathlib.Core.List.{List, []};
+ghost use mathlib.Core.List.{List, [], _∷_};
+ghost use mathlib.Core.Option.{some};
 ghost use Prim.Native.Nat.{ℕ, suc, _+_, _*_, _≤_, _<_};
-ghost use lib.ListN.{length};
+ghost use lib.ListN.{length, getElem?, drop};
 ghost use lib.IntN.{ℤ, pos, natAbs, negℤ, _-ℤ_};
 ghost use Rattle.integers.specs.Division.{unitLess, sign};
+ghost use Rattle.model.specs.Tasks.{Effect as ModelEffect};
 ghost use Rattle.model.specs.Limits.{sourceLimits};
-ghost use Rattle.model.specs.TaskOk.{InRange, Factor};
-ghost use Rattle.model.specs.Stages.{Name, drain, refill, divide, empty, move, stagesOf};
-ghost use Rattle.model.specs.Lowering.{numberOfName};
+ghost use Rattle.model.specs.TaskOk.{InRange, Factor, EffectOk};
+ghost use Rattle.model.specs.Steps.{target};
+ghost use Rattle.model.specs.Stages.{Stage as ModelStage, Name, hold, drain, refill, divide, empty, move, moveToHold, drainTerms, resultStages, resultIn};
+ghost use Rattle.model.specs.Stages.{holdStages, setStages, unloadStages, singleStages, stagesOf};
+ghost use Rattle.model.specs.Lowering.{numberOfName, numberedAdditions};
 ghost use Rattle.source_step.specs.Sizes.{VARIABLES};
 ghost use Rattle.file_parts.specs.Layout.{MARKS, NUMBERS};
 ghost use Rattle.file_parts.specs.Row.{rowIs, PartsFit, Says};
 ghost use Rattle.file_parts.specs.With.{withCondition};
+ghost use Rattle.file_actions.specs.Views.{effectRoom, termRoom, termsIs, numericIs, effectsIs};
 ghost use Rattle.lowering_stages.specs.Stages.{signed, addedIs, askedIs, givenIs, thresholdIs, strokeIs, turnIs, Small, Stands};
-ghost use Rattle.lowering_stages.specs.Stages.{withConditions, withAdditions, StandsAt, divisionStages};
-ghost use Rattle.file_actions.specs.Views.{termRoom, effectIs, termsIs};
-ghost use Rattle.lowering_stages.specs.Openings.{boundIs, withNumeric, withOpening, Moderate};
-ghost use Rattle.lowering_stages.specs.Shapes.{lowerOf, upperOf, nextNumber};
-ghost use Rattle.lowering_stages.specs.Stages.{BoundsSmall, WeightsSmall, linearStages, StagesSmall, stagesWith, mostStages, stageNumbers, targetIs};
+ghost use Rattle.lowering_stages.specs.Stages.{withConditions, withAdditions, StandsAt, FoundAt, enteringAmount, nextAmount};
+ghost use Rattle.lowering_stages.specs.Stages.{mostResultStages, mostStages, stageNumbers, PlaceOk, PlacesFew, PlacesOk, BoundsSmall, WeightsSmall};
+ghost use Rattle.lowering_stages.specs.Shapes.{lowerOf, upperOf, Bounded, nextNumber};
+ghost use Rattle.lowering_stages.specs.Openings.{boundIs, withNumeric, withOpening};
 
 // What the lowering must know of a task: its variables with their bounds, and its modes with their sizes.
 pub struct Shape {
@@ -172,7 +178,7 @@ fn empty_of(v: u8) -> Stage
     }
 }
 
-// Move from A or B, the variable with this number, to a target with these bounds.
+// Move to a target with these bounds, from the variable with this number.
 fn move_of(t: u8, v: u8, lower: i64, upper: i64) -> Stage
     requires { ⌜ BoundsSmall lower upper ⌝ }
     ensures { λ r. ⌜ ((a : ℕ) (name : Name) → v ≡ numberOfName a name → Stands a (move t name lower upper) r) ⌝ }
@@ -192,86 +198,121 @@ fn move_of(t: u8, v: u8, lower: i64, upper: i64) -> Stage
     }
 }
 
-// Stage j of an L with k terms.
-fn linear_stage(
-    a: u8,
-    t: u8,
-    k: usize,
-    terms: [Term; TERMS],
-    lower: i64,
-    upper: i64,
-    j: usize,
-) -> Stage
-    requires { ⌜ (a ≤ VARIABLES) × (k ≤ termRoom) × (j < 2 * k + 2) × WeightsSmall k terms × BoundsSmall lower upper ⌝ }
-    ensures { λ r. ⌜ StandsAt a (linearStages t (termsIs k terms) lower upper) j r ⌝ }
+// The number of hold e.
+fn hold_number(a: u8, e: usize) -> u8
+    requires { ⌜ (a ≤ VARIABLES) × (e < effectRoom) ⌝ }
+    ensures { λ r. ⌜ r ≡ numberOfName a (hold e) ⌝ }
 {
-    if j == 2 * k {
-        return empty_of(t);
-    }
-    if 2 * k < j {
-        return move_of(t, a, lower, upper);
-    }
-    let i = j / 2;
-    let term = terms[i];
-    if j == 2 * i {
-        return drain_of(a, term.variable, term.weight);
-    }
-    refill_of(a, term.variable)
+    a + 2 + e as u8
 }
 
-// Stage j of a Q or an R, of which one helper is emptied and one moved.
-fn division_stage(
-    a: u8,
-    t: u8,
-    y: u8,
-    c: i64,
-    emptied: u8,
-    moved: u8,
-    lower: i64,
-    upper: i64,
-    j: usize,
-) -> Stage
-    requires { ⌜ (a ≤ VARIABLES) × (j < 6) × Factor sourceLimits c × BoundsSmall lower upper ⌝ }
-    ensures { λ r. ⌜ ((e m : Name) → emptied ≡ numberOfName a e → moved ≡ numberOfName a m → StandsAt a (divisionStages t y c e m lower upper) j r) ⌝ }
+// Move without bound test into hold e, from the variable with this number; its turn gives A so much.
+fn hold_of(a: u8, e: usize, v: u8, gives: i64) -> Stage
+    requires { ⌜ (a ≤ VARIABLES) × (e < effectRoom) × InRange sourceLimits gives ⌝ }
+    ensures { λ r. ⌜ ((name : Name) (entering : List (Name × ℤ)) → v ≡ numberOfName a name → givenIs a gives ≡ numberedAdditions a entering
+        → Stands a (moveToHold e name entering) r) ⌝ }
+{
+    let hold = hold_number(a, e);
+    let bounded = false;
+    Stage {
+        counter: v,
+        unit: 1,
+        deep: 0,
+        added: 2,
+        variables: [v, hold, 0, 0],
+        amounts: [-1, 1, 0, 0],
+        bounded,
+        target: 0,
+        lower: 0,
+        upper: 0,
+        gives,
+    }
+}
+
+// Drain and then Refill of a variable.
+fn term_stage(a: u8, t: u8, w: i64, j: usize) -> Stage
+    requires { ⌜ (a ≤ VARIABLES) × InRange sourceLimits w ⌝ }
+    ensures { λ r. ⌜ StandsAt a (drain t w ∷ refill t ∷ []) j r ⌝ }
+{
+    if j == 0 {
+        return drain_of(a, t, w);
+    }
+    refill_of(a, t)
+}
+
+// Stage j of an L with k terms, before Clear.
+fn linear_stage(a: u8, k: usize, terms: [Term; TERMS], j: usize) -> Stage
+    requires { ⌜ (a ≤ VARIABLES) × (k ≤ termRoom) × (j < 2 * k) × WeightsSmall k terms ⌝ }
+    ensures { λ r. ⌜ StandsAt a (drainTerms (termsIs k terms) []) j r ⌝ }
+{
+    let term = terms[j / 2];
+    term_stage(a, term.variable, term.weight, j % 2)
+}
+
+// Stage j of a Q or an R, before Clear; `emptied` is the helper that does not have the result.
+fn division_stage(a: u8, y: u8, c: i64, emptied: u8, j: usize) -> Stage
+    requires { ⌜ (a ≤ VARIABLES) × Factor sourceLimits c ⌝ }
+    ensures { λ r. ⌜ ((name : Name) → emptied ≡ numberOfName a name → StandsAt a (drain y (pos 1) ∷ refill y ∷ divide c ∷ empty name ∷ []) j r) ⌝ }
 {
     match j {
-        0 => drain_of(a, y, 1),
-        1 => refill_of(a, y),
         2 => divide_of(a, c),
         3 => empty_of(emptied),
-        4 => empty_of(t),
-        _ => move_of(t, moved, lower, upper),
+        _ => term_stage(a, y, 1, j),
     }
 }
 
-// Stage j of an effect with k terms, whose target has these bounds.
-pub fn stage_at(
-    effect: Effect,
-    k: usize,
-    terms: [Term; TERMS],
-    lower: i64,
-    upper: i64,
-    a: u8,
-    j: usize,
-) -> Stage
-    requires { ⌜ (a ≤ VARIABLES) × (k ≤ termRoom) × StagesSmall effect k terms × BoundsSmall lower upper
-        × (j < length (stagesWith effect k terms lower upper)) ⌝ }
-    ensures { λ r. ⌜ StandsAt a (stagesWith effect k terms lower upper) j r ⌝ }
+// Stage j of an effect, before Clear.
+fn result_stage(place: NumericEffect, a: u8, j: usize) -> Stage
+    requires { ⌜ (a ≤ VARIABLES) × PlaceOk a place × (j < length (resultStages (numericIs place) [])) ⌝ }
+    ensures { λ r. ⌜ StandsAt a (resultStages (numericIs place) []) j r ⌝ }
 {
     let b = a + 1;
+    let effect = place.effect;
+    let terms = place.terms;
     match effect {
         Effect::None => empty_of(a),
-        Effect::Add(_, _) => empty_of(a),
-        Effect::Linear(t, _) => linear_stage(a, t, k, terms, lower, upper, j),
-        Effect::Quotient(t, y, c) => division_stage(a, t, y, c, a, b, lower, upper, j),
-        Effect::Residue(t, y, c) => division_stage(a, t, y, c, b, a, lower, upper, j),
+        Effect::Add(t, _) => term_stage(a, t, 1, j),
+        Effect::Linear(_, _) => linear_stage(a, place.term_count, terms, j),
+        Effect::Quotient(_, y, c) => division_stage(a, y, c, a, j),
+        Effect::Residue(_, y, c) => division_stage(a, y, c, b, j),
     }
 }
 
-// The target of an effect; 0 where there is none.
-pub fn target_of(effect: Effect) -> u8
-    ensures { λ r. ⌜ r ≡ targetIs effect ⌝ }
+// How many stages an effect has before Clear.
+fn result_count(place: NumericEffect) -> usize
+    requires { ⌜ place .«term_count» ≤ termRoom ⌝ }
+    ensures { λ r. ⌜ (r ≡ length (resultStages (numericIs place) [])) × (r ≤ mostResultStages) ⌝ }
 {
+    let effect = place.effect;
+    match effect {
+        Effect::None => 2,
+        Effect::Add(_, _) => 2,
+        Effect::Linear(_, _) => 2 * place.term_count,
+        Effect::Quotient(_, _, _) => 4,
+        Effect::Residue(_, _, _) => 4,
+    }
+}
+
+// The helper in which an effect's stages leave its result.
+fn result_in(place: NumericEffect, a: u8) -> u8
+    requires { ⌜ a ≤ VARIABLES ⌝ }
+    ensures { λ r. ⌜ r ≡ numberOfName a (resultIn (numericIs place)) ⌝ }
+{
+    let effect = place.effect;
+    match effect {
+        Effect::None => a,
+        Effect::Add(_, _) => a,
+        Effect::Linear(_, _) => a,
+        Effect::Quotient(_, _, _) => a + 1,
+        Effect::Residue(_, _, _) => a,
+    }
+}
+
+// The target of an effect.
+fn target_of(place: NumericEffect) -> u8
+    ensures { λ r. ⌜ r ≡ target (numericIs place) ⌝ }
+{
+    let effect = place.effect;
     match effect {
         Effect::None => 0,
         Effect::Add(t, _) => t,
@@ -281,18 +322,185 @@ pub fn target_of(effect: Effect) -> u8
     }
 }
 
-// How many stages an effect with k terms has.
-pub fn stage_count(effect: Effect, k: usize) -> usize
-    requires { ⌜ k ≤ termRoom ⌝ }
-    ensures { λ r. ⌜ ((lower upper : ℕ → ℤ) (ts : List (ℕ × ℤ)) → length ts ≡ k → r ≡ length (stagesOf lower upper (effectIs effect ts))) × (r ≤ mostStages) ⌝ }
+// What entering an effect's stages adds to A.
+fn entering_amount(place: NumericEffect) -> i64
+    ensures { λ r. ⌜ r ≡ enteringAmount (numericIs place) ⌝ }
 {
+    let effect = place.effect;
+    match effect {
+        Effect::None => 0,
+        Effect::Add(_, c) => c,
+        Effect::Linear(_, w) => w,
+        Effect::Quotient(_, _, _) => 0,
+        Effect::Residue(_, _, _) => 0,
+    }
+}
+
+// Clear of a target, and then Move to it from the variable with this number.
+fn set_stage(shape: Shape, t: u8, v: u8, j: usize) -> Stage
+    requires { ⌜ Bounded shape ⌝ }
+    ensures { λ r. ⌜ ((a : ℕ) (name : Name) → v ≡ numberOfName a name → StandsAt a (setStages (lowerOf shape) (upperOf shape) name t []) j r) ⌝ }
+{
+    if j == 0 {
+        return empty_of(t);
+    }
+    let lower = lower_of(shape, t);
+    let upper = upper_of(shape, t);
+    move_of(t, v, lower, upper)
+}
+
+// Stage j of a single effect.
+fn single_stage(place: NumericEffect, shape: Shape, a: u8, j: usize) -> Stage
+    requires { ⌜ (a ≤ VARIABLES) × PlaceOk a place × Bounded shape × (j < length (singleStages (lowerOf shape) (upperOf shape) (numericIs place))) ⌝ }
+    ensures { λ r. ⌜ StandsAt a (singleStages (lowerOf shape) (upperOf shape) (numericIs place)) j r ⌝ }
+{
+    let count = result_count(place);
+    if j < count {
+        return result_stage(place, a, j);
+    }
+    let t = target_of(place);
+    let v = result_in(place, a);
+    set_stage(shape, t, v, j - count)
+}
+
+// How many stages a single effect has; none where the action stays one action.
+fn single_count(place: NumericEffect) -> usize
+    requires { ⌜ place .«term_count» ≤ termRoom ⌝ }
+    ensures { λ r. ⌜ ((lower upper : ℕ → ℤ) → r ≡ length (singleStages lower upper (numericIs place))) × (r ≤ mostResultStages + 2) ⌝ }
+{
+    let effect = place.effect;
     match effect {
         Effect::None => 0,
         Effect::Add(_, _) => 0,
-        Effect::Linear(_, _) => 2 * k + 2,
+        Effect::Linear(_, _) => 2 * place.term_count + 2,
         Effect::Quotient(_, _, _) => 6,
         Effect::Residue(_, _, _) => 6,
     }
+}
+
+// Of several effects, what the turn into hold e gives A: what entering the stages of the next adds.
+fn next_amount(effects: Effects, e: usize) -> i64
+    requires { ⌜ (effects .count ≤ effectRoom) × (e < effects .count) ⌝ }
+    ensures { λ r. ⌜ r ≡ nextAmount (drop (e + 1) (effectsIs effects)) ⌝ }
+{
+    let next = e + 1;
+    if next < effects.count {
+        let place = effects.places[next];
+        return entering_amount(place);
+    }
+    0
+}
+
+// Of several effects, stage j of those of effect e up to its Move into a hold.
+fn held_stage(effects: Effects, a: u8, e: usize, j: usize) -> Stage
+    requires { ⌜ (a ≤ VARIABLES) × PlacesOk a effects × (e < effects .count) ⌝ }
+    requires { ⌜ ((x : ModelEffect) → getElem? (effectsIs effects) e ≡ some x → j ≤ length (resultStages x [])) ⌝ }
+    ensures { λ r. ⌜ ((rest : List ModelStage) → StandsAt a (holdStages e (drop e (effectsIs effects)) rest) j r) ⌝ }
+{
+    let place = effects.places[e];
+    let count = result_count(place);
+    if j < count {
+        return result_stage(place, a, j);
+    }
+    let v = result_in(place, a);
+    let gives = next_amount(effects, e);
+    hold_of(a, e, v, gives)
+}
+
+// Of several effects, stage j of those behind the Moves into holds: of each target Clear, and Move from its hold.
+fn unload_stage(effects: Effects, shape: Shape, a: u8, j: usize) -> Stage
+    requires { ⌜ (a ≤ VARIABLES) × (effects .count ≤ effectRoom) × Bounded shape × (j < 2 * effects .count) ⌝ }
+    ensures { λ r. ⌜ StandsAt a (unloadStages (lowerOf shape) (upperOf shape) 0 (effectsIs effects)) j r ⌝ }
+{
+    let e = j / 2;
+    let place = effects.places[e];
+    let t = target_of(place);
+    let v = hold_number(a, e);
+    set_stage(shape, t, v, j % 2)
+}
+
+// Where a stage of several effects stands.
+struct Found {
+    effect: usize,
+    stage: usize,
+}
+
+// Where stage j of several effects stands: in the stages of which effect, and as which of them.
+fn find_stage(effects: Effects, j: usize) -> Found
+    requires { ⌜ PlacesFew effects ⌝ }
+    ensures { λ r. ⌜ FoundAt (effectsIs effects) j r ⌝ }
+{
+    let count = effects.count;
+    let mut e: usize = 0;
+    let mut left = j;
+    while e < count {
+        let place = effects.places[e];
+        let last = result_count(place);
+        if left <= last {
+            return Found {
+                effect: e,
+                stage: left,
+            };
+        }
+        left -= last + 1;
+        e += 1;
+    }
+    Found {
+        effect: e,
+        stage: left,
+    }
+}
+
+// Stage j of an action with these effects.
+pub fn stage_at(effects: Effects, shape: Shape, a: u8, j: usize) -> Stage
+    requires { ⌜ (a ≤ VARIABLES) × PlacesOk a effects × Bounded shape
+        × (j < length (stagesOf (lowerOf shape) (upperOf shape) (effectsIs effects))) ⌝ }
+    ensures { λ r. ⌜ StandsAt a (stagesOf (lowerOf shape) (upperOf shape) (effectsIs effects)) j r ⌝ }
+{
+    let count = effects.count;
+    if count < 2 {
+        let place = effects.places[0];
+        return single_stage(place, shape, a, j);
+    }
+    let found = find_stage(effects, j);
+    let e = found.effect;
+    if e < count {
+        return held_stage(effects, a, e, found.stage);
+    }
+    unload_stage(effects, shape, a, found.stage)
+}
+
+// How many stages several effects have.
+fn several_count(effects: Effects) -> usize
+    requires { ⌜ PlacesFew effects ⌝ }
+    ensures { λ r. ⌜ ((lower upper : ℕ → ℤ) → r ≡ length (holdStages 0 (effectsIs effects) (unloadStages lower upper 0 (effectsIs effects))))
+        × (r ≤ mostStages) ⌝ }
+{
+    let count = effects.count;
+    let mut total: usize = 0;
+    let mut e: usize = 0;
+    while e < count {
+        let place = effects.places[e];
+        total += result_count(place) + 3;
+        e += 1;
+    }
+    total
+}
+
+// How many stages an action with these effects has.
+pub fn stage_count(effects: Effects) -> usize
+    requires { ⌜ PlacesFew effects ⌝ }
+    ensures { λ r. ⌜ ((lower upper : ℕ → ℤ) → r ≡ length (stagesOf lower upper (effectsIs effects))) × (r ≤ mostStages) ⌝ }
+{
+    let count = effects.count;
+    if count == 0 {
+        return 0;
+    }
+    if count == 1 {
+        let place = effects.places[0];
+        return single_count(place);
+    }
+    several_count(effects)
 }
 
 // What the turn of a stage sets control to, so many stages following.
@@ -464,22 +672,24 @@ fn push_bound(
     file_parts::push_condition(marks, numbers, t, 2, least);
 }
 
-// What the opening or single action of an effect needs and adds besides, its target having these bounds.
-fn push_numeric(
+// What the opening or single action of a single effect needs and adds besides.
+fn push_single(
     marks: &mut [u16; MARKS],
     numbers: &mut [i64; NUMBERS],
-    effect: Effect,
-    lower: i64,
-    upper: i64,
+    place: NumericEffect,
+    shape: Shape,
     a: u8,
 )
-    requires { ⌜ PartsFit 1 0 0 1 (now marks) × (length (now numbers) ≡ NUMBERS) × BoundsSmall lower upper × Moderate effect ⌝ }
-    ensures { λ _. ⌜ Says (withNumeric a lower upper (effectIs effect []) (rowIs (now (marks .entry)) (now (numbers .entry))))
+    requires { ⌜ PartsFit 1 0 0 1 (now marks) × (length (now numbers) ≡ NUMBERS) × Bounded shape × EffectOk sourceLimits a (numericIs place) ⌝ }
+    ensures { λ _. ⌜ Says (withNumeric a (lowerOf shape) (upperOf shape) (numericIs place ∷ []) (rowIs (now (marks .entry)) (now (numbers .entry))))
         (now (marks .exit)) (now (numbers .exit)) ⌝ }
 {
+    let effect = place.effect;
     match effect {
         Effect::None => {}
         Effect::Add(t, c) => {
+            let lower = lower_of(shape, t);
+            let upper = upper_of(shape, t);
             push_bound(marks, numbers, t, c, lower, upper);
             file_parts::push_addition(marks, numbers, t, c);
         }
@@ -489,23 +699,47 @@ fn push_numeric(
     }
 }
 
+// What the opening or single action of an action with these effects needs and adds besides.
+fn push_numeric(
+    marks: &mut [u16; MARKS],
+    numbers: &mut [i64; NUMBERS],
+    effects: Effects,
+    shape: Shape,
+    a: u8,
+)
+    requires { ⌜ PartsFit 1 0 0 1 (now marks) × (length (now numbers) ≡ NUMBERS) × Bounded shape × PlacesOk a effects ⌝ }
+    ensures { λ _. ⌜ Says (withNumeric a (lowerOf shape) (upperOf shape) (effectsIs effects) (rowIs (now (marks .entry)) (now (numbers .entry))))
+        (now (marks .exit)) (now (numbers .exit)) ⌝ }
+{
+    let count = effects.count;
+    if count == 0 {
+        return;
+    }
+    let first = effects.places[0];
+    if count == 1 {
+        push_single(marks, numbers, first, shape, a);
+        return;
+    }
+    let amount = entering_amount(first);
+    push_given(marks, numbers, a, amount);
+}
+
 // To the parts of a source action what its opening or single action has besides; `next` is its first stage, 0 where it has none.
 pub fn push_opening(
     marks: &mut [u16; MARKS],
     numbers: &mut [i64; NUMBERS],
-    effect: Effect,
-    lower: i64,
-    upper: i64,
+    effects: Effects,
+    shape: Shape,
     a: u8,
     control: u8,
     next: u16,
 )
-    requires { ⌜ PartsFit 1 1 1 1 (now marks) × (length (now numbers) ≡ NUMBERS) × BoundsSmall lower upper × Moderate effect ⌝ }
-    ensures { λ _. ⌜ Says (withOpening a control next lower upper (effectIs effect []) (rowIs (now (marks .entry)) (now (numbers .entry))))
+    requires { ⌜ PartsFit 1 1 1 1 (now marks) × (length (now numbers) ≡ NUMBERS) × Bounded shape × PlacesOk a effects ⌝ }
+    ensures { λ _. ⌜ Says (withOpening a control next (lowerOf shape) (upperOf shape) (effectsIs effects) (rowIs (now (marks .entry)) (now (numbers .entry))))
         (now (marks .exit)) (now (numbers .exit)) ⌝ }
 {
     file_parts::push_mode_condition(marks, control, 0);
-    push_numeric(marks, numbers, effect, lower, upper, a);
+    push_numeric(marks, numbers, effects, shape, a);
     if next == 0 {
         return;
     }

@@ -89,10 +89,7 @@ module _ (l : Limits) (variables-64 : l .variables ≤ 64) (modes-8 : l .modes �
       → Off (testsOf l p c) × Trail l (nextOf p c) cs
   onward p c cs g t = let (o, e) = taken l p c g in (o, subst (λ (q : ReadingState). Trail l q cs) e t)
 
-  -- L, Q and R stand in an action of a source file; T behind L or T
-  of-source : (p : ReadingState) → cond (l .restricted) false (eqb (p .section) 2) ≡ true → l .restricted ≡ false
-  of-source p w = source-only (l .restricted) (eqb (p .section) 2) w .0
-
+  -- L, Q and R stand in an action; T behind L or T
   in-action : (p : ReadingState) → cond (l .restricted) false (eqb (p .section) 2) ≡ true → p .section ≡ 2
   in-action p w = is-equal (p .section) 2 (source-only (l .restricted) (eqb (p .section) 2) w .1)
 
@@ -156,10 +153,10 @@ module _ (l : Limits) (variables-64 : l .variables ≤ 64) (modes-8 : l .modes �
     rest-ok (ModeCondition m x ∷ cs) p i s h = inside-ok (ModeCondition m x) cs p refl s h (mode-condition-carries l n sizes p m x i) (rest-ok cs)
     rest-ok (ModeEffect m x ∷ cs) p i s h = inside-ok (ModeEffect m x) cs p refl s h (mode-effect-carries l n sizes m-few p m x i) (rest-ok cs)
     rest-ok (Add v k ∷ cs) p i s h = inside-ok (Add v k) cs p refl s h (add-carries l n sizes n-few p v k i) (rest-ok cs)
-    rest-ok (Linear v k ∷ cs) p i s h = inside-ok (Linear v k) cs p refl s h (linear-carries l n sizes p v k i (of-source p (h .0))) (rest-ok cs)
+    rest-ok (Linear v k ∷ cs) p i s h = inside-ok (Linear v k) cs p refl s h (linear-carries l n sizes n-few p v k i) (rest-ok cs)
     rest-ok (Term v k ∷ cs) p i s h = inside-ok (Term v k) cs p refl s h (term-carries l n sizes n-few p v k i (after-linear p (h .0))) (rest-ok cs)
-    rest-ok (Quotient v y k ∷ cs) p i s h = inside-ok (Quotient v y k) cs p refl s h (quotient-carries l n sizes p v y k i (of-source p (h .0))) (rest-ok cs)
-    rest-ok (Residue v y k ∷ cs) p i s h = inside-ok (Residue v y k) cs p refl s h (residue-carries l n sizes p v y k i (of-source p (h .0))) (rest-ok cs)
+    rest-ok (Quotient v y k ∷ cs) p i s h = inside-ok (Quotient v y k) cs p refl s h (quotient-carries l n sizes n-few p v y k i) (rest-ok cs)
+    rest-ok (Residue v y k ∷ cs) p i s h = inside-ok (Residue v y k) cs p refl s h (residue-carries l n sizes n-few p v y k i) (rest-ok cs)
     rest-ok (Goal ∷ cs) p i s (w, g, t) =
         let (r, c) = rest-ok cs (opened p 3 (p .actions)) (opened-counted l n sizes p 3 (p .actions) (i .core) (i .actions)) (omega arith) t in (
           record {
@@ -364,8 +361,14 @@ source-ok cs t = record {
   actionsFew = omega (arith, D .actionsFew, length-map (actionsOf cs) sourceActionOf);
   actionsOk = all-of-map (PartOk sourceLimits (length (variablesOf cs)) (sizesOf (modesOf cs)))
       (SourceActionOk sourceLimits (length (variablesOf cs)) (sizesOf (modesOf cs))) sourceActionOf
-      (λ a h. record { conditionsOk = h .conditionsOk; modeEffectsIn = h .modeEffectsIn; modeEffectsOnce = h .modeEffectsOnce; effectOk = h .effectOk })
-      (actionsOf cs) (D .actionsOk);
+      (λ a h. record {
+        conditionsOk = h .conditionsOk;
+        modeEffectsIn = h .modeEffectsIn;
+        modeEffectsOnce = h .modeEffectsOnce;
+        effectsFew = h .effectsFew;
+        effectsOk = h .effectsOk;
+        targetsOnce = h .targetsOnce;
+      }) (actionsOf cs) (D .actionsOk);
   goal = D .goal;
 }
   where
@@ -387,9 +390,9 @@ restricted-ok cs t = record {
         conditionsOk = h .conditionsOk;
         modeEffectsIn = h .modeEffectsIn;
         modeEffectsOnce = h .modeEffectsOnce;
-        additionsFew = h .additionsFew refl;
+        additionsFew = h .additionsFew;
         additionsIn = h .additionsIn;
-        additionsOnce = h .additionsOnce refl;
+        additionsOnce = h .additionsOnce;
       }) (actionsOf cs) (D .actionsOk);
   goal = D .goal;
 }
@@ -399,7 +402,7 @@ restricted-ok cs t = record {
         subst (λ (n : ℕ). MadeOk restrictedLimits n (sizesOf (modesOf cs)) cs) (omega (arith, ap length (E .noVariables refl))) E
 
 -- ---- from bytes: a file that a reader gives a task for
-taken-from : {A : Type 0} (l : Limits) (file : List ℕ) (t u : A) → onVerdict (verdictOf l file) t ≡ given u → Trail l begin (commandsOf l file) × (t ≡ u)
+pub taken-from : {A : Type 0} (l : Limits) (file : List ℕ) (t u : A) → onVerdict (verdictOf l file) t ≡ given u → Trail l begin (commandsOf l file) × (t ≡ u)
 taken-from {A} l file t u e = go (verdictOf l file) refl e
   where
     go : (v : Verdict) → verdictOf l file ≡ v → onVerdict v t ≡ given u → Trail l begin (commandsOf l file) × (t ≡ u)

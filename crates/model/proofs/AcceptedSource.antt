@@ -3,7 +3,7 @@
 use mathlib.Core.Path.{_≡_, refl, ap, _∙_, subst}
 use Prim.Native.Nat.{ℕ, zero, suc, _+_, _≤_, _<_}
 use native.Mathlib.Omega.{arith}
-use mathlib.Core.Bool.{Bool, false, cond}
+use mathlib.Core.Bool.{Bool, true, false, cond}
 use mathlib.Core.Option.{none, some}
 use mathlib.Core.List.{List, [], _∷_, map}
 use lib.ListN.{length, length-map}
@@ -14,10 +14,11 @@ use Rattle.integers.specs.All.{All}
 use Rattle.integers.specs.Division.{unitLess}
 use Rattle.integers.specs.Parts.{up, down}
 use Rattle.integers.proofs.Parts.{ints}
-use Rattle.model.specs.Tasks.{NumericCondition, SourceAction, Effect, noEffect, addEffect, linearEffect, quotientEffect, residueEffect, SourceTask, SourceVariable}
+use Rattle.model.specs.Tasks.{NumericCondition, SourceAction, Effect, addEffect, linearEffect, quotientEffect, residueEffect, SourceTask, SourceVariable}
 use Rattle.model.specs.NamedSystems.{modeEffectOn}
 use Rattle.model.specs.Steps.{integerAt, naturalAt, sizesOf, lowerBounds, upperBounds, sourceStart}
-use Rattle.model.specs.InTask.{Once, EffectIn, ActionIn}
+use Rattle.model.specs.InTask.{Once, EffectIn, ActionIn, HoldsFor}
+use Rattle.model.specs.Stages.{several, holdCount}
 use Rattle.model.specs.Limits.{Limits, sourceLimits}
 use Rattle.model.specs.TaskOk.{Distinct, keys, ValuesIn, Factor, AmountOk, ModeOk, ConditionIn, ConditionOk, EffectOk, SourceActionOk, SourceVariableOk, SourceTaskOk}
 use Rattle.model.proofs.StageWalk.{all-map}
@@ -32,6 +33,10 @@ apart-none k (e ∷ es) (h, hs) = ap (λ (b : Bool). cond b (some (e .1)) (modeE
 pub apart-once : (es : List (ℕ × ℕ)) → Distinct (keys es) → Once es
 apart-once [] h = tt
 apart-once (e ∷ es) (h, hs) = (apart-none (e .0) es h, apart-once es hs)
+
+all-both : {A : Type 0} (P Q : A → Type 0) (l : List A) → All P l → All Q l → All (λ (x : A). P x × Q x) l
+all-both P Q [] h k = tt
+all-both P Q (x ∷ l) (h, hs) (k, ks) = ((h, k), all-both P Q l hs ks)
 
 -- ---- what the pairing asks of a source action
 abbrev Dec : List ℕ → List (ℕ × ℕ) → Type 0
@@ -51,7 +56,6 @@ factor-less (pos (suc n)) h = refl
 factor-less (negsuc n) h = refl
 
 eff-in : (n : ℕ) (e : Effect) → EffectOk sourceLimits n e → EffectIn n e
-eff-in n noEffect h = tt
 eff-in n (addEffect t c) h = h .0
 eff-in n (linearEffect t w ts) (h, k, f, (i, a)) = (h, go ts i)
   where
@@ -61,13 +65,35 @@ eff-in n (linearEffect t w ts) (h, k, f, (i, a)) = (h, go ts i)
 eff-in n (quotientEffect t y c) (h, k, f) = (h, k)
 eff-in n (residueEffect t y c) (h, k, f) = (h, k)
 
-act-in : (n : ℕ) (sizes : List ℕ) (a : SourceAction) → SourceActionOk sourceLimits n sizes a → ActionIn n (length sizes) a
-act-in n sizes a k = record {
+-- R has a hold for each effect of an action that has several
+abbrev Held : ℕ → SourceAction → Type 0
+Held holds a = several (a .effects) ≡ true → holds ≡ 3
+
+holds-for : (holds : ℕ) (es : List Effect) → length es ≤ 3 → (several es ≡ true → holds ≡ 3) → HoldsFor holds es
+holds-for holds [] l h = tt
+holds-for holds (e ∷ []) l h = tt
+holds-for holds (e ∷ f ∷ es) l h = omega (arith, l, h refl)
+
+all-held : (acts : List SourceAction) → All (Held (holdCount acts)) acts
+all-held [] = tt
+all-held (a ∷ acts) = (
+  (λ e. ap (λ (b : Bool). cond b 3 (holdCount acts)) e),
+  all-map (Held (holdCount acts)) (Held (holdCount (a ∷ acts))) (λ x f e. go (several (a .effects)) (f e)) acts (all-held acts),
+)
+  where
+    go : (b : Bool) → holdCount acts ≡ 3 → cond b 3 (holdCount acts) ≡ 3
+    go true e = refl
+    go false e = e
+
+act-in : (n holds : ℕ) (sizes : List ℕ) (a : SourceAction) → SourceActionOk sourceLimits n sizes a × Held holds a → ActionIn n holds (length sizes) a
+act-in n holds sizes a (k, f) = record {
   modeConditionsIn = firsts sizes (a .modeConditions) (k .conditionsOk .modeConditionsIn);
   conditionsIn = conditions-in n (a .conditions) (k .conditionsOk .conditionsIn);
   modeEffectsIn = firsts sizes (a .modeEffects) (k .modeEffectsIn);
   modeEffectsOnce = apart-once (a .modeEffects) (k .modeEffectsOnce);
-  effectIn = eff-in n (a .effect) (k .effectOk);
+  effectsIn = all-map (EffectOk sourceLimits n) (EffectIn n) (eff-in n) (a .effects) (k .effectsOk);
+  targetsOnce = k .targetsOnce;
+  holdsFor = holds-for holds (a .effects) (k .effectsFew) f;
 }
 
 -- ---- bounds and starts
@@ -109,17 +135,28 @@ modes-below l (m ∷ ms) (h, hs) (suc j) q = modes-below l ms hs j (omega (arith
 
 -- THE SOURCE: acceptance is all that the pairing asks
 module _ (t : SourceTask) (S : SourceTaskOk t) where
-  long : length (sizesOf (t .modes)) ≡ length (t .modes)
+  abbrev n : ℕ
+  n = length (t .variables)
+
+  abbrev holds : ℕ
+  holds = holdCount (t .actions)
+
+  abbrev sizes : List ℕ
+  sizes = sizesOf (t .modes)
+
+  long : length sizes ≡ length (t .modes)
   long = length-keys (t .modes)
 
-  pub accepted : Accepted (length (t .variables)) (length (t .modes)) (lowerBounds t) (upperBounds t) (t .actions) (sizesOf (t .modes)) (t .goalModes) (t .goalConditions) (sourceStart t)
+  pub accepted : Accepted n holds (length (t .modes)) (lowerBounds t) (upperBounds t) (t .actions) sizes (t .goalModes) (t .goalConditions) (sourceStart t)
   accepted = record {
-    actionsIn = subst (λ (m : ℕ). All (ActionIn (length (t .variables)) m) (t .actions)) long
-        (all-map (SourceActionOk sourceLimits (length (t .variables)) (sizesOf (t .modes))) (ActionIn (length (t .variables)) (length (sizesOf (t .modes)))) (act-in (length (t .variables)) (sizesOf (t .modes))) (t .actions) (S .actionsOk));
-    sets = all-map (SourceActionOk sourceLimits (length (t .variables)) (sizesOf (t .modes))) (λ (a : SourceAction). ValuesIn (sizesOf (t .modes)) (a .modeEffects)) (λ a k. k .modeEffectsIn) (t .actions) (S .actionsOk);
+    actionsIn = subst (λ (m : ℕ). All (ActionIn n holds m) (t .actions)) long
+        (all-map (λ (a : SourceAction). SourceActionOk sourceLimits n sizes a × Held holds a) (ActionIn n holds (length sizes)) (act-in n holds sizes)
+        (t .actions) (all-both (SourceActionOk sourceLimits n sizes) (Held holds) (t .actions) (S .actionsOk) (all-held (t .actions))));
+    sets = all-map (SourceActionOk sourceLimits n sizes) (λ (a : SourceAction). ValuesIn sizes (a .modeEffects)) (λ a k. k .modeEffectsIn)
+        (t .actions) (S .actionsOk);
     sizesLength = long;
-    goalModesIn = subst (λ (m : ℕ). All (λ (p : ℕ × ℕ). p .0 < m) (t .goalModes)) long (firsts (sizesOf (t .modes)) (t .goalModes) (S .goal .modeConditionsIn));
-    goalConditionsIn = conditions-in (length (t .variables)) (t .goalConditions) (S .goal .conditionsIn);
+    goalModesIn = subst (λ (m : ℕ). All (λ (p : ℕ × ℕ). p .0 < m) (t .goalModes)) long (firsts sizes (t .goalModes) (S .goal .modeConditionsIn));
+    goalConditionsIn = conditions-in n (t .goalConditions) (S .goal .conditionsIn);
     valuesLength = length-map (t .variables) (λ (b : SourceVariable). b .start);
     modesLength = length-map (t .modes) (λ (m : ℕ × ℕ). m .1);
     good = start-good (t .variables) (S .variablesIn);

@@ -8,7 +8,7 @@ use native.Mathlib.Omega.{arith}
 use mathlib.Core.Bool.{_&&_, Bool, true, false, cond}
 use mathlib.Core.Option.{Option, none, some}
 use mathlib.Core.List.{List, [], _∷_, _++_}
-use lib.ListN.{length, length-set, getD, set, List·getD-append}
+use lib.ListN.{length, length-set, getD, set, replicate, List·getD-append}
 use lib.Dec.{T, eqb, eqb→eq, eqb·suc-suc, eqb·zero-suc, eqb·suc-zero}
 use lib.IntN.{ℤ, pos, _+ℤ_}
 use Rattle.integers.specs.All.{All}
@@ -69,73 +69,124 @@ same→eq (hold i) helperA t = absurd t
 same→eq (hold i) helperB t = absurd t
 same→eq (hold i) (hold j) t = ap hold (eqb→eq i j t)
 
+pub replicated : (k j : ℕ) → integerAt (replicate k (pos 0)) j ≡ pos 0
+replicated zero j = refl
+replicated (suc k) zero = refl
+replicated (suc k) (suc j) = replicated k j
+
+past-two : (n j : ℕ) → suc (suc (n + j)) ≡ n + suc (suc j)
+past-two n j = omega arith
+
 -- each variable is named once
 abbrev pub NamesOnce : List (Name × ℤ) → Type 0
 NamesOnce [] = Unit {0}
 NamesOnce (e ∷ es) = (additionTo es (e .0) ≡ none) × NamesOnce es
 
--- ---- values: n source variables, then A and B
-pub record ValuesLaid (n : ℕ) (l : List ℤ) (f : Name → ℤ) : Type 0 where
+-- ---- values: n source variables, then A, B and the holds
+pub record ValuesLaid (n holds : ℕ) (l : List ℤ) (f : Name → ℤ) : Type 0 where
   pub V₀ : List ℤ
   pub a : ℤ
   pub b : ℤ
+  pub H : List ℤ
   pub lengths : length V₀ ≡ n
-  pub is : l ≡ V₀ ++ (a ∷ b ∷ [])
-  pub reads : f ≡ namedValues (integerAt V₀) a b
+  pub holdsLength : length H ≡ holds
+  pub is : l ≡ V₀ ++ (a ∷ b ∷ H)
+  pub reads : f ≡ namedValues (integerAt V₀) a b (integerAt H)
 
-core-get : (v : List ℤ) (a b : ℤ) (w : Name) → NameIn (length v) w → integerAt (v ++ (a ∷ b ∷ [])) (numberOfName (length v) w) ≡ namedValues (integerAt v) a b w
-core-get v a b (source i) h = List·getD-append v (a ∷ b ∷ []) (pos 0) i h
-core-get v a b helperA h = ap (integerAt (v ++ (a ∷ b ∷ []))) (sym (add-zero (length v))) ∙ get-back v (a ∷ b ∷ []) 0 (pos 0)
-core-get v a b helperB h = ap (integerAt (v ++ (a ∷ b ∷ []))) (sym (add-one (length v))) ∙ get-back v (a ∷ b ∷ []) 1 (pos 0)
-core-get v a b (hold j) h = absurd h
+core-get : (v : List ℤ) (a b : ℤ) (H : List ℤ) (w : Name) → NameIn (length v) (length H) w
+    → integerAt (v ++ (a ∷ b ∷ H)) (numberOfName (length v) w) ≡ namedValues (integerAt v) a b (integerAt H) w
+core-get v a b H (source i) h = List·getD-append v (a ∷ b ∷ H) (pos 0) i h
+core-get v a b H helperA h = ap (integerAt (v ++ (a ∷ b ∷ H))) (sym (add-zero (length v))) ∙ get-back v (a ∷ b ∷ H) 0 (pos 0)
+core-get v a b H helperB h = ap (integerAt (v ++ (a ∷ b ∷ H))) (sym (add-one (length v))) ∙ get-back v (a ∷ b ∷ H) 1 (pos 0)
+core-get v a b H (hold j) h = ap (integerAt (v ++ (a ∷ b ∷ H))) (past-two (length v) j) ∙ get-back v (a ∷ b ∷ H) (suc (suc j)) (pos 0)
 
 abbrev bumped : Name → ℤ → (Name → ℤ) → Name → ℤ
 bumped w d f x = cond (sameName w x) (f x +ℤ d) (f x)
 
-core-one : (v : List ℤ) (a b : ℤ) (w : Name) (d : ℤ) → NameIn (length v) w
-    → ValuesLaid (length v) (set (v ++ (a ∷ b ∷ [])) (numberOfName (length v) w) (namedValues (integerAt v) a b w +ℤ d)) (bumped w d (namedValues (integerAt v) a b))
-core-one v a b (source i) d h = record {
+-- an element that is added to, read by its place
+bumped-at : (l : List ℤ) (i : ℕ) (d : ℤ) → i < length l → (j : ℕ)
+    → cond (eqb i j) (integerAt l j +ℤ d) (integerAt l j) ≡ integerAt (set l i (integerAt l i +ℤ d)) j
+bumped-at l i d h j =
+    by-place i (λ c k. cond c (integerAt l k +ℤ d) (integerAt l k)) (λ c k. cond c (integerAt l i +ℤ d) (integerAt l k)) refl (λ k. refl) j
+    ∙ sym (get-set l i j (integerAt l i +ℤ d) (pos 0) h)
+
+core-one : (v : List ℤ) (a b : ℤ) (H : List ℤ) (w : Name) (d : ℤ) → NameIn (length v) (length H) w
+    → ValuesLaid (length v) (length H) (set (v ++ (a ∷ b ∷ H)) (numberOfName (length v) w) (namedValues (integerAt v) a b (integerAt H) w +ℤ d))
+    (bumped w d (namedValues (integerAt v) a b (integerAt H)))
+core-one v a b H (source i) d h = record {
   V₀ = set v i (integerAt v i +ℤ d);
   a = a;
   b = b;
+  H = H;
   lengths = length-set v i (integerAt v i +ℤ d);
-  is = set-front v (a ∷ b ∷ []) i (integerAt v i +ℤ d) h;
-  reads = values-equal (integerAt (set v i (integerAt v i +ℤ d))) a b (bumped (source i) d (namedValues (integerAt v) a b))
-      (λ j. by-place i (λ c k. cond c (integerAt v k +ℤ d) (integerAt v k)) (λ c k. cond c (integerAt v i +ℤ d) (integerAt v k)) refl (λ k. refl) j ∙ sym (get-set v i j (integerAt v i +ℤ d) (pos 0) h)) refl refl (λ j. refl);
+  holdsLength = refl;
+  is = set-front v (a ∷ b ∷ H) i (integerAt v i +ℤ d) h;
+  reads = values-equal (integerAt (set v i (integerAt v i +ℤ d))) a b (integerAt H) _ (bumped-at v i d h) refl refl (λ j. refl);
 }
-core-one v a b helperA d h = record {
+core-one v a b H helperA d h = record {
   V₀ = v;
   a = a +ℤ d;
   b = b;
+  H = H;
   lengths = refl;
-  is = ap (λ (k : ℕ). set (v ++ (a ∷ b ∷ [])) k (a +ℤ d)) (sym (add-zero (length v))) ∙ set-back v (a ∷ b ∷ []) 0 (a +ℤ d);
-  reads = values-equal (integerAt v) (a +ℤ d) b (bumped helperA d (namedValues (integerAt v) a b)) (λ j. refl) refl refl (λ j. refl);
+  holdsLength = refl;
+  is = ap (λ (k : ℕ). set (v ++ (a ∷ b ∷ H)) k (a +ℤ d)) (sym (add-zero (length v))) ∙ set-back v (a ∷ b ∷ H) 0 (a +ℤ d);
+  reads = values-equal (integerAt v) (a +ℤ d) b (integerAt H) _ (λ j. refl) refl refl (λ j. refl);
 }
-core-one v a b helperB d h = record {
+core-one v a b H helperB d h = record {
   V₀ = v;
   a = a;
   b = b +ℤ d;
+  H = H;
   lengths = refl;
-  is = ap (λ (k : ℕ). set (v ++ (a ∷ b ∷ [])) k (b +ℤ d)) (sym (add-one (length v))) ∙ set-back v (a ∷ b ∷ []) 1 (b +ℤ d);
-  reads = values-equal (integerAt v) a (b +ℤ d) (bumped helperB d (namedValues (integerAt v) a b)) (λ j. refl) refl refl (λ j. refl);
+  holdsLength = refl;
+  is = ap (λ (k : ℕ). set (v ++ (a ∷ b ∷ H)) k (b +ℤ d)) (sym (add-one (length v))) ∙ set-back v (a ∷ b ∷ H) 1 (b +ℤ d);
+  reads = values-equal (integerAt v) a (b +ℤ d) (integerAt H) _ (λ j. refl) refl refl (λ j. refl);
 }
-core-one v a b (hold j) d h = absurd h
+core-one v a b H (hold i) d h = record {
+  V₀ = v;
+  a = a;
+  b = b;
+  H = set H i (integerAt H i +ℤ d);
+  lengths = refl;
+  holdsLength = length-set H i (integerAt H i +ℤ d);
+  is = ap (λ (k : ℕ). set (v ++ (a ∷ b ∷ H)) k (integerAt H i +ℤ d)) (past-two (length v) i)
+      ∙ set-back v (a ∷ b ∷ H) (suc (suc i)) (integerAt H i +ℤ d);
+  reads = values-equal (integerAt v) a b (integerAt (set H i (integerAt H i +ℤ d))) _ (λ j. refl) refl refl (bumped-at H i d h);
+}
 
-pub values-laid-get : (n : ℕ) (l : List ℤ) (f : Name → ℤ) (w : Name) → ValuesLaid n l f → NameIn n w → integerAt l (numberOfName n w) ≡ f w
-values-laid-get n l f w L = subst (λ (k : ℕ). NameIn k w → integerAt l (numberOfName k w) ≡ f w) (L .lengths)
-    (λ h. ap (λ (u : List ℤ). integerAt u (numberOfName (length (L .V₀)) w)) (L .is) ∙ core-get (L .V₀) (L .a) (L .b) w h ∙ ap (λ (g : Name → ℤ). g w) (sym (L .reads)))
+-- a name that is in the list has its value in it
+pub values-laid-get : (n holds : ℕ) (l : List ℤ) (f : Name → ℤ) (w : Name) → ValuesLaid n holds l f → NameIn n holds w
+    → integerAt l (numberOfName n w) ≡ f w
+values-laid-get n holds l f w L i =
+    ap₂ (λ (u : List ℤ) (k : ℕ). integerAt u (numberOfName k w)) (L .is) (sym (L .lengths))
+    ∙ core-get (L .V₀) (L .a) (L .b) (L .H) w
+    (subst (λ (k : ℕ). NameIn k (length (L .H)) w) (sym (L .lengths)) (subst (λ (k : ℕ). NameIn n k w) (sym (L .holdsLength)) i))
+    ∙ ap (λ (g : Name → ℤ). g w) (sym (L .reads))
 
-pub values-laid-one : (n : ℕ) (l : List ℤ) (f : Name → ℤ) (w : Name) (d : ℤ) → ValuesLaid n l f → NameIn n w → ValuesLaid n (set l (numberOfName n w) (integerAt l (numberOfName n w) +ℤ d)) (bumped w d f)
-values-laid-one n l f w d L h = rw (values-laid-get n l f w L h) (subst (λ (k : ℕ). NameIn k w → ValuesLaid k (set l (numberOfName k w) (f w +ℤ d)) (bumped w d f)) (L .lengths)
-    (λ h′. subst (λ (g : Name → ℤ). ValuesLaid (length (L .V₀)) (set l (numberOfName (length (L .V₀)) w) (g w +ℤ d)) (bumped w d g)) (sym (L .reads))
-    (subst (λ (u : List ℤ). ValuesLaid (length (L .V₀)) (set u (numberOfName (length (L .V₀)) w) (namedValues (integerAt (L .V₀)) (L .a) (L .b) w +ℤ d)) (bumped w d (namedValues (integerAt (L .V₀)) (L .a) (L .b)))) (sym (L .is))
-    (core-one (L .V₀) (L .a) (L .b) w d h′))) h)
+-- and may be added to
+pub values-laid-one : (n holds : ℕ) (l : List ℤ) (f : Name → ℤ) (w : Name) (d : ℤ) → ValuesLaid n holds l f → NameIn n holds w
+    → ValuesLaid n holds (set l (numberOfName n w) (integerAt l (numberOfName n w) +ℤ d)) (bumped w d f)
+values-laid-one n holds l f w d L h = rw (values-laid-get n holds l f w L h)
+    (subst (λ (k : ℕ). NameIn k holds w → ValuesLaid k holds (set l (numberOfName k w) (f w +ℤ d)) (bumped w d f)) (L .lengths)
+    (subst (λ (c : ℕ). NameIn n₀ c w → ValuesLaid n₀ c (set l (numberOfName n₀ w) (f w +ℤ d)) (bumped w d f)) (L .holdsLength)
+    (λ h′. subst (λ (g : Name → ℤ). ValuesLaid n₀ (length (L .H)) (set l (numberOfName n₀ w) (g w +ℤ d)) (bumped w d g)) (sym (L .reads))
+    (subst (λ (u : List ℤ). ValuesLaid n₀ (length (L .H)) (set u (numberOfName n₀ w) (g₀ w +ℤ d)) (bumped w d g₀)) (sym (L .is))
+    (core-one (L .V₀) (L .a) (L .b) (L .H) w d h′)))) h)
+  where
+    n₀ : ℕ
+    n₀ = length (L .V₀)
 
-pub values-laid-all : (n : ℕ) (es : List (Name × ℤ)) (l : List ℤ) (f : Name → ℤ) → All (λ (e : Name × ℤ). NameIn n (e .0)) es → NamesOnce es → ValuesLaid n l f → ValuesLaid n (addAll (numberedAdditions n es) l) (plus es f)
-values-laid-all n [] l f i o L = L
-values-laid-all n (e ∷ es) l f (i, is) (o, os) L =
-    subst (λ (g : Name → ℤ). ValuesLaid n (addAll (numberedAdditions n es) (set l (numberOfName n (e .0)) (integerAt l (numberOfName n (e .0)) +ℤ e .1))) g) (fun-ext go)
-    (values-laid-all n es (set l (numberOfName n (e .0)) (integerAt l (numberOfName n (e .0)) +ℤ e .1)) (bumped (e .0) (e .1) f) is os (values-laid-one n l f (e .0) (e .1) L i))
+    g₀ : Name → ℤ
+    g₀ = namedValues (integerAt (L .V₀)) (L .a) (L .b) (integerAt (L .H))
+
+pub values-laid-all : (n holds : ℕ) (es : List (Name × ℤ)) (l : List ℤ) (f : Name → ℤ) → All (λ (e : Name × ℤ). NameIn n holds (e .0)) es → NamesOnce es
+    → ValuesLaid n holds l f → ValuesLaid n holds (addAll (numberedAdditions n es) l) (plus es f)
+values-laid-all n holds [] l f i o L = L
+values-laid-all n holds (e ∷ es) l f (i, is) (o, os) L =
+    subst (ValuesLaid n holds (addAll (numberedAdditions n es) (set l (numberOfName n (e .0)) (integerAt l (numberOfName n (e .0)) +ℤ e .1)))) (fun-ext go)
+    (values-laid-all n holds es (set l (numberOfName n (e .0)) (integerAt l (numberOfName n (e .0)) +ℤ e .1)) (bumped (e .0) (e .1) f) is os
+    (values-laid-one n holds l f (e .0) (e .1) L i))
   where
     pick : (x : Name) (b : Bool) → sameName (e .0) x ≡ b → addTo (additionTo es x) (cond b (f x +ℤ e .1) (f x)) ≡ addTo (cond b (some (e .1)) (additionTo es x)) (f x)
     pick x true q = ap (λ (r : Option ℤ). addTo r (f x +ℤ e .1)) (ap (additionTo es) (sym (same→eq (e .0) x (subst T (sym q) tt))) ∙ o)
@@ -144,12 +195,15 @@ values-laid-all n (e ∷ es) l f (i, is) (o, os) L =
     go : (x : Name) → plus es (bumped (e .0) (e .1) f) x ≡ plus (e ∷ es) f x
     go x = pick x (sameName (e .0) x) refl
 
-pub values-laid-conditions : (n : ℕ) (cs : List (NumericCondition Name)) (l : List ℤ) (f : Name → ℤ) → All (λ (c : NumericCondition Name). MeasureIn (NameIn n) (c .measured)) cs → ValuesLaid n l f → conditionsHold (numberedConditions n cs) (integerAt l) ≡ conditionsHold cs f
-values-laid-conditions n [] l f i L = refl
-values-laid-conditions n (c ∷ cs) l f (i, is) L = ap₂ _&&_ (ap (λ (z : ℤ). related (c .relation) z (c .constant)) (lhs (c .measured) i)) (values-laid-conditions n cs l f is L)
+pub values-laid-conditions : (n holds : ℕ) (cs : List (NumericCondition Name)) (l : List ℤ) (f : Name → ℤ)
+    → All (λ (c : NumericCondition Name). MeasureIn (NameIn n holds) (c .measured)) cs → ValuesLaid n holds l f
+    → conditionsHold (numberedConditions n cs) (integerAt l) ≡ conditionsHold cs f
+values-laid-conditions n holds [] l f i L = refl
+values-laid-conditions n holds (c ∷ cs) l f (i, is) L =
+    ap₂ _&&_ (ap (λ (z : ℤ). related (c .relation) z (c .constant)) (lhs (c .measured) i)) (values-laid-conditions n holds cs l f is L)
   where
-    lhs : (e : Measured Name) → MeasureIn (NameIn n) e → measure (numberedMeasure n e) (integerAt l) ≡ measure e f
-    lhs (variable w) h = values-laid-get n l f w L h
+    lhs : (e : Measured Name) → MeasureIn (NameIn n holds) e → measure (numberedMeasure n e) (integerAt l) ≡ measure e f
+    lhs (variable w) h = values-laid-get n holds l f w L h
     lhs (weightedSum ts) h = absurd h
 
 -- ---- modes: m source modes, then control

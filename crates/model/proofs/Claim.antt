@@ -7,7 +7,7 @@ use native.Mathlib.Omega.{arith}
 use mathlib.Core.Bool.{Bool}
 use mathlib.Core.Option.{Option, some}
 use mathlib.Core.List.{List, [], _∷_}
-use lib.ListN.{length, length-append}
+use lib.ListN.{length, length-append, length-replicate}
 use lib.Dec.{T}
 use lib.IntN.{pos}
 use borrow.Author.Tests.{eq-eqb}
@@ -19,8 +19,8 @@ use Rattle.model.specs.Systems.{runPlan, totalPrice}
 use Rattle.model.specs.Steps.{conditionsHold, modesHold, integerAt, naturalAt, soundSource, soundRestricted, sizesOf, lowerBounds, upperBounds}
 use Rattle.model.specs.Steps.{sourceStart, restrictedStart, stepSource, stepRestricted, sourceGoalHolds, restrictedGoalHolds}
 use Rattle.model.specs.Tasks.{State, SourceTask, RestrictedTask}
-use Rattle.model.specs.Stages.{stageCount}
-use Rattle.model.specs.Lowering.{helpersAtRest, lowerTask, lowerFile}
+use Rattle.model.specs.Stages.{stageCount, holdCount}
+use Rattle.model.specs.Lowering.{restingHelpers, helpersAtRest, lowerTask, lowerFile}
 use Rattle.model.specs.Expansion.{sourceNumberOf, priceFrom, expandTask, projectTask}
 use Rattle.model.specs.InTask.{SourceGoal, LoweredGoal}
 use Rattle.model.specs.Decoding.{readSource, readRestricted}
@@ -87,6 +87,9 @@ module _ (t : SourceTask) (S : SourceTaskOk t) (file : List ℕ) (e : readSource
   abbrev R : RestrictedTask
   R = lowerTask t
 
+  abbrev resting : State → State
+  resting = helpersAtRest (holdCount (t .actions))
+
   R-reads : readRestricted (lowerFile t) ≡ given R
   R-reads = reads-back R (lowered-task-ok t S)
 
@@ -133,7 +136,7 @@ module _ (t : SourceTask) (S : SourceTaskOk t) (file : List ℕ) (e : readSource
       ∙ sym (pairing .lengths (planNumbers plan) s (v .runs))))
 
   -- ---- two valid plans, one the expansion of the other and the other its projection, are a pair
-  module _ (plan restricted : List ℕ) (b : Bytes plan) (c : Bytes restricted) (s : State) (v : ValidT plan s) (w : ValidR restricted (helpersAtRest s))
+  module _ (plan restricted : List ℕ) (b : Bytes plan) (c : Bytes restricted) (s : State) (v : ValidT plan s) (w : ValidR restricted (resting s))
       (expanded : expandTask t (planNumbers plan) ≡ planNumbers restricted) (projected : projectTask t (planNumbers restricted) ≡ planNumbers plan) where
     few : length (planNumbers restricted) ≤ 1_000_000
     few = plan-read restricted (planNumbers restricted) c (w .reads) .1
@@ -149,7 +152,7 @@ module _ (t : SourceTask) (S : SourceTaskOk t) (file : List ℕ) (e : readSource
         (ap given (ap planBytes expanded ∙ plan-read restricted (planNumbers restricted) c (w .reads) .0))
 
     projects : projectBytes file restricted ≡ given plan
-    projects = rw (e, R-reads, w .reads, judged-R restricted (helpersAtRest s) w)
+    projects = rw (e, R-reads, w .reads, judged-R restricted (resting s) w)
         (ap given (ap planBytes projected ∙ plan-read plan (planNumbers plan) b (v .reads) .0))
 
     pair : Pair t R file (lowerFile t) plan restricted
@@ -161,7 +164,7 @@ module _ (t : SourceTask) (S : SourceTaskOk t) (file : List ℕ) (e : readSource
       valid = rw (e, v .reads) (judged-T plan s v);
       endValues = values;
       endModes = modes;
-      validInR = rw (R-reads, w .reads) (judged-R restricted (helpersAtRest s) w);
+      validInR = rw (R-reads, w .reads) (judged-R restricted (resting s) w);
       price = price-is plan s v ∙ ap (λ (l : List ℕ). given (length l)) expanded;
       few = few;
       expands = expands;
@@ -189,7 +192,7 @@ module _ (t : SourceTask) (S : SourceTaskOk t) (file : List ℕ) (e : readSource
       a (subst T (sym (four-hold (t .goalConditions) (integerAt (x .values)))) b)
 
   -- a run of R from its start is one from T's start, helpers at rest
-  from-start : (q : List ℕ) → runPlan (stepRestricted R) q (helpersAtRest (sourceStart t)) ≡ runPlan (stepRestricted R) q (restrictedStart R)
+  from-start : (q : List ℕ) → runPlan (stepRestricted R) q (resting (sourceStart t)) ≡ runPlan (stepRestricted R) q (restrictedStart R)
   from-start q = ap (runPlan (stepRestricted R) q) (rest-of-start t S)
 
   forth : (plan : List ℕ) → Bytes plan → (n : ℕ) (s : State) → judgeSource file plan ≡ given (n, s)
@@ -199,8 +202,8 @@ module _ (t : SourceTask) (S : SourceTaskOk t) (file : List ℕ) (e : readSource
       let p : List ℕ = planNumbers plan in
       let q : List ℕ = expandTask t p in
       let (run, end, kept, _) = pairing .forth p s (v .runs) (goal-in s (v .ends)) short in
-      let (same, w) = written-is-valid (length (R .actions)) (stepRestricted R) (restrictedGoalHolds R) (restrictedStart R) few-R counts-R q (helpersAtRest s)
-      short (sym (from-start q) ∙ run) (goalR-out (helpersAtRest s) end) in
+      let (same, w) = written-is-valid (length (R .actions)) (stepRestricted R) (restrictedGoalHolds R) (restrictedStart R) few-R counts-R q (resting s)
+      short (sym (from-start q) ∙ run) (goalR-out (resting s) end) in
       (planBytes q, pair plan (planBytes q) b (plan-is-bytes q) s v w (sym same) (ap (projectTask t) same ∙ kept))
 
   back : (restricted : List ℕ) → Bytes restricted → (n : ℕ) (x : State) → judgeRestricted (lowerFile t) restricted ≡ given (n, x)
@@ -221,7 +224,8 @@ module _ (t : SourceTask) (S : SourceTaskOk t) (file : List ℕ) (e : readSource
     reads = e;
     lowering = R;
     readsLowered = R-reads;
-    variables = length-append (sourceStart t .values) (pos 0 ∷ pos 0 ∷ []) ∙ ap (λ (n : ℕ). n + 2) (accepted t S .valuesLength);
+    variables = length-append (sourceStart t .values) (restingHelpers (holdCount (t .actions)))
+        ∙ omega (arith, accepted t S .valuesLength, length-replicate (holdCount (t .actions)) (pos 0));
     modes = length-append (t .modes) ((suc (stageCount (lowerBounds t) (upperBounds t) (t .actions)), 0) ∷ []);
     oneApplies = λ x busy. at-most-one-action-applies t x (λ z. subst T (sym (eq-eqb (naturalAt (x .modes) (length (t .modes))) 0 z) ∙ busy) tt);
     priced = λ plan n s j. price-is plan s (valid-T plan n s j);

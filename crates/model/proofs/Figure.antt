@@ -15,6 +15,7 @@ use Rattle.lists.specs.Answer.{given}
 use Rattle.model.specs.Systems.{runPlan}
 use Rattle.model.specs.Steps.{integerAt, sourceStep, restrictedStep, soundSource, soundRestricted, lowerBounds, upperBounds, sourceStart, sizesOf, stepSource, stepRestricted, restrictedStart}
 use Rattle.model.specs.Tasks.{State, RestrictedAction, SourceTask, RestrictedTask}
+use Rattle.model.specs.Stages.{holdCount}
 use Rattle.model.specs.Limits.{restrictedLimits}
 use Rattle.model.specs.Decoding.{readSource, readRestricted}
 use Rattle.model.specs.TaskOk.{Distinct, keys, ValuesIn, InRange, AmountOk, RestrictedActionOk, SourceTaskOk, RestrictedTaskOk}
@@ -78,21 +79,22 @@ values-stay-within-the-figure file r e q h x w = let F : RestrictedTaskOk r = ac
     let (_, _, v, _) = run-keeps (restrictedStep (r .actions)) (Within r F) (steps-within r F) q 0 (restrictedStart r) x (start-within r F) w in
     all-values 2_000_000_000_000_000 (x .values) (λ j. omega (arith, h, v j))
 
--- the steps of any plan from the start of an accepted source task go as they would with no test but that of the effect's result: all values
+-- the steps of any plan from the start of an accepted source task go as they would with no test but that of the effects' results: all values
 -- stay within their bounds, all modes below their sizes
 module _ (t : SourceTask) (S : SourceTaskOk t) where
   abbrev InBounds : State → Type 0
   InBounds = WithinBounds (length (t .variables)) (length (t .modes)) (lowerBounds t) (upperBounds t) (sizesOf (t .modes))
 
-  A : Accepted (length (t .variables)) (length (t .modes)) (lowerBounds t) (upperBounds t) (t .actions) (sizesOf (t .modes)) (t .goalModes) (t .goalConditions) (sourceStart t)
+  A : Accepted (length (t .variables)) (holdCount (t .actions)) (length (t .modes)) (lowerBounds t) (upperBounds t) (t .actions) (sizesOf (t .modes))
+      (t .goalModes) (t .goalConditions) (sourceStart t)
   A = accepted t S
 
   start-in-bounds : InBounds (sourceStart t)
   start-in-bounds = (A .valuesLength, A .modesLength, A .good, A .below)
 
   step-in-bounds : (x y : State) (k : ℕ) → InBounds x → sourceStep (lowerBounds t) (upperBounds t) (t .actions) x k ≡ some y → InBounds y
-  step-in-bounds = step-within-bounds (length (t .variables)) (length (t .modes)) (lowerBounds t) (upperBounds t) (t .actions) (A .actionsIn)
-      (sizesOf (t .modes)) (A .sizesLength) (A .sets)
+  step-in-bounds = step-within-bounds (length (t .variables)) (holdCount (t .actions)) (length (t .modes)) (lowerBounds t) (upperBounds t) (t .actions)
+      (A .actionsIn) (sizesOf (t .modes)) (A .sizesLength) (A .sets)
 
   source-run-untested : (p : List ℕ)
       → runPlan (stepSource t) p (sourceStart t) ≡ runPlan (sourceStep (lowerBounds t) (upperBounds t) (t .actions)) p (sourceStart t)

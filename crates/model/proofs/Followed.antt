@@ -14,7 +14,7 @@ use borrow.Author.Tests.{eq-eqb, ne-eqb}
 use Rattle.model.specs.Systems.{runPlan}
 use Rattle.model.specs.Tasks.{SourceTask, State}
 use Rattle.model.specs.Steps.{naturalAt, soundRestricted, sizesOf, lowerBounds, upperBounds, sourceStart, stepSource, restrictedStart, stepRestricted}
-use Rattle.model.specs.Stages.{NamedAction}
+use Rattle.model.specs.Stages.{NamedAction, holdCount}
 use Rattle.model.specs.Lowering.{helpersAtRest, lowerTask}
 use Rattle.model.specs.Expansion.{openingOf, sourceNumberOf, controlAtRest, expandTask, expandByFollowing, projectTask}
 use Rattle.model.specs.TaskOk.{SourceTaskOk}
@@ -52,10 +52,19 @@ module _ (t : SourceTask) (S : SourceTaskOk t) where
   pairing : PlansPairOff t [] []
   pairing = plans-pair-off t S [] [] tt tt
 
-  pub expansion-follows : (p : List ℕ) (s : State) → runPlan (stepSource t) p (sourceStart t) ≡ some s → length (expandTask t p) ≤ 1_000_000 → expandByFollowing t (lowerTask t) p ≡ expandTask t p
+  pub expansion-follows : (p : List ℕ) (s : State) → runPlan (stepSource t) p (sourceStart t) ≡ some s → length (expandTask t p) ≤ 1_000_000
+      → expandByFollowing t (lowerTask t) p ≡ expandTask t p
   expansion-follows p s r l =
       let (run, rest, kept, _) = pairing .forth p s r (tt, tt) l in
-      ap (expandByFollowing t (lowerTask t)) (sym kept) ∙ plan-of-R-is-followed t (expandTask t p) (helpersAtRest s) (ap (runPlan (stepRestricted (lowerTask t)) (expandTask t p)) (sym (rest-of-start t S)) ∙ run) (ended (rest .0)) l
+      ap (expandByFollowing t (lowerTask t)) (sym kept)
+      ∙ plan-of-R-is-followed t (expandTask t p) end (ap (runPlan (stepRestricted (lowerTask t)) (expandTask t p)) (sym (rest-of-start t S)) ∙ run)
+      (ended (rest .0)) l
     where
-      ended : T (eqb (naturalAt (helpersAtRest s .modes) (length (t .modes))) 0 && true) → naturalAt (helpersAtRest s .modes) (length (t .modes)) ≡ 0
-      ended h = eqb→eq (naturalAt (helpersAtRest s .modes) (length (t .modes))) 0 (and-parts (eqb (naturalAt (helpersAtRest s .modes) (length (t .modes))) 0) true h .0)
+      end : State
+      end = helpersAtRest (holdCount (t .actions)) s
+
+      control : ℕ
+      control = naturalAt (end .modes) (length (t .modes))
+
+      ended : T (eqb control 0 && true) → control ≡ 0
+      ended h = eqb→eq control 0 (and-parts (eqb control 0) true h .0)

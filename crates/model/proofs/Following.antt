@@ -2,30 +2,33 @@
 -- plan with the numbers of each source step answers.
 -- Assumes nothing.
 use mathlib.Core.Path.{_≡_, refl, sym, ap, ap₂, _∙_, subst}
-use Prim.Native.Nat.{ℕ, suc, _%_, _≤_}
+use Prim.Native.Nat.{ℕ, _%_, _≤_}
 use native.Mathlib.Omega.{arith}
 use mathlib.Core.Bool.{_&&_, Bool, true, false, not, cond}
 use mathlib.Core.Option.{Option, none, some}
-use mathlib.Core.List.{List, [], _∷_, map-append}
+use mathlib.Core.List.{List, _∷_}
 use lib.ListN.{length}
 use lib.Dec.{T, eqb, ltb, nltb→le}
 use lib.IntN.{ℤ}
+use Rattle.integers.specs.All.{All}
 use Rattle.lists.specs.Answer.{Answer, given, refused, then}
 use Rattle.lists.proofs.Numbers.{length-halves}
-use Rattle.model.specs.Tasks.{SourceTask, RestrictedTask, State}
-use Rattle.model.specs.Steps.{integerAt, sourceStep, restrictedStep, soundSource, soundRestricted, sizesOf, lowerBounds, upperBounds, sourceStart, stepSource, sourceGoalHolds, restrictedStart, restrictedGoalHolds}
-use Rattle.model.specs.Stages.{NamedAction, lowerActions, opening, sourceNumber, stageCount}
+use Rattle.model.specs.Tasks.{SourceAction, SourceTask, RestrictedTask, State}
+use Rattle.model.specs.Steps.{integerAt, sourceStep, restrictedStep, soundSource, soundRestricted, sizesOf, lowerBounds, upperBounds, sourceStart}
+use Rattle.model.specs.Steps.{stepSource, sourceGoalHolds, restrictedStart, restrictedGoalHolds}
+use Rattle.model.specs.Stages.{NamedAction, lowerActions, opening, sourceNumber, holdCount}
 use Rattle.model.specs.Lowering.{helpersAtRest, lowerTask, lowerFile}
 use Rattle.model.specs.Expansion.{projectTask}
 use Rattle.model.specs.NamedSystems.{NamedState, NamedSource, byName, atRest, stepNamed, stepNamedSource, stageSteps, priceAt, deadEndSteps}
 use Rattle.model.specs.Decoding.{readSource, readRestricted}
 use Rattle.model.specs.Plans.{planBytes, planNumbers, readPlan}
 use Rattle.model.specs.Judging.{judge, judgeRestrictedTask, projectBytes}
+use Rattle.model.specs.InTask.{ActionIn, Distinct, targets}
 use Rattle.model.specs.TaskOk.{SourceTaskOk}
 use Rattle.model.specs.Following.{projectOver, macroNumbers, deadEndNumbers, opens, projectFrom}
 use Rattle.model.proofs.FourRelations.{four-hold}
 use Rattle.model.proofs.Answers.{Gives, given-injective}
-use Rattle.model.proofs.StageWalk.{Rest}
+use Rattle.model.proofs.StageWalk.{Rest, all-map}
 use Rattle.model.proofs.Arrays.{modes-laid-hold}
 use Rattle.model.proofs.Outcomes.{Good}
 use Rattle.model.proofs.NumberedPairing.{Agree, RestrictedAgrees, restricted-steps-agree, lower-in, SourceAgrees, source-steps-agree, rest-agrees, goal-conds}
@@ -36,6 +39,7 @@ use Rattle.model.proofs.AcceptedPairing.{Accepted}
 use Rattle.model.proofs.AcceptedSource.{accepted}
 use Rattle.model.proofs.LoweredOk.{lowered-task-ok, write-length}
 use Rattle.model.proofs.Figure.{Within, start-within, steps-within}
+use Rattle.model.proofs.LoweredPairing.{rest-of-start}
 use Rattle.model.proofs.ReadsBack.{reads-back}
 use Rattle.model.proofs.AcceptedOk.{accepted-source-ok}
 use Rattle.model.proofs.FollowingWalks.{then-made, judgedAs}
@@ -46,6 +50,9 @@ use Rattle.model.proofs.FollowingNamed.{opensNamed, goalNamed, goalLowe
 module _ (t : SourceTask) (S : SourceTaskOk t) where
   abbrev n : ℕ
   n = length (t .variables)
+
+  abbrev holds : ℕ
+  holds = holdCount (t .actions)
 
   abbrev m : ℕ
   m = length (t .modes)
@@ -65,7 +72,7 @@ module _ (t : SourceTask) (S : SourceTaskOk t) where
   abbrev own : ℕ → Option ℕ
   own = sourceNumber lo hi (t .actions)
 
-  A : Accepted n m lo hi (t .actions) sizes (t .goalModes) (t .goalConditions) (sourceStart t)
+  A : Accepted n holds m lo hi (t .actions) sizes (t .goalModes) (t .goalConditions) (sourceStart t)
   A = accepted t S
 
   -- ---- the source: numbered states within their bounds go with the named ones
@@ -73,12 +80,13 @@ module _ (t : SourceTask) (S : SourceTaskOk t) where
   Same x s = WithinBounds n m lo hi sizes x × (s ≡ byName x)
 
   inside : (x y : State) (k : ℕ) → WithinBounds n m lo hi sizes x → sourceStep lo hi (t .actions) x k ≡ some y → WithinBounds n m lo hi sizes y
-  inside = step-within-bounds n m lo hi (t .actions) (A .actionsIn) sizes (A .sizesLength) (A .sets)
+  inside = step-within-bounds n holds m lo hi (t .actions) (A .actionsIn) sizes (A .sizesLength) (A .sets)
 
   steps-same : (x : State) (s : NamedSource) (k : ℕ) → Same x s → Agree Same (stepSource t x k) (stepNamedSource lo hi (t .actions) s k)
   steps-same x s k (w, e) = subst (λ (o : Option State). Agree Same o (stepNamedSource lo hi (t .actions) s k))
       (sym (guard-step (soundSource lo hi sizes) (sourceStep lo hi (t .actions)) (WithinBounds n m lo hi sizes) inside (within-bounds-is-sound n m lo hi sizes) x k w))
-      (go (sourceStep lo hi (t .actions) x k) refl (stepNamedSource lo hi (t .actions) s k) (source-steps-agree n m lo hi (t .actions) (A .actionsIn) x s k (w .0, w .1, e)))
+      (go (sourceStep lo hi (t .actions) x k) refl (stepNamedSource lo hi (t .actions) s k)
+      (source-steps-agree n holds m lo hi (t .actions) (A .actionsIn) x s k (w .0, w .1, e)))
     where
       go : (o : Option State) → sourceStep lo hi (t .actions) x k ≡ o → (o′ : Option NamedSource) → Agree (SourceAgrees n m) o o′ → Agree Same o o′
       go none q none a = tt
@@ -92,12 +100,22 @@ module _ (t : SourceTask) (S : SourceTaskOk t) where
   abbrev deadEndOf : NamedSource → ℕ → List ℕ
   deadEndOf s a = opening lo hi (t .actions) a ∷ deadEndSteps lo hi (t .actions) s a
 
-  source-side : (count most i : ℕ) (q : List ℕ) → projectOver count (stepSource t) (sourceGoalHolds t) own (macroNumbers t) (deadEndNumbers t) (opens t) most i q (sourceStart t)
-      ≡ projectOver count (stepNamedSource lo hi (t .actions)) (goalNamed lo hi (t .actions) (t .goalModes) (t .goalConditions)) own numbersOf deadEndOf (opensNamed lo hi (t .actions)) most i q (byName (sourceStart t))
+  all-once : All (λ (a : SourceAction). Distinct (targets (a .effects))) (t .actions)
+  all-once = all-map (ActionIn n holds m) (λ (a : SourceAction). Distinct (targets (a .effects))) (λ a i. i .targetsOnce) (t .actions) (A .actionsIn)
+
+  abbrev goalT : NamedSource → Bool
+  goalT = goalNamed lo hi (t .actions) all-once (t .goalModes) (t .goalConditions)
+
+  abbrev opensT : NamedSource → ℕ → Bool
+  opensT = opensNamed lo hi (t .actions) all-once
+
+  source-side : (count most i : ℕ) (q : List ℕ)
+      → projectOver count (stepSource t) (sourceGoalHolds t) own (macroNumbers t) (deadEndNumbers t) (opens t) most i q (sourceStart t)
+      ≡ projectOver count (stepNamedSource lo hi (t .actions)) goalT own numbersOf deadEndOf opensT most i q (byName (sourceStart t))
   source-side count most i q = projections-agree Same (stepSource t) (stepNamedSource lo hi (t .actions)) steps-same
-      (sourceGoalHolds t) (goalNamed lo hi (t .actions) (t .goalModes) (t .goalConditions)) (λ x s h. ap (goalNamed lo hi (t .actions) (t .goalModes) (t .goalConditions)) (sym (h .1))) count own
+      (sourceGoalHolds t) goalT (λ x s h. ap goalT (sym (h .1))) count own
       (macroNumbers t) numbersOf (λ x s a h. ap (λ (u : NamedSource). numbersOf u a) (sym (h .1)))
-      (opens t) (opensNamed lo hi (t .actions)) (λ x s a h. ap (λ (u : NamedSource). opensNamed lo hi (t .actions) u a) (sym (h .1)))
+      (opens t) opensT (λ x s a h. ap (λ (u : NamedSource). opensT u a) (sym (h .1)))
       (deadEndNumbers t) deadEndOf (λ x s a h e f. ap (λ (u : NamedSource). deadEndOf u a) (sym (h .1)))
       most i q (sourceStart t) (byName (sourceStart t)) ((A .valuesLength, A .modesLength, A .good, A .below), refl)
 
@@ -108,31 +126,41 @@ module _ (t : SourceTask) (S : SourceTaskOk t) where
   abbrev goalR : State → Bool
   goalR = restrictedGoalHolds (lowerTask t)
 
-  goals-same : (x : State) (y : NamedState) → RestrictedAgrees n m x y → goalR x ≡ goalLowered lo hi (t .actions) (t .goalModes) (t .goalConditions) y
-  goals-same x y (L, M) = ap₂ _&&_ (modes-laid-hold m (t .goalModes) (x .modes) (y .mode) (y .control) 0 (A .goalModesIn) M) (four-hold (t .goalConditions) (integerAt (x .values)) ∙ goal-conds n m lo hi (t .goalConditions) (A .goalConditionsIn) (x .values) (y .value) L)
+  abbrev goalNames : NamedState → Bool
+  goalNames = goalLowered lo hi (t .actions) all-once (t .goalModes) (t .goalConditions)
+
+  goals-same : (x : State) (y : NamedState) → RestrictedAgrees n holds m x y → goalR x ≡ goalNames y
+  goals-same x y (L, M) = ap₂ _&&_ (modes-laid-hold m (t .goalModes) (x .modes) (y .mode) (y .control) 0 (A .goalModesIn) M)
+      (four-hold (t .goalConditions) (integerAt (x .values))
+      ∙ goal-conds n holds m lo hi (t .goalConditions) (A .goalConditionsIn) (x .values) (y .value) L)
 
   R-side : (c q : List ℕ) → length q ≤ 1_000_000
-      → then (judgeRestrictedTask (lowerTask t) q) (λ v. given c) ≡ judgedAs count (stepNamed R) (goalLowered lo hi (t .actions) (t .goalModes) (t .goalConditions)) c 0 q (atRest (byName (sourceStart t)))
+      → then (judgeRestrictedTask (lowerTask t) q) (λ v. given c) ≡ judgedAs count (stepNamed R) goalNames c 0 q (atRest (byName (sourceStart t)))
   R-side c q l =
+      let F = lowered-task-ok t S in
       ap (λ (a : Answer (ℕ × State)). then a (λ v. given c)) (
-      guarded-judge count (restrictedStep (lowerTask t .actions)) goalR (soundRestricted (sizesOf (lowerTask t .modes))) (Within (lowerTask t) (lowered-task-ok t S)) 1_000_000
-      (steps-within (lowerTask t) (lowered-task-ok t S)) (within-is-sound (length (lowerTask t .starts)) (sizesOf (lowerTask t .modes))) q 0 (restrictedStart (lowerTask t)) (omega arith) (start-within (lowerTask t) (lowered-task-ok t S))
-      ∙ ap (λ (l : List ℕ). judge count (restrictedStep (lowerTask t .actions)) goalR 0 q (record { values = lowerTask t .starts; modes = l })) (map-append (λ (p : ℕ × ℕ). p .1) (t .modes) ((suc (stageCount lo hi (t .actions)), 0) ∷ [])))
-      ∙ judges-agree (RestrictedAgrees n m) (restrictedStep (lowerTask t .actions)) (stepNamed R) (restricted-steps-agree n m R (lower-in n m lo hi (t .actions) 1 (A .actionsIn)))
-      goalR (goalLowered lo hi (t .actions) (t .goalModes) (t .goalConditions)) goals-same count c q 0 (helpersAtRest (sourceStart t)) (atRest (byName (sourceStart t))) (rest-agrees n m lo hi (sourceStart t) (A .valuesLength) (A .modesLength))
+      guarded-judge count (restrictedStep (lowerTask t .actions)) goalR (soundRestricted (sizesOf (lowerTask t .modes))) (Within (lowerTask t) F) 1_000_000
+      (steps-within (lowerTask t) F) (within-is-sound (length (lowerTask t .starts)) (sizesOf (lowerTask t .modes)))
+      q 0 (restrictedStart (lowerTask t)) (omega arith) (start-within (lowerTask t) F)
+      ∙ ap (judge count (restrictedStep (lowerTask t .actions)) goalR 0 q) (sym (rest-of-start t S)))
+      ∙ judges-agree (RestrictedAgrees n holds m) (restrictedStep (lowerTask t .actions)) (stepNamed R)
+      (restricted-steps-agree n holds m R (lower-in n holds m lo hi (t .actions) 1 (A .actionsIn)))
+      goalR goalNames goals-same count c q 0 (helpersAtRest holds (sourceStart t)) (atRest (byName (sourceStart t)))
+      (rest-agrees n holds m lo hi (sourceStart t) (A .valuesLength) (A .modesLength))
 
   -- judging a plan against R and projecting it, of an accepted task
-  pub task-follows : (q : List ℕ) → length q ≤ 1_000_000 → then (judgeRestrictedTask (lowerTask t) q) (λ v. given (projectTask t q)) ≡ projectFrom t (length q) 0 q (sourceStart t)
+  pub task-follows : (q : List ℕ) → length q ≤ 1_000_000
+      → then (judgeRestrictedTask (lowerTask t) q) (λ v. given (projectTask t q)) ≡ projectFrom t (length q) 0 q (sourceStart t)
   task-follows q l = R-side (projectTask t q) q l ∙ subst Statement (sym (write-length n m R)) named ∙ sym (source-side count (length q) 0 q)
     where
       Statement : ℕ → Type 0
-      Statement k = judgedAs k (stepNamed R) (goalLowered lo hi (t .actions) (t .goalModes) (t .goalConditions)) (projectTask t q) 0 q (atRest (byName (sourceStart t)))
-          ≡ projectOver k (stepNamedSource lo hi (t .actions)) (goalNamed lo hi (t .actions) (t .goalModes) (t .goalConditions)) own numbersOf deadEndOf (opensNamed lo hi (t .actions)) (length q) 0 q (byName (sourceStart t))
+      Statement k = judgedAs k (stepNamed R) goalNames (projectTask t q) 0 q (atRest (byName (sourceStart t)))
+          ≡ projectOver k (stepNamedSource lo hi (t .actions)) goalT own numbersOf deadEndOf opensT (length q) 0 q (byName (sourceStart t))
 
       named : Statement (length R)
-      named = judging-is-following (stepNamedSource lo hi (t .actions)) (stepNamed R) Rest atRest (Good lo hi) (opening lo hi (t .actions)) own (stageSteps lo hi (t .actions)) (priceAt (t .actions)) (deadEndSteps lo hi (t .actions))
-          (length R) (goalNamed lo hi (t .actions) (t .goalModes) (t .goalConditions)) (goalLowered lo hi (t .actions) (t .goalModes) (t .goalConditions)) (opensNamed lo hi (t .actions))
-          (named-projects lo hi (t .actions) (t .goalModes) (t .goalConditions)) (length q) 0 q (byName (sourceStart t)) (A .good) (omega arith)
+      named = judging-is-following (stepNamedSource lo hi (t .actions)) (stepNamed R) Rest atRest (Good lo hi) (opening lo hi (t .actions)) own
+          (stageSteps lo hi (t .actions)) (priceAt (t .actions)) (deadEndSteps lo hi (t .actions)) (length R) goalT goalNames opensT
+          (named-projects lo hi (t .actions) all-once (t .goalModes) (t .goalConditions)) (length q) 0 q (byName (sourceStart t)) (A .good) (omega arith)
 
 -- ---- bytes
 plan-length : (plan q : List ℕ) → readPlan plan ≡ given q → length q ≤ 1_000_000

@@ -10,16 +10,21 @@ use mathlib.Core.List.{List, [], _∷_, _++_}
 use lib.ListN.{length, length-append, getElem?}
 use lib.Dec.{T, eqb, eqb→eq, ltb, nltb→le}
 use lib.IntN.{ℤ, pos}
-use Rattle.model.specs.Systems.{bind}
-use Rattle.model.specs.Tasks.{NumericCondition, Effect, noEffect, addEffect, linearEffect, quotientEffect, residueEffect, SourceAction}
-use Rattle.model.specs.Steps.{conditionsHold, modesHold, result, withinBounds}
-use Rattle.model.specs.Stages.{Name, NamedAction, stagesOf, addedBound, onSourceVariables, macro, lowerActions, macroSize, opening, sourceNumber, later}
-use Rattle.model.specs.Expansion.{namedValues}
-use Rattle.model.specs.NamedSystems.{NamedState, NamedSource, applies, apply, tryNamed, stepNamed, conditionsMet, tryNamedSource, stepNamedSource, afterAction, atRest, stageSteps, deadEndSteps, priceAt}
+use Rattle.model.specs.Systems.{bind, provided}
+use Rattle.model.specs.Tasks.{NumericCondition, Effect, addEffect, linearEffect, quotientEffect, residueEffect, SourceAction}
+use Rattle.model.specs.Steps.{conditionsHold, modesHold, withinBounds, results}
+use Rattle.model.specs.Stages.{Name, NamedAction, stagesOf, addedBound, onSourceVariables, macro, lowerActions, macroSize, opening, sourceNumber}
+use Rattle.model.specs.Stages.{later}
+use Rattle.model.specs.Expansion.{allZero, restingValues}
+use Rattle.model.specs.NamedSystems.{NamedState, NamedSource, applies, apply, tryNamed, stepNamed, conditionsMet, tryNamedSource, stepNamedSource}
+use Rattle.model.specs.NamedSystems.{afterAction, atRest, stageSteps, deadEndSteps, priceAt}
+use Rattle.integers.specs.All.{All}
+use Rattle.model.specs.InTask.{Distinct, targets}
 use Rattle.model.specs.Following.{ifAny, makesMacro}
 use Rattle.model.proofs.Pairing.{bind-gives, none-not-some, some-injective}
-use Rattle.model.proofs.StageWalk.{Rest, and-intro, and-parts, provided-gives, provided-holds, applies-out, found-below-length}
-use Rattle.model.proofs.StageValues.{moveTest, tests-agree, and-true}
+use Rattle.model.proofs.StageWalk.{Rest, and-intro, and-parts, provided-gives, provided-holds, applies-out, found-below-length, all-get}
+use Rattle.model.proofs.StageValues.{and-true}
+use Rattle.model.proofs.EffectValues.{moveTest, tests-agree}
 use Rattle.model.proofs.StepBounds.{true-of}
 use Rattle.model.proofs.MacroPlace.{OpensOrOfAStage, opens-or-of-a-stage, macro-length, locate, no-opening-past-the-last}
 use Rattle.model.proofs.Outcomes.{Good, lowers, dst-step, source-conditions-lift}
@@ -30,10 +35,11 @@ module _ (lo hi : ℕ → ℤ) where
   source-opens : (acts : List SourceAction) (s k a : ℕ) → sourceNumber lo hi acts k ≡ some a → (opening lo hi acts a ≡ k) × (k < length (lowerActions lo hi s acts))
   source-opens [] s k a e = absurd (Option·none-ne-some a e)
   source-opens (x ∷ acts) s zero a e = (ap (opening lo hi (x ∷ acts)) (sym (some-injective e)), omega arith)
-  source-opens (x ∷ acts) s (suc k) a e = go (ltb (suc k) (macroSize lo hi x)) refl (sourceNumber lo hi acts (suc k - macroSize lo hi x)) refl e (source-opens acts (s + length (stagesOf lo hi (x .effect))) (suc k - macroSize lo hi x))
+  source-opens (x ∷ acts) s (suc k) a e = go (ltb (suc k) (macroSize lo hi x)) refl (sourceNumber lo hi acts (suc k - macroSize lo hi x)) refl e
+      (source-opens acts (s + length (stagesOf lo hi (x .effects))) (suc k - macroSize lo hi x))
     where
       rest : List NamedAction
-      rest = lowerActions lo hi (s + length (stagesOf lo hi (x .effect))) acts
+      rest = lowerActions lo hi (s + length (stagesOf lo hi (x .effects))) acts
 
       go : (b : Bool) → ltb (suc k) (macroSize lo hi x) ≡ b → (o : Option ℕ) → sourceNumber lo hi acts (suc k - macroSize lo hi x) ≡ o → cond b none (later o) ≡ some a
           → ((a : ℕ) → sourceNumber lo hi acts (suc k - macroSize lo hi x) ≡ some a → (opening lo hi acts a ≡ suc k - macroSize lo hi x) × (suc k - macroSize lo hi x < length rest))
@@ -47,44 +53,54 @@ module _ (lo hi : ℕ → ℤ) where
           (ap (opening lo hi (x ∷ acts)) (sym (some-injective e)) ∙ at, omega (arith, few, past, length-append (macro lo hi s x) rest, macro-length lo hi s x))
 
   -- only a lone + asks its action for a bound more
-  no-added-bound : (e : Effect) (v : Name → ℤ) → makesMacro e ≡ true → T (conditionsHold (addedBound lo hi e) v)
-  no-added-bound noEffect v m = tt
-  no-added-bound (addEffect t c) v m = absurd (subst T (sym m) tt)
-  no-added-bound (linearEffect t w ts) v m = tt
-  no-added-bound (quotientEffect t y c) v m = tt
-  no-added-bound (residueEffect t y c) v m = tt
+  no-added-bound : (es : List Effect) (v : Name → ℤ) → makesMacro es ≡ true → T (conditionsHold (addedBound lo hi es) v)
+  no-added-bound [] v m = tt
+  no-added-bound (addEffect t c ∷ []) v m = absurd (subst T (sym m) tt)
+  no-added-bound (linearEffect t w ts ∷ []) v m = tt
+  no-added-bound (quotientEffect t y c ∷ []) v m = tt
+  no-added-bound (residueEffect t y c ∷ []) v m = tt
+  no-added-bound (e ∷ f ∷ es) v m = tt
 
   -- only a macro has a turn that asks for bounds
-  turned-back-in-a-macro : (e : Effect) (v : ℕ → ℤ) → moveTest lo hi e v ≡ false → makesMacro e ≡ true
-  turned-back-in-a-macro noEffect v m = absurd (subst T m tt)
-  turned-back-in-a-macro (addEffect t c) v m = absurd (subst T m tt)
-  turned-back-in-a-macro (linearEffect t w ts) v m = refl
-  turned-back-in-a-macro (quotientEffect t y c) v m = refl
-  turned-back-in-a-macro (residueEffect t y c) v m = refl
+  turned-back-in-a-macro : (es : List Effect) (v : ℕ → ℤ) → moveTest lo hi es v ≡ false → makesMacro es ≡ true
+  turned-back-in-a-macro [] v m = absurd (subst T m tt)
+  turned-back-in-a-macro (addEffect t c ∷ []) v m = absurd (subst T m tt)
+  turned-back-in-a-macro (linearEffect t w ts ∷ []) v m = refl
+  turned-back-in-a-macro (quotientEffect t y c ∷ []) v m = refl
+  turned-back-in-a-macro (residueEffect t y c ∷ []) v m = refl
+  turned-back-in-a-macro (e ∷ f ∷ es) v m = refl
 
-  module _ (acts : List SourceAction) where
+  module _ (acts : List SourceAction) (all-once : All (λ (a : SourceAction). Distinct (targets (a .effects))) acts) where
     abbrev R : List NamedAction
     R = lowerActions lo hi 1 acts
 
     -- source action k becomes a macro, and its P and C hold
     abbrev pub opensNamed : NamedSource → ℕ → Bool
-    opensNamed s k = ifAny (getElem? acts k) (λ a. makesMacro (a .effect) && conditionsMet a s) false
+    opensNamed s k = ifAny (getElem? acts k) (λ a. makesMacro (a .effects) && conditionsMet a s) false
 
     module _ (s : NamedSource) (g : Good lo hi s) (k : ℕ) where
       abbrev bound : SourceAction → Bool
-      bound a = conditionsHold (addedBound lo hi (a .effect)) (namedValues (s .value) (pos 0) (pos 0))
+      bound a = conditionsHold (addedBound lo hi (a .effects)) (restingValues (s .value))
 
-      -- an opening that applies where the source action doesn't is turned back by its last turn
-      turned-back : (a : SourceAction) → getElem? acts k ≡ some a → T (conditionsMet a s) → T (bound a) → stepNamedSource lo hi acts s k ≡ none → moveTest lo hi (a .effect) (s .value) ≡ false
-      turned-back a e m b n = go (moveTest lo hi (a .effect) (s .value)) refl
+      -- an opening that applies where the source action doesn't is turned back by the turn of a Move
+      turned-back : (a : SourceAction) → getElem? acts k ≡ some a → T (conditionsMet a s) → T (bound a) → stepNamedSource lo hi acts s k ≡ none
+          → moveTest lo hi (a .effects) (s .value) ≡ false
+      turned-back a e m b n = go (moveTest lo hi (a .effects) (s .value)) refl
         where
           inside : Bool
-          inside = withinBounds lo hi (result (a .effect) (s .value))
+          inside = withinBounds lo hi (results (a .effects) (s .value))
 
-          go : (c : Bool) → moveTest lo hi (a .effect) (s .value) ≡ c → c ≡ false
+          go : (c : Bool) → moveTest lo hi (a .effects) (s .value) ≡ c → c ≡ false
           go true q = absurd (none-not-some n (ap (λ (o : Option SourceAction). bind o (tryNamedSource lo hi s)) e ∙ provided-holds (conditionsMet a s && inside) (afterAction a s) (and-intro (conditionsMet a s) inside m
-              (subst T (tests-agree lo hi (a .effect) (s .value) g) (and-intro (bound a) (moveTest lo hi (a .effect) (s .value)) b (subst T (sym q) tt))))))
+              (subst T (tests-agree lo hi (a .effects) (s .value) g) (and-intro (bound a) (moveTest lo hi (a .effects) (s .value)) b (subst T (sym q) tt))))))
           go false q = refl
+
+      -- what its opening gives
+      opening-step : (a : SourceAction) → getElem? acts k ≡ some a
+          → (y : NamedState) × (stepNamed R (atRest s) (opening lo hi acts k) ≡ provided (conditionsMet a s && bound a) y)
+      opening-step a e =
+          let once = all-get (λ (a : SourceAction). Distinct (targets (a .effects))) acts k a all-once e in
+          (_, dst-step lo hi acts all-once s g k a e once (locate lo hi acts 1 k a (omega arith) e))
 
       opening-hangs : (y : NamedState) → stepNamedSource lo hi acts s k ≡ none → stepNamed R (atRest s) (opening lo hi acts k) ≡ some y → opensNamed s k ≡ true
       opening-hangs y n o = go (getElem? acts k) refl
@@ -92,21 +108,25 @@ module _ (lo hi : ℕ → ℤ) where
           go : (r : Option SourceAction) → getElem? acts k ≡ r → opensNamed s k ≡ true
           go none e = absurd (none-not-some (ap (λ (o : Option NamedAction). bind o (tryNamed (atRest s))) (no-opening-past-the-last lo hi acts 1 k e)) o)
           go (some a) e =
-              let (m, b) = and-parts (conditionsMet a s) (bound a) (provided-gives (conditionsMet a s && bound a) _ y (sym (dst-step lo hi acts s g k a e (locate lo hi acts 1 k a (omega arith) e)) ∙ o) .0) in
-              let back : moveTest lo hi (a .effect) (s .value) ≡ false = turned-back a e m b n in
-              ap (λ (o : Option SourceAction). ifAny o (λ a. makesMacro (a .effect) && conditionsMet a s) false) e
-              ∙ ap₂ _&&_ (turned-back-in-a-macro (a .effect) (s .value) back) (true-of (conditionsMet a s) m)
+              let (z, step) = opening-step a e in
+              let (m, b) = and-parts (conditionsMet a s) (bound a) (provided-gives (conditionsMet a s && bound a) z y (sym step ∙ o) .0) in
+              let back : moveTest lo hi (a .effects) (s .value) ≡ false = turned-back a e m b n in
+              ap (λ (o : Option SourceAction). ifAny o (λ a. makesMacro (a .effects) && conditionsMet a s) false) e
+              ∙ ap₂ _&&_ (turned-back-in-a-macro (a .effects) (s .value) back) (true-of (conditionsMet a s) m)
 
       opening-shut : ((y : NamedState) → ¬ (stepNamed R (atRest s) (opening lo hi acts k) ≡ some y)) → opensNamed s k ≡ false
       opening-shut off = go (getElem? acts k) refl
         where
           go : (r : Option SourceAction) → getElem? acts k ≡ r → opensNamed s k ≡ false
-          go none e = ap (λ (o : Option SourceAction). ifAny o (λ a. makesMacro (a .effect) && conditionsMet a s) false) e
-          go (some a) e = ap (λ (o : Option SourceAction). ifAny o (λ a. makesMacro (a .effect) && conditionsMet a s) false) e ∙ on (makesMacro (a .effect)) refl (conditionsMet a s) refl
+          go none e = ap (λ (o : Option SourceAction). ifAny o (λ a. makesMacro (a .effects) && conditionsMet a s) false) e
+          go (some a) e = ap (λ (o : Option SourceAction). ifAny o (λ a. makesMacro (a .effects) && conditionsMet a s) false) e
+              ∙ on (makesMacro (a .effects)) refl (conditionsMet a s) refl
             where
-              on : (c : Bool) → makesMacro (a .effect) ≡ c → (d : Bool) → conditionsMet a s ≡ d → (c && d) ≡ false
-              on true p true q = absurd (off _ (dst-step lo hi acts s g k a e (locate lo hi acts 1 k a (omega arith) e)
-                  ∙ provided-holds (conditionsMet a s && bound a) _ (and-intro (conditionsMet a s) (bound a) (subst T (sym q) tt) (no-added-bound (a .effect) (namedValues (s .value) (pos 0) (pos 0)) p))))
+              on : (c : Bool) → makesMacro (a .effects) ≡ c → (d : Bool) → conditionsMet a s ≡ d → (c && d) ≡ false
+              on true p true q =
+                  let (z, step) = opening-step a e in
+                  let both = and-intro (conditionsMet a s) (bound a) (subst T (sym q) tt) (no-added-bound (a .effects) (restingValues (s .value)) p) in
+                  absurd (off z (step ∙ provided-holds (conditionsMet a s && bound a) z both))
               on true p false q = refl
               on false p d q = refl
 
@@ -130,10 +150,10 @@ module _ (lo hi : ℕ → ℤ) where
       pub named-projects : Projects (stepNamedSource lo hi acts) (stepNamed R) Rest atRest (Good lo hi) (opening lo hi acts) (sourceNumber lo hi acts) (stageSteps lo hi acts) (priceAt acts) (deadEndSteps lo hi acts)
           (length R) goalNamed goalLowered opensNamed
       named-projects = record {
-        lowers = lowers lo hi acts;
+        lowers = lowers lo hi acts all-once;
         counted = λ x k y e. let (r, e₁, e₂) = bind-gives (getElem? R k) (tryNamed x) y e in found-below-length R k r e₁;
         goalRests = λ x h. eqb→eq (x .control) 0 (and-parts (modesHold gp (x .mode)) (eqb (x .control) 0) (and-parts (modesHold gp (x .mode) && eqb (x .control) 0) (conditionsHold (onSourceVariables gc) (x .value)) h .0) .1);
-        goalsAgree = λ s. ap₂ _&&_ (and-true (modesHold gp (s .mode))) (source-conditions-lift gc (s .value) (pos 0) (pos 0));
+        goalsAgree = λ s. ap₂ _&&_ (and-true (modesHold gp (s .mode))) (source-conditions-lift gc (s .value) (pos 0) (pos 0) allZero);
         fromRest = from-rest;
         numbers = source-opens acts 1;
         hanging = opening-hangs;

@@ -106,7 +106,7 @@ module _ (n m : ℕ) (x : State) where
       ((λ t. absurd (busy (applies-at-its-control (openingAction lower upper s a) t))), one-of-both Applies (stagesActions s ds) rest (one-of-stages s ds) (one-of-all lower upper (s + length ds) acts busy) (here (decLt control (s + length ds))))
     where
       ds : List Stage
-      ds = stagesOf lower upper (a .effect)
+      ds = stagesOf lower upper (a .effects)
 
       rest : List NamedAction
       rest = lowerActions lower upper (s + length ds) acts

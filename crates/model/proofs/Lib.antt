@@ -10,6 +10,7 @@ pub mod Claim
 pub mod CommandFacts
 pub mod CommandsOk
 pub mod DeadEnd
+pub mod EffectValues
 pub mod EncodedActions
 pub mod Figure
 pub mod FileBytes
@@ -22,8 +23,8 @@ pub mod FollowingNamed
 pub mod FollowingPlans
 pub mod FollowingWalks
 pub mod Forced
-pub mod FourRelations
 pub mod FourAlone
+pub mod FourRelations
 pub mod GuardedPairing
 pub mod Guards
 pub mod JudgedPlans
@@ -37,10 +38,13 @@ pub mod Pairing
 pub mod ReadingLaws
 pub mod ReadsBack
 pub mod Runs
+pub mod SingleEffects
+pub mod SingleReading
 pub mod StageValues
 pub mod StageWalk
 pub mod StagesOk
 pub mod StepBounds
+pub mod Swapped
 pub mod TrailOfTask
 pub mod Walk
 pub mod Worked

@@ -1,23 +1,23 @@
 -- The lowering of a task out of an accepted source file is a well-formed restricted task.
 -- Assumes nothing.
 use mathlib.Core.Path.{_≡_, refl, sym, ap, _∙_, subst}
-use Prim.Native.Nat.{ℕ, suc, _+_, _≤_, _<_}
+use Prim.Native.Nat.{ℕ, zero, suc, _+_, _≤_, _<_}
 use native.Mathlib.Omega.{arith}
 use mathlib.Core.Bool.{Bool, true, false, cond}
 use mathlib.Core.Option.{none, some, Option·none-ne-some}
 use mathlib.Core.List.{List, [], _∷_, _++_, map}
-use lib.ListN.{length, length-append, length-map}
+use lib.ListN.{length, length-append, length-map, length-replicate, replicate}
 use lib.Dec.{eqb}
-use lib.IntN.{ℤ, pos}
+use lib.IntN.{ℤ, pos, natAbs}
 use borrow.Author.Tests.{ne-eqb}
 use Rattle.integers.specs.All.{All}
-use Rattle.model.specs.Tasks.{NumericCondition, SourceTask, SourceVariable, Measured, variable, weightedSum}
-use Rattle.model.specs.Stages.{Name, NamedAction, lowerActions, stageCount}
+use Rattle.model.specs.Tasks.{NumericCondition, SourceAction, SourceTask, SourceVariable, Measured, variable, weightedSum}
+use Rattle.model.specs.Stages.{Name, NamedAction, lowerActions, stageCount, several, holdCount}
 use Rattle.model.specs.Steps.{naturalAt, sizesOf, lowerBounds, upperBounds, sourceStart}
-use Rattle.model.specs.Lowering.{numberedConditions, numberedAdditions, numbered, numberedAll, lowerTask, numberedMeasure}
+use Rattle.model.specs.Lowering.{restingHelpers, numberedConditions, numberedAdditions, numbered, numberedAll, lowerTask, numberedMeasure}
 use Rattle.model.specs.InTask.{NameIn, MeasureIn}
 use Rattle.model.specs.Limits.{sourceLimits, restrictedLimits}
-use Rattle.model.specs.TaskOk.{Distinct, keys, ValuesIn, InRange, Factor, AmountOk, ModeOk, ConditionIn, ConditionOk, ConditionsOk, SourceVariableOk, SourceTaskOk, RestrictedActionOk, RestrictedTaskOk}
+use Rattle.model.specs.TaskOk.{Distinct, keys, ValuesIn, InRange, AmountOk, ModeOk, ConditionIn, ConditionOk, ConditionsOk, SourceVariableOk, SourceTaskOk, RestrictedActionOk, RestrictedTaskOk}
 use Rattle.model.proofs.FourRelations.{four-length, four-ok}
 use Rattle.model.proofs.StageWalk.{all-app, all-map}
 use Rattle.model.proofs.NumberedPairing.{NamedActionIn, lower-in}
@@ -25,7 +25,7 @@ use Rattle.model.proofs.StepBounds.{additionAt, AdditionsOnce}
 use Rattle.model.proofs.AcceptedPairing.{sets-more, at-end, num-room, num-once}
 use Rattle.model.proofs.ReadingLaws.{length-keys}
 use Rattle.model.proofs.AcceptedSource.{accepted, lower-up, upper-up, start-in}
-use Rattle.model.proofs.StagesOk.{RowOk, lower-ok, stages-count, lower-length}
+use Rattle.model.proofs.StagesOk.{ConstantsIn, AmountsIn, RowOk, lower-ok, stages-count, lower-length}
 
 -- ---- lists that name each number once
 none-apart : (k : ℕ) (es : List (ℕ × ℤ)) → additionAt es k ≡ none → All (λ (j : ℕ). eqb j k ≡ false) (keys es)
@@ -50,19 +50,20 @@ apart-more m x (e ∷ es) (h, hs) (a, as₁) = (beyond es a, apart-more m x es h
     beyond (f ∷ fs) (q, qs) = (q, beyond fs qs)
 
 -- ---- rows, their variables numbered
-all-cond : (n : ℕ) (cs : List (NumericCondition Name)) → All (λ (c : NumericCondition Name). MeasureIn (NameIn n) (c .measured)) cs → All (λ (c : NumericCondition Name). InRange restrictedLimits (c .constant)) cs
-    → All (λ (c : NumericCondition ℕ). ConditionIn (n + 2) c × InRange restrictedLimits (c .constant)) (numberedConditions n cs)
-all-cond n [] i h = tt
-all-cond n (c ∷ cs) (i, is) (h, hs) = ((lhs (c .measured) i, h), all-cond n cs is hs)
+all-cond : (n holds : ℕ) (cs : List (NumericCondition Name))
+    → All (λ (c : NumericCondition Name). MeasureIn (NameIn n holds) (c .measured)) cs → ConstantsIn cs
+    → All (λ (c : NumericCondition ℕ). ConditionIn (n + (2 + holds)) c × InRange restrictedLimits (c .constant)) (numberedConditions n cs)
+all-cond n holds [] i h = tt
+all-cond n holds (c ∷ cs) (i, is) (h, hs) = ((lhs (c .measured) i, h), all-cond n holds cs is hs)
   where
-    lhs : (l : Measured Name) → MeasureIn (NameIn n) l → MeasureIn (λ (i : ℕ). i < n + 2) (numberedMeasure n l)
-    lhs (variable w) i = num-room n w i
+    lhs : (l : Measured Name) → MeasureIn (NameIn n holds) l → MeasureIn (λ (i : ℕ). i < n + (2 + holds)) (numberedMeasure n l)
+    lhs (variable w) i = num-room n holds w i
     lhs (weightedSum ts) i = absurd i
 
-all-add : (n : ℕ) (es : List (Name × ℤ)) → All (λ (e : Name × ℤ). NameIn n (e .0)) es → All (λ (e : Name × ℤ). Factor restrictedLimits (e .1)) es
-    → All (AmountOk restrictedLimits (n + 2)) (numberedAdditions n es)
-all-add n [] i h = tt
-all-add n (e ∷ es) (i, is) (h, hs) = ((num-room n (e .0) i, h), all-add n es is hs)
+all-add : (n holds : ℕ) (es : List (Name × ℤ)) → All (λ (e : Name × ℤ). NameIn n holds (e .0)) es → AmountsIn es
+    → All (AmountOk restrictedLimits (n + (2 + holds))) (numberedAdditions n es)
+all-add n holds [] i h = tt
+all-add n holds (e ∷ es) (i, is) (h, hs) = ((num-room n holds (e .0) i, h), all-add n holds es is hs)
 
 length-numC : (n : ℕ) (cs : List (NumericCondition Name)) → length (numberedConditions n cs) ≡ length cs
 length-numC n [] = refl
@@ -80,20 +81,21 @@ values-more : (sizes : List ℕ) (z m x : ℕ) → length sizes ≡ m → x < z 
 values-more sizes z m x e h ps v =
     all-app (λ (p : ℕ × ℕ). (p .0 < length (sizes ++ (z ∷ []))) × (p .1 < naturalAt (sizes ++ (z ∷ [])) (p .0))) ps ((m, x) ∷ []) (sets-more sizes z ps v) (ctl-in sizes z m x e h, tt)
 
-module _ (n m : ℕ) (sizes : List ℕ) (z : ℕ) (sm : length sizes ≡ m) where
-  write-ok : (r : NamedAction) → NamedActionIn n m r → RowOk sizes z r → RestrictedActionOk restrictedLimits (n + 2) (sizes ++ (z ∷ [])) (numbered n m r)
+module _ (n holds m : ℕ) (sizes : List ℕ) (z : ℕ) (sm : length sizes ≡ m) where
+  write-ok : (r : NamedAction) → NamedActionIn n holds m r → RowOk sizes z r
+      → RestrictedActionOk restrictedLimits (n + (2 + holds)) (sizes ++ (z ∷ [])) (numbered n m r)
   write-ok r i o = record {
     conditionsOk = record {
       modeConditionsFew = omega (arith, o .modeConditionsFew, length-append (r .modeConditions) ((m, r .control) ∷ []));
       modeConditionsIn = values-more sizes z m (r .control) sm (o .control) (r .modeConditions) (o .modeConditionsIn);
       conditionsFew = omega (arith, o .conditionsFew, length-numC n (r .conditions), four-length (numberedConditions n (r .conditions)));
-      conditionsIn = four-ok (n + 2) (numberedConditions n (r .conditions)) (all-cond n (r .conditions) (i .conditionsIn) (o .csUp));
+      conditionsIn = four-ok (n + (2 + holds)) (numberedConditions n (r .conditions)) (all-cond n holds (r .conditions) (i .conditionsIn) (o .csUp));
     };
     modeEffectsIn = go₁ (eqb (r .control) (r .nextControl));
     modeEffectsOnce = go₂ (eqb (r .control) (r .nextControl));
     additionsFew = omega (arith, o .additionsFew, length-numA n (r .additions));
-    additionsIn = all-add n (r .additions) (i .additionsIn) (o .addsUp);
-    additionsOnce = once-apart (numberedAdditions n (r .additions)) (num-once n (r .additions) (i .additionsIn) (i .additionsOnce));
+    additionsIn = all-add n holds (r .additions) (i .additionsIn) (o .addsUp);
+    additionsOnce = once-apart (numberedAdditions n (r .additions)) (num-once n holds (r .additions) (i .additionsIn) (i .additionsOnce));
   }
     where
       nil : {A : Type 0} (xs : List A) → xs ++ [] ≡ xs
@@ -108,7 +110,8 @@ module _ (n m : ℕ) (sizes : List ℕ) (z : ℕ) (sm : length sizes ≡ m) wher
       go₂ true = subst (λ (e : List (ℕ × ℕ)). Distinct (keys e)) (sym (nil (r .modeEffects))) (o .esApart)
       go₂ false = apart-more m (r .nextControl) (r .modeEffects) (i .modeEffectsIn) (o .esApart)
 
-  write-all : (R : List NamedAction) → All (NamedActionIn n m) R → All (RowOk sizes z) R → All (RestrictedActionOk restrictedLimits (n + 2) (sizes ++ (z ∷ []))) (numberedAll n m R)
+  write-all : (R : List NamedAction) → All (NamedActionIn n holds m) R → All (RowOk sizes z) R
+      → All (RestrictedActionOk restrictedLimits (n + (2 + holds)) (sizes ++ (z ∷ []))) (numberedAll n m R)
   write-all [] i o = tt
   write-all (r ∷ R) (i, is) (o, os) = (write-ok r i o, write-all R is os)
 
@@ -116,11 +119,11 @@ pub write-length : (n m : ℕ) (R : List NamedAction) → length (numberedAll n 
 write-length n m [] = refl
 write-length n m (r ∷ R) = ap suc (write-length n m R)
 
--- with the two helpers behind them, a task's variables are declared as before
-with-helpers : (n : ℕ) (c : NumericCondition ℕ) → ConditionIn n c → ConditionIn (n + 2) c
-with-helpers n c h = measured (c .measured) h
+-- with the helpers behind them, a task's variables are declared as before
+with-helpers : (n holds : ℕ) (c : NumericCondition ℕ) → ConditionIn n c → ConditionIn (n + (2 + holds)) c
+with-helpers n holds c h = measured (c .measured) h
   where
-    measured : (l : Measured ℕ) → MeasureIn (λ (i : ℕ). i < n) l → MeasureIn (λ (i : ℕ). i < n + 2) l
+    measured : (l : Measured ℕ) → MeasureIn (λ (i : ℕ). i < n) l → MeasureIn (λ (i : ℕ). i < n + (2 + holds)) l
     measured (variable i) h = omega (arith, h)
     measured (weightedSum ts) h = absurd h
 
@@ -128,51 +131,83 @@ keys-app : (xs ys : List (ℕ × ℕ)) → keys (xs ++ ys) ≡ keys xs ++ keys y
 keys-app [] ys = refl
 keys-app (x ∷ xs) ys = ap (λ (z : List ℕ). x .0 ∷ z) (keys-app xs ys)
 
-starts-in : (vs : List SourceVariable) → All (SourceVariableOk sourceLimits) vs → All (InRange restrictedLimits) (map (λ (b : SourceVariable). b .start) vs ++ (pos 0 ∷ pos 0 ∷ []))
-starts-in [] h = (omega arith, (omega arith, tt))
-starts-in (b ∷ vs) (h, hs) = (start-in b h, starts-in vs hs)
+zeros-in : (k : ℕ) → All (InRange restrictedLimits) (replicate k (pos 0))
+zeros-in zero = tt
+zeros-in (suc k) = (omega arith, zeros-in k)
+
+starts-in : (holds : ℕ) (vs : List SourceVariable) → All (SourceVariableOk sourceLimits) vs
+    → All (InRange restrictedLimits) (map (λ (b : SourceVariable). b .start) vs ++ restingHelpers holds)
+starts-in holds [] h = zeros-in (suc (suc holds))
+starts-in holds (b ∷ vs) (h, hs) = (start-in b h, starts-in holds vs hs)
+
+holds-few : (acts : List SourceAction) → holdCount acts ≤ 3
+holds-few [] = omega arith
+holds-few (a ∷ acts) = go (several (a .effects)) (holds-few acts)
+  where
+    go : (b : Bool) → holdCount acts ≤ 3 → cond b 3 (holdCount acts) ≤ 3
+    go true h = omega arith
+    go false h = h
 
 -- THE LOWERED TASK is well-formed
 module _ (t : SourceTask) (S : SourceTaskOk t) where
-  stage-few : stageCount (lowerBounds t) (upperBounds t) (t .actions) ≤ 320
-  stage-few = omega (arith, stages-count (lowerBounds t) (upperBounds t) (lower-up (t .variables) (S .variablesIn)) (upper-up (t .variables) (S .variablesIn)) (length (t .variables)) (sizesOf (t .modes)) (t .actions) (S .actionsOk), S .actionsFew)
+  abbrev n : ℕ
+  n = length (t .variables)
 
-  nStarts : length (lowerTask t .starts) ≡ length (t .variables) + 2
-  nStarts = length-append (sourceStart t .values) (pos 0 ∷ pos 0 ∷ []) ∙ ap (λ (k : ℕ). k + 2) (length-map (t .variables) (λ (b : SourceVariable). b .start))
+  abbrev holds : ℕ
+  holds = holdCount (t .actions)
 
-  pub lowered-sizes : sizesOf (lowerTask t .modes) ≡ sizesOf (t .modes) ++ (suc (stageCount (lowerBounds t) (upperBounds t) (t .actions)) ∷ [])
-  lowered-sizes = keys-app (t .modes) ((suc (stageCount (lowerBounds t) (upperBounds t) (t .actions)), 0) ∷ [])
+  abbrev sizes : List ℕ
+  sizes = sizesOf (t .modes)
 
-  acts-ok : All (RestrictedActionOk restrictedLimits (length (t .variables) + 2) (sizesOf (t .modes) ++ (suc (stageCount (lowerBounds t) (upperBounds t) (t .actions)) ∷ []))) (lowerTask t .actions)
-  acts-ok = write-all (length (t .variables)) (length (t .modes)) (sizesOf (t .modes)) (suc (stageCount (lowerBounds t) (upperBounds t) (t .actions))) (length-keys (t .modes)) (lowerActions (lowerBounds t) (upperBounds t) 1 (t .actions))
-      (lower-in (length (t .variables)) (length (t .modes)) (lowerBounds t) (upperBounds t) (t .actions) 1 (accepted t S .actionsIn))
-      (lower-ok (lowerBounds t) (upperBounds t) (lower-up (t .variables) (S .variablesIn)) (upper-up (t .variables) (S .variablesIn)) (length (t .variables)) (sizesOf (t .modes)) (suc (stageCount (lowerBounds t) (upperBounds t) (t .actions))) (omega arith) (t .actions) 1 (omega arith) (S .actionsOk))
+  -- the size of control
+  abbrev controls : ℕ
+  controls = suc (stageCount (lowerBounds t) (upperBounds t) (t .actions))
 
-  goal-ok : ConditionsOk restrictedLimits (length (t .variables) + 2) (sizesOf (t .modes) ++ (suc (stageCount (lowerBounds t) (upperBounds t) (t .actions)) ∷ [])) (lowerTask t .goalModes) (lowerTask t .goalConditions)
+  lower-in-range : (j : ℕ) → natAbs (lowerBounds t j) ≤ 10_000
+  lower-in-range = lower-up (t .variables) (S .variablesIn)
+
+  upper-in-range : (j : ℕ) → natAbs (upperBounds t j) ≤ 10_000
+  upper-in-range = upper-up (t .variables) (S .variablesIn)
+
+  stage-few : stageCount (lowerBounds t) (upperBounds t) (t .actions) ≤ 1056
+  stage-few = omega (arith, stages-count (lowerBounds t) (upperBounds t) lower-in-range upper-in-range n sizes (t .actions) (S .actionsOk), S .actionsFew)
+
+  nStarts : length (lowerTask t .starts) ≡ n + (2 + holds)
+  nStarts = length-append (sourceStart t .values) (restingHelpers holds)
+      ∙ omega (arith, length-map (t .variables) (λ (b : SourceVariable). b .start), length-replicate holds (pos 0))
+
+  pub lowered-sizes : sizesOf (lowerTask t .modes) ≡ sizes ++ (controls ∷ [])
+  lowered-sizes = keys-app (t .modes) ((controls, 0) ∷ [])
+
+  acts-ok : All (RestrictedActionOk restrictedLimits (n + (2 + holds)) (sizes ++ (controls ∷ []))) (lowerTask t .actions)
+  acts-ok = write-all n holds (length (t .modes)) sizes controls (length-keys (t .modes)) (lowerActions (lowerBounds t) (upperBounds t) 1 (t .actions))
+      (lower-in n holds (length (t .modes)) (lowerBounds t) (upperBounds t) (t .actions) 1 (accepted t S .actionsIn))
+      (lower-ok (lowerBounds t) (upperBounds t) lower-in-range upper-in-range n sizes controls (omega arith) (t .actions) 1 (omega arith) (S .actionsOk))
+
+  goal-ok : ConditionsOk restrictedLimits (n + (2 + holds)) (sizes ++ (controls ∷ [])) (lowerTask t .goalModes) (lowerTask t .goalConditions)
   goal-ok = record {
     modeConditionsFew = omega (arith, S .goal .modeConditionsFew, length-append (t .goalModes) ((length (t .modes), 0) ∷ []));
-    modeConditionsIn = values-more (sizesOf (t .modes)) (suc (stageCount (lowerBounds t) (upperBounds t) (t .actions))) (length (t .modes)) 0 (length-keys (t .modes)) (omega arith) (t .goalModes) (S .goal .modeConditionsIn);
+    modeConditionsIn = values-more sizes controls (length (t .modes)) 0 (length-keys (t .modes)) (omega arith) (t .goalModes) (S .goal .modeConditionsIn);
     conditionsFew = omega (arith, S .goal .conditionsFew, four-length (t .goalConditions));
-    conditionsIn = four-ok (length (t .variables) + 2) (t .goalConditions) (all-map (ConditionOk sourceLimits (length (t .variables))) (λ (c : NumericCondition ℕ). ConditionIn (length (t .variables) + 2) c × InRange restrictedLimits (c .constant))
-        (λ c h. (with-helpers (length (t .variables)) c (h .declared), omega (arith, h .inRange))) (t .goalConditions) (S .goal .conditionsIn));
+    conditionsIn = four-ok (n + (2 + holds)) (t .goalConditions)
+        (all-map (ConditionOk sourceLimits n) (λ (c : NumericCondition ℕ). ConditionIn (n + (2 + holds)) c × InRange restrictedLimits (c .constant))
+        (λ c h. (with-helpers n holds c (h .declared), omega (arith, h .inRange))) (t .goalConditions) (S .goal .conditionsIn));
   }
 
   pub lowered-task-ok : RestrictedTaskOk (lowerTask t)
   lowered-task-ok = record {
-    startsFew = omega (arith, nStarts, S .variablesFew);
-    startsIn = starts-in (t .variables) (S .variablesIn);
-    modesFew = omega (arith, length-append (t .modes) ((suc (stageCount (lowerBounds t) (upperBounds t) (t .actions)), 0) ∷ []), S .modesFew);
-    modesIn = all-app (ModeOk restrictedLimits) (t .modes) ((suc (stageCount (lowerBounds t) (upperBounds t) (t .actions)), 0) ∷ [])
+    startsFew = omega (arith, nStarts, S .variablesFew, holds-few (t .actions));
+    startsIn = starts-in holds (t .variables) (S .variablesIn);
+    modesFew = omega (arith, length-append (t .modes) ((controls, 0) ∷ []), S .modesFew);
+    modesIn = all-app (ModeOk restrictedLimits) (t .modes) ((controls, 0) ∷ [])
         (all-map (ModeOk sourceLimits) (ModeOk restrictedLimits) (λ m h. (h .0, omega (arith, h .1))) (t .modes) (S .modesIn))
         ((omega arith, omega (arith, stage-few)), tt);
     actionsFew = omega (
       arith,
-      write-length (length (t .variables)) (length (t .modes)) (lowerActions (lowerBounds t) (upperBounds t) 1 (t .actions)),
-      lower-length (lowerBounds t) (upperBounds t) (lower-up (t .variables) (S .variablesIn)) (upper-up (t .variables) (S .variablesIn)) (length (t .variables)) (sizesOf (t .modes)) (t .actions) 1 (S .actionsOk),
+      write-length n (length (t .modes)) (lowerActions (lowerBounds t) (upperBounds t) 1 (t .actions)),
+      lower-length (lowerBounds t) (upperBounds t) lower-in-range upper-in-range n sizes (t .actions) 1 (S .actionsOk),
       S .actionsFew,
     );
-    actionsOk = subst (λ (k : ℕ). All (RestrictedActionOk restrictedLimits k (sizesOf (lowerTask t .modes))) (lowerTask t .actions)) (sym nStarts)
-        (subst (λ (s : List ℕ). All (RestrictedActionOk restrictedLimits (length (t .variables) + 2) s) (lowerTask t .actions)) (sym lowered-sizes) acts-ok);
-    goal = subst (λ (k : ℕ). ConditionsOk restrictedLimits k (sizesOf (lowerTask t .modes)) (lowerTask t .goalModes) (lowerTask t .goalConditions)) (sym nStarts)
-        (subst (λ (s : List ℕ). ConditionsOk restrictedLimits (length (t .variables) + 2) s (lowerTask t .goalModes) (lowerTask t .goalConditions)) (sym lowered-sizes) goal-ok);
+    actionsOk = rw (nStarts, lowered-sizes) acts-ok;
+    goal = rw (nStarts, lowered-sizes) goal-ok;
   }

@@ -68,15 +68,17 @@ walk-range b (d ∷ ds) v = all-app (Between b (b + (suc (turnPlace (d .kind)) +
 
 module _ (lo hi : ℕ → ℤ) where
   pub macro-length : (s : ℕ) (a : SourceAction) → length (macro lo hi s a) ≡ macroSize lo hi a
-  macro-length s a = ap suc (stages-length s (stagesOf lo hi (a .effect)))
+  macro-length s a = ap suc (stages-length s (stagesOf lo hi (a .effects)))
 
   pub lower-past : (s : ℕ) (acts : List SourceAction) → Past s (lowerActions lo hi s acts)
   lower-past s [] = tt
   lower-past s (a ∷ acts) = (
     inl refl,
-    all-app (λ (r : NamedAction). (r .control ≡ 0) ⊎ (s ≤ r .control)) (stagesActions s (stagesOf lo hi (a .effect))) (lowerActions lo hi (s + length (stagesOf lo hi (a .effect))) acts)
-        (stages-past s (stagesOf lo hi (a .effect)))
-        (past-mono s (s + length (stagesOf lo hi (a .effect))) (omega arith) (lowerActions lo hi (s + length (stagesOf lo hi (a .effect))) acts) (lower-past (s + length (stagesOf lo hi (a .effect))) acts)),
+    all-app (λ (r : NamedAction). (r .control ≡ 0) ⊎ (s ≤ r .control)) (stagesActions s (stagesOf lo hi (a .effects)))
+        (lowerActions lo hi (s + length (stagesOf lo hi (a .effects))) acts)
+        (stages-past s (stagesOf lo hi (a .effects)))
+        (past-mono s (s + length (stagesOf lo hi (a .effects))) (omega arith) (lowerActions lo hi (s + length (stagesOf lo hi (a .effects))) acts)
+        (lower-past (s + length (stagesOf lo hi (a .effects))) acts)),
   )
 
   pub record Where (acts : List SourceAction) (s k : ℕ) (a : SourceAction) : Type 0 where
@@ -86,7 +88,7 @@ module _ (lo hi : ℕ → ℤ) where
     pub split : lowerActions lo hi s acts ≡ pre ++ (macro lo hi from a ++ post)
     pub lengths : length pre ≡ opening lo hi acts k
     pub under : Under from pre
-    pub past : Past (from + length (stagesOf lo hi (a .effect))) post
+    pub past : Past (from + length (stagesOf lo hi (a .effects))) post
     pub after : s ≤ from
 
   pub locate : (acts : List SourceAction) (s k : ℕ) (a : SourceAction) → 1 ≤ s → getElem? acts k ≡ some a → Where acts s k a
@@ -94,24 +96,27 @@ module _ (lo hi : ℕ → ℤ) where
   locate (a₀ ∷ acts) s zero a h e = record {
     from = s;
     pre = [];
-    post = lowerActions lo hi (s + length (stagesOf lo hi (a .effect))) acts;
-    split = ap (λ (x : SourceAction). macro lo hi s x ++ lowerActions lo hi (s + length (stagesOf lo hi (x .effect))) acts) (some-injective e);
+    post = lowerActions lo hi (s + length (stagesOf lo hi (a .effects))) acts;
+    split = ap (λ (x : SourceAction). macro lo hi s x ++ lowerActions lo hi (s + length (stagesOf lo hi (x .effects))) acts) (some-injective e);
     lengths = refl;
     under = tt;
-    past = lower-past (s + length (stagesOf lo hi (a .effect))) acts;
+    past = lower-past (s + length (stagesOf lo hi (a .effects))) acts;
     after = omega arith;
   }
-  locate (a₀ ∷ acts) s (suc k) a h e = go (locate acts (s + length (stagesOf lo hi (a₀ .effect))) k a (omega arith) e)
+  locate (a₀ ∷ acts) s (suc k) a h e = go (locate acts (s + length (stagesOf lo hi (a₀ .effects))) k a (omega arith) e)
     where
-      go : Where acts (s + length (stagesOf lo hi (a₀ .effect))) k a → Where (a₀ ∷ acts) s (suc k) a
+      go : Where acts (s + length (stagesOf lo hi (a₀ .effects))) k a → Where (a₀ ∷ acts) s (suc k) a
       go w = record {
         from = w .from;
         pre = macro lo hi s a₀ ++ w .pre;
         post = w .post;
         split = ap (λ (l : List NamedAction). macro lo hi s a₀ ++ l) (w .split) ∙ sym (append-assoc (macro lo hi s a₀) (w .pre) (macro lo hi (w .from) a ++ w .post));
         lengths = length-append (macro lo hi s a₀) (w .pre) ∙ ap₂ (λ (x y : ℕ). x + y) (macro-length s a₀) (w .lengths);
-        under = all-app (λ (r : NamedAction). r .control < w .from) (macro lo hi s a₀) (w .pre)
-            (omega (arith, h, w .after), under-mono (s + length (stagesOf lo hi (a₀ .effect))) (w .from) (w .after) (stagesActions s (stagesOf lo hi (a₀ .effect))) (stages-under s (stagesOf lo hi (a₀ .effect))))
+        under = all-app (λ (r : NamedAction). r .control < w .from) (macro lo hi s a₀) (w .pre) (
+          omega (arith, h, w .after),
+          under-mono (s + length (stagesOf lo hi (a₀ .effects))) (w .from) (w .after) (stagesActions s (stagesOf lo hi (a₀ .effects)))
+              (stages-under s (stagesOf lo hi (a₀ .effects))),
+        )
             (w .under);
         past = w .past;
         after = omega (arith, w .after);
@@ -121,9 +126,10 @@ module _ (lo hi : ℕ → ℤ) where
   no-opening-past-the-last [] s k e = refl
   no-opening-past-the-last (a ∷ acts) s zero e = absurd (Option·none-ne-some a (sym e))
   no-opening-past-the-last (a ∷ acts) s (suc k) e =
-      ap (λ (n : ℕ). getElem? (macro lo hi s a ++ lowerActions lo hi (s + length (stagesOf lo hi (a .effect))) acts) (n + opening lo hi acts k)) (sym (macro-length s a))
-      ∙ get-past (macro lo hi s a) (lowerActions lo hi (s + length (stagesOf lo hi (a .effect))) acts) (opening lo hi acts k)
-      ∙ no-opening-past-the-last acts (s + length (stagesOf lo hi (a .effect))) k e
+      ap (λ (n : ℕ). getElem? (macro lo hi s a ++ lowerActions lo hi (s + length (stagesOf lo hi (a .effects))) acts) (n + opening lo hi acts k))
+      (sym (macro-length s a))
+      ∙ get-past (macro lo hi s a) (lowerActions lo hi (s + length (stagesOf lo hi (a .effects))) acts) (opening lo hi acts k)
+      ∙ no-opening-past-the-last acts (s + length (stagesOf lo hi (a .effects))) k e
 
   -- ---- whose number
   pick : (b : Bool) (x : Option ℕ) → T (not b) → cond b none x ≡ x
@@ -140,7 +146,7 @@ module _ (lo hi : ℕ → ℤ) where
       ∙ ap (λ (y : ℕ). later (sourceNumber lo hi acts y)) (omega arith)
     where
       n : ℕ
-      n = countActions (stagesOf lo hi (a .effect))
+      n = countActions (stagesOf lo hi (a .effects))
 
   -- an action of R is the opening of a source action, has its number and needs control 0; or it is of a stage, has no source number and needs
   -- that stage's control
@@ -154,7 +160,7 @@ module _ (lo hi : ℕ → ℤ) where
       (λ i f. opens-or-of-a-stage acts (s + length ds) i r (omega arith) f)
     where
       ds : List Stage
-      ds = stagesOf lo hi (a₀ .effect)
+      ds = stagesOf lo hi (a₀ .effects)
 
       go : (getElem? (stagesActions s ds) k ≡ some r) ⊎ ((i : ℕ) × (k ≡ length (stagesActions s ds) + i) × (getElem? (lowerActions lo hi (s + length ds) acts) i ≡ some r))
           → ((i : ℕ) → getElem? (lowerActions lo hi (s + length ds) acts) i ≡ some r → OpensOrOfAStage acts i r) → OpensOrOfAStage (a₀ ∷ acts) (suc k) r

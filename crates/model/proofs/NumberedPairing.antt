@@ -6,27 +6,35 @@ use native.Mathlib.Omega.{arith}
 use mathlib.Core.Bool.{_&&_, Bool, true, false, cond}
 use mathlib.Core.Option.{Option, none, some, Option·none-ne-some}
 use mathlib.Core.List.{List, [], _∷_, _++_}
-use lib.ListN.{length, length-set, set}
+use lib.ListN.{length, length-set, length-replicate, replicate, set}
 use lib.Dec.{T, eqb, eqb→eq}
 use lib.IntN.{ℤ, pos, negsuc, negℤ, _-ℤ_}
 use lib.Signed.{ltZ}
 use Rattle.model.specs.Systems.{bind, orEmpty, orZero, runPlan, keep, expandFrom, totalPrice, provided}
 use Rattle.integers.specs.All.{All}
 use Rattle.model.specs.Walks.{Pairing}
-use Rattle.model.specs.Tasks.{Measured, variable, weightedSum, NumericCondition, SourceAction, Effect, noEffect, addEffect, linearEffect, quotientEffect, residueEffect, State}
+use Rattle.model.specs.Tasks.{Measured, variable, weightedSum, NumericCondition, SourceAction, Effect, addEffect, linearEffect, quotientEffect}
+use Rattle.model.specs.Tasks.{residueEffect, State}
 use Rattle.integers.specs.Relation.{atMost, atLeast}
-use Rattle.model.specs.Steps.{conditionsHold, modesHold, result, withinBounds, integerAt, naturalAt, setAll, appliesRestricted, applyRestricted, restrictedStep, putResult, trySource, sourceStep}
-use Rattle.model.specs.NamedSystems.{modeEffectOn, orDefault, setModes, NamedState, applies, apply, stepNamed, NamedSource, store, conditionsMet, tryNamedSource, stepNamedSource, atRest, stageSteps, priceAt, byName, afterAction}
-use Rattle.model.specs.Stages.{Name, source, helperA, helperB, NamedAction, Stage, when, opposite, stageActions, firstStage, stagesActions, drain, refill, divide, empty, clear, move, drainTerms, stagesOf, addedBound, openingAdditions, onSourceTerms, onSource, onSourceVariables, lowerActions, opening, sourceNumber}
+use Rattle.model.specs.Steps.{target, conditionsHold, modesHold, results, withinBounds, integerAt, naturalAt, setAll, appliesRestricted}
+use Rattle.model.specs.Steps.{applyRestricted, restrictedStep, trySource, sourceStep}
+use Rattle.model.specs.NamedSystems.{modeEffectOn, orDefault, setModes, NamedState, applies, apply, stepNamed, NamedSource, store}
+use Rattle.model.specs.NamedSystems.{conditionsMet, tryNamedSource, stepNamedSource, atRest, stageSteps, priceAt, byName, afterAction}
+use Rattle.model.specs.Stages.{Name, source, helperA, helperB, hold, NamedAction, Stage, when, opposite, stageActions, firstStage, stagesActions}
+use Rattle.model.specs.Stages.{drain, refill, divide, empty, clear, move, drainTerms, moveToHold, resultStages, resultIn, addToA, enteringAdditions}
+use Rattle.model.specs.Stages.{nextAdditions, holdStages, setStages, unloadStages, stagesOf, addedBound, openingAdditions, onSourceTerms, onSource}
+use Rattle.model.specs.Stages.{onSourceVariables, lowerActions, opening, sourceNumber}
 use Rattle.model.specs.Expansion.{sameName, additionTo, namedValues, stageStepsFrom, priceFrom}
-use Rattle.model.specs.Lowering.{numberedMeasure, numberedConditions, numberedAdditions, numbered, numberedAll, helpersAtRest, loweredActions}
-use Rattle.model.specs.InTask.{NameIn, MeasureIn, Once, EffectIn, ActionIn, SourceGoal, LoweredGoal}
+use Rattle.model.specs.Lowering.{restingHelpers, numberedMeasure, numberedConditions, numberedAdditions, numbered, numberedAll, helpersAtRest}
+use Rattle.model.specs.Lowering.{loweredActions}
+use Rattle.model.specs.InTask.{NameIn, MeasureIn, Once, EffectIn, ActionIn, HoldsFor, Distinct, targets, SourceGoal, LoweredGoal}
 use Rattle.model.proofs.Pairing.{some-injective}
-use Rattle.model.proofs.StageWalk.{and-intro, and-parts, all-app}
+use Rattle.model.proofs.StageWalk.{and-intro, and-parts, all-app, all-map}
 use Rattle.model.proofs.Outcomes.{Good}
 use Rattle.model.proofs.NamedPairing.{named-plans-pair-off, GoalS, GoalR}
 use Rattle.model.proofs.FourRelations.{four-hold}
-use Rattle.model.proofs.Arrays.{get-set, list-ext, NamesOnce, ValuesLaid, values-laid-all, values-laid-conditions, ModesLaid, modes-laid-all, modes-laid-set, modes-laid-hold}
+use Rattle.model.proofs.Arrays.{get-set, list-ext, replicated, NamesOnce, ValuesLaid, values-laid-all, values-laid-conditions, ModesLaid}
+use Rattle.model.proofs.Arrays.{modes-laid-all, modes-laid-set, modes-laid-hold}
 
 -- ---- two systems that go together
 abbrev pub Agree : {X Y : Type 0} → (X → Y → Type 0) → Option X → Option Y → Type 0
@@ -62,16 +70,16 @@ module _ {X Y : Type 0} (Sim : X → Y → Type 0) where
   agree-given b false x y e h = subst (λ (c : Bool). Agree Sim (provided c x) none) (sym e) tt
 
 -- ---- rows
-pub record NamedActionIn (n m : ℕ) (r : NamedAction) : Type 0 where
+pub record NamedActionIn (n holds m : ℕ) (r : NamedAction) : Type 0 where
   pub modeConditionsIn : All (λ (p : ℕ × ℕ). p .0 < m) (r .modeConditions)
-  pub conditionsIn : All (λ (c : NumericCondition Name). MeasureIn (NameIn n) (c .measured)) (r .conditions)
+  pub conditionsIn : All (λ (c : NumericCondition Name). MeasureIn (NameIn n holds) (c .measured)) (r .conditions)
   pub modeEffectsIn : All (λ (p : ℕ × ℕ). p .0 < m) (r .modeEffects)
   pub modeEffectsOnce : Once (r .modeEffects)
-  pub additionsIn : All (λ (e : Name × ℤ). NameIn n (e .0)) (r .additions)
+  pub additionsIn : All (λ (e : Name × ℤ). NameIn n holds (e .0)) (r .additions)
   pub additionsOnce : NamesOnce (r .additions)
 
-abbrev pub RestrictedAgrees : ℕ → ℕ → State → NamedState → Type 0
-RestrictedAgrees n m X x = ValuesLaid n (X .values) (x .value) × ModesLaid m (X .modes) (x .mode) (x .control)
+abbrev pub RestrictedAgrees : ℕ → ℕ → ℕ → State → NamedState → Type 0
+RestrictedAgrees n holds m X x = ValuesLaid n holds (X .values) (x .value) × ModesLaid m (X .modes) (x .mode) (x .control)
 
 setAll-app : (es fs : List (ℕ × ℕ)) (l : List ℕ) → setAll (es ++ fs) l ≡ setAll fs (setAll es l)
 setAll-app [] fs l = refl
@@ -83,13 +91,17 @@ shuffle true false c = refl
 shuffle false true c = refl
 shuffle false false c = refl
 
-row-applies : (n m : ℕ) (r : NamedAction) (X : State) (x : NamedState) → NamedActionIn n m r → RestrictedAgrees n m X x → appliesRestricted (numbered n m r) X ≡ applies r x
-row-applies n m r X x i (L, M) = ap₂ _&&_ (modes-laid-hold m (r .modeConditions) (X .modes) (x .mode) (x .control) (r .control) (i .modeConditionsIn) M) (four-hold (numberedConditions n (r .conditions)) (integerAt (X .values)) ∙ values-laid-conditions n (r .conditions) (X .values) (x .value) (i .conditionsIn) L)
+row-applies : (n holds m : ℕ) (r : NamedAction) (X : State) (x : NamedState) → NamedActionIn n holds m r → RestrictedAgrees n holds m X x
+    → appliesRestricted (numbered n m r) X ≡ applies r x
+row-applies n holds m r X x i (L, M) = ap₂ _&&_ (modes-laid-hold m (r .modeConditions) (X .modes) (x .mode) (x .control) (r .control) (i .modeConditionsIn) M)
+    (four-hold (numberedConditions n (r .conditions)) (integerAt (X .values))
+    ∙ values-laid-conditions n holds (r .conditions) (X .values) (x .value) (i .conditionsIn) L)
     ∙ shuffle (modesHold (r .modeConditions) (x .mode)) (eqb (x .control) (r .control)) (conditionsHold (r .conditions) (x .value))
 
-row-apply : (n m : ℕ) (r : NamedAction) (X : State) (x : NamedState) → NamedActionIn n m r → RestrictedAgrees n m X x → T (applies r x) → RestrictedAgrees n m (applyRestricted (numbered n m r) X) (apply r x)
-row-apply n m r X x i (L, M) t = (
-  values-laid-all n (r .additions) (X .values) (x .value) (i .additionsIn) (i .additionsOnce) L,
+row-apply : (n holds m : ℕ) (r : NamedAction) (X : State) (x : NamedState) → NamedActionIn n holds m r → RestrictedAgrees n holds m X x → T (applies r x)
+    → RestrictedAgrees n holds m (applyRestricted (numbered n m r) X) (apply r x)
+row-apply n holds m r X x i (L, M) t = (
+  values-laid-all n holds (r .additions) (X .values) (x .value) (i .additionsIn) (i .additionsOnce) L,
   subst (λ (u : List ℕ). ModesLaid m u (setModes (r .modeEffects) (x .mode)) (r .nextControl)) (sym (setAll-app (r .modeEffects) (cond (eqb (r .control) (r .nextControl)) [] ((m, r .nextControl) ∷ [])) (X .modes)))
       (go (eqb (r .control) (r .nextControl)) refl),
 )
@@ -102,23 +114,26 @@ row-apply n m r X x i (L, M) t = (
         (eqb→eq (x .control) (r .control) (and-parts (eqb (x .control) (r .control)) (((modesHold (r .modeConditions) (x .mode)) && (conditionsHold (r .conditions) (x .value)))) t .0) ∙ eqb→eq (r .control) (r .nextControl) (subst T (sym e) tt)) M′
     go false e = modes-laid-set m (setAll (r .modeEffects) (X .modes)) (setModes (r .modeEffects) (x .mode)) (x .control) (r .nextControl) M′
 
-pub restricted-steps-agree : (n m : ℕ) (R : List NamedAction) → All (NamedActionIn n m) R → (X : State) (x : NamedState) (k : ℕ) → RestrictedAgrees n m X x → Agree (RestrictedAgrees n m) (restrictedStep (numberedAll n m R) X k) (stepNamed R x k)
-restricted-steps-agree n m [] i X x k s = tt
-restricted-steps-agree n m (r ∷ R) (i, is) X x zero s = agree-given (RestrictedAgrees n m) (appliesRestricted (numbered n m r) X) (applies r x) (applyRestricted (numbered n m r) X) (apply r x) (row-applies n m r X x i s) (row-apply n m r X x i s)
-restricted-steps-agree n m (r ∷ R) (i, is) X x (suc k) s = restricted-steps-agree n m R is X x k s
+pub restricted-steps-agree : (n holds m : ℕ) (R : List NamedAction) → All (NamedActionIn n holds m) R → (X : State) (x : NamedState) (k : ℕ)
+    → RestrictedAgrees n holds m X x → Agree (RestrictedAgrees n holds m) (restrictedStep (numberedAll n m R) X k) (stepNamed R x k)
+restricted-steps-agree n holds m [] i X x k s = tt
+restricted-steps-agree n holds m (r ∷ R) (i, is) X x zero s = agree-given (RestrictedAgrees n holds m) (appliesRestricted (numbered n m r) X) (applies r x)
+    (applyRestricted (numbered n m r) X) (apply r x) (row-applies n holds m r X x i s) (row-apply n holds m r X x i s)
+restricted-steps-agree n holds m (r ∷ R) (i, is) X x (suc k) s = restricted-steps-agree n holds m R is X x k s
 
 -- ---- every row of a lowered task is in range
-pub record StageIn (n : ℕ) (d : Stage) : Type 0 where
-  pub cIn : NameIn n (d .counter)
-  pub aIn : All (λ (e : Name × ℤ). NameIn n (e .0)) (d .additions)
+pub record StageIn (n holds : ℕ) (d : Stage) : Type 0 where
+  pub cIn : NameIn n holds (d .counter)
+  pub aIn : All (λ (e : Name × ℤ). NameIn n holds (e .0)) (d .additions)
   pub aOnce : NamesOnce (d .additions)
-  pub xIn : All (λ (c : NumericCondition Name). MeasureIn (NameIn n) (c .measured)) (d .turnConditions)
-  pub tIn : All (λ (e : Name × ℤ). NameIn n (e .0)) (d .turnAdditions)
+  pub xIn : All (λ (c : NumericCondition Name). MeasureIn (NameIn n holds) (c .measured)) (d .turnConditions)
+  pub tIn : All (λ (e : Name × ℤ). NameIn n holds (e .0)) (d .turnAdditions)
   pub tOnce : NamesOnce (d .turnAdditions)
 
-opposite-in : (n : ℕ) (es : List (Name × ℤ)) → All (λ (e : Name × ℤ). NameIn n (e .0)) es → All (λ (e : Name × ℤ). NameIn n (e .0)) (opposite es)
-opposite-in n [] h = tt
-opposite-in n (e ∷ es) (h, hs) = (h, opposite-in n es hs)
+opposite-in : (n holds : ℕ) (es : List (Name × ℤ)) → All (λ (e : Name × ℤ). NameIn n holds (e .0)) es
+    → All (λ (e : Name × ℤ). NameIn n holds (e .0)) (opposite es)
+opposite-in n holds [] h = tt
+opposite-in n holds (e ∷ es) (h, hs) = (h, opposite-in n holds es hs)
 
 opposite-none : (es : List (Name × ℤ)) (w : Name) → additionTo es w ≡ none → additionTo (opposite es) w ≡ none
 opposite-none [] w h = refl
@@ -132,89 +147,155 @@ opposite-once : (es : List (Name × ℤ)) → NamesOnce es → NamesOnce (opposi
 opposite-once [] h = tt
 opposite-once (e ∷ es) (h, hs) = (opposite-none es (e .0) h, opposite-once es hs)
 
-rows-in : (n m : ℕ) (ds : List Stage) (s : ℕ) → All (StageIn n) ds → All (NamedActionIn n m) (stagesActions s ds)
-rows-in n m [] s h = tt
-rows-in n m (d ∷ ds) s (h, hs) = all-app (NamedActionIn n m) (stageActions s d (firstStage (suc s) ds)) (stagesActions (suc s) ds) (
+rows-in : (n holds m : ℕ) (ds : List Stage) (s : ℕ) → All (StageIn n holds) ds → All (NamedActionIn n holds m) (stagesActions s ds)
+rows-in n holds m [] s h = tt
+rows-in n holds m (d ∷ ds) s (h, hs) = all-app (NamedActionIn n holds m) (stageActions s d (firstStage (suc s) ds)) (stagesActions (suc s) ds) (
   record { modeConditionsIn = tt; conditionsIn = (h .cIn, tt); modeEffectsIn = tt; modeEffectsOnce = tt; additionsIn = h .aIn; additionsOnce = h .aOnce },
   (
-    record { modeConditionsIn = tt; conditionsIn = (h .cIn, tt); modeEffectsIn = tt; modeEffectsOnce = tt; additionsIn = opposite-in n (d .additions) (h .aIn); additionsOnce = opposite-once (d .additions) (h .aOnce) },
+    record {
+      modeConditionsIn = tt;
+      conditionsIn = (h .cIn, tt);
+      modeEffectsIn = tt;
+      modeEffectsOnce = tt;
+      additionsIn = opposite-in n holds (d .additions) (h .aIn);
+      additionsOnce = opposite-once (d .additions) (h .aOnce);
+    },
     (record { modeConditionsIn = tt; conditionsIn = (h .cIn, (h .cIn, h .xIn)); modeEffectsIn = tt; modeEffectsOnce = tt; additionsIn = h .tIn; additionsOnce = h .tOnce }, tt),
   ),
 )
-    (rows-in n m ds (suc s) hs)
+    (rows-in n holds m ds (suc s) hs)
 
-module _ (n : ℕ) where
-  drain-in : (t : ℕ) (w : ℤ) → t < n → StageIn n (drain t w)
+module _ (n holds : ℕ) where
+  drain-in : (t : ℕ) (w : ℤ) → t < n → StageIn n holds (drain t w)
   drain-in t w h = record { cIn = h; aIn = (h, (tt, (tt, tt))); aOnce = (refl, (refl, (refl, tt))); xIn = tt; tIn = tt; tOnce = tt }
 
-  refill-in : (t : ℕ) → t < n → StageIn n (refill t)
+  refill-in : (t : ℕ) → t < n → StageIn n holds (refill t)
   refill-in t h = record { cIn = tt; aIn = (h, (tt, tt)); aOnce = (refl, (refl, tt)); xIn = tt; tIn = tt; tOnce = tt }
 
-  divide-in : (c : ℤ) → StageIn n (divide c)
+  divide-in : (c : ℤ) → StageIn n holds (divide c)
   divide-in c = record { cIn = tt; aIn = (tt, (tt, tt)); aOnce = (refl, (refl, tt)); xIn = tt; tIn = tt; tOnce = tt }
 
-  empty-in : (v : Name) → NameIn n v → StageIn n (empty v)
+  empty-in : (v : Name) → NameIn n holds v → StageIn n holds (empty v)
   empty-in v h = record { cIn = h; aIn = (h, tt); aOnce = (refl, tt); xIn = tt; tIn = tt; tOnce = tt }
 
-  clear-in : (t : ℕ) → t < n → StageIn n (clear t)
+  clear-in : (t : ℕ) → t < n → StageIn n holds (clear t)
   clear-in t h = record { cIn = h; aIn = (h, tt); aOnce = (refl, tt); xIn = tt; tIn = tt; tOnce = tt }
 
-  move-in : (t : ℕ) (f : Name) (lo hi : ℤ) → t < n → NameIn n f → sameName f (source t) ≡ false → StageIn n (move t f lo hi)
+  move-in : (t : ℕ) (f : Name) (lo hi : ℤ) → t < n → NameIn n holds f → sameName f (source t) ≡ false → StageIn n holds (move t f lo hi)
   move-in t f lo hi h k e = record { cIn = k; aIn = (h, (k, tt)); aOnce = (ap (λ (b : Bool). cond b (some (negsuc 0)) none) e, (refl, tt)); xIn = (h, (h, tt)); tIn = tt; tOnce = tt }
 
-  terms-in : (ts : List (ℕ × ℤ)) (ds : List Stage) → All (λ (p : ℕ × ℤ). p .0 < n) ts → All (StageIn n) ds → All (StageIn n) (drainTerms ts ds)
+  terms-in : (ts : List (ℕ × ℤ)) (ds : List Stage) → All (λ (p : ℕ × ℤ). p .0 < n) ts → All (StageIn n holds) ds → All (StageIn n holds) (drainTerms ts ds)
   terms-in [] ds h k = k
   terms-in (t ∷ ts) ds (h, hs) k = (drain-in (t .0) (t .1) h, (refill-in (t .0) h, terms-in ts ds hs k))
 
-  stages-in : (lo hi : ℕ → ℤ) (e : Effect) → EffectIn n e → All (StageIn n) (stagesOf lo hi e)
-  stages-in lo hi noEffect h = tt
-  stages-in lo hi (addEffect t c) h = tt
-  stages-in lo hi (linearEffect t w ts) (h, hs) = terms-in ts (stagesOf lo hi (linearEffect t w [])) hs (clear-in t h, (move-in t helperA (lo t) (hi t) h tt refl, tt))
-  stages-in lo hi (quotientEffect t y c) (h, k) = (drain-in y (pos 1) k, (refill-in y k, (divide-in c, (empty-in helperA tt, (clear-in t h, (move-in t helperB (lo t) (hi t) h tt refl, tt))))))
-  stages-in lo hi (residueEffect t y c) (h, k) = (drain-in y (pos 1) k, (refill-in y k, (divide-in c, (empty-in helperB tt, (clear-in t h, (move-in t helperA (lo t) (hi t) h tt refl, tt))))))
+  to-hold-in : (e : Effect) (j : ℕ) (es : List (Name × ℤ)) → j < holds → All (λ (e : Name × ℤ). NameIn n holds (e .0)) es × NamesOnce es
+      → StageIn n holds (moveToHold j (resultIn e) es)
+  to-hold-in (addEffect t c) j es h k = record { cIn = tt; aIn = (tt, (h, tt)); aOnce = (refl, (refl, tt)); xIn = tt; tIn = k .0; tOnce = k .1 }
+  to-hold-in (linearEffect t w ts) j es h k = record { cIn = tt; aIn = (tt, (h, tt)); aOnce = (refl, (refl, tt)); xIn = tt; tIn = k .0; tOnce = k .1 }
+  to-hold-in (quotientEffect t y c) j es h k = record { cIn = tt; aIn = (tt, (h, tt)); aOnce = (refl, (refl, tt)); xIn = tt; tIn = k .0; tOnce = k .1 }
+  to-hold-in (residueEffect t y c) j es h k = record { cIn = tt; aIn = (tt, (h, tt)); aOnce = (refl, (refl, tt)); xIn = tt; tIn = k .0; tOnce = k .1 }
 
-lift-in : (n : ℕ) (cs : List (NumericCondition ℕ)) → All (λ (c : NumericCondition ℕ). MeasureIn (λ (i : ℕ). i < n) (c .measured)) cs → All (λ (c : NumericCondition Name). MeasureIn (NameIn n) (c .measured)) (onSourceVariables cs)
-lift-in n [] h = tt
-lift-in n (c ∷ cs) (h, hs) = (lhs (c .measured) h, lift-in n cs hs)
+  -- what an opening or a turn adds to A
+  to-A-in : (w : ℤ) → All (λ (e : Name × ℤ). NameIn n holds (e .0)) (addToA w) × NamesOnce (addToA w)
+  to-A-in (pos zero) = (tt, tt)
+  to-A-in (pos (suc w)) = ((tt, tt), (refl, tt))
+  to-A-in (negsuc w) = ((tt, tt), (refl, tt))
+
+  entering-in : (e : Effect) → All (λ (e : Name × ℤ). NameIn n holds (e .0)) (enteringAdditions e) × NamesOnce (enteringAdditions e)
+  entering-in (addEffect t c) = to-A-in c
+  entering-in (linearEffect t w ts) = to-A-in w
+  entering-in (quotientEffect t y c) = (tt, tt)
+  entering-in (residueEffect t y c) = (tt, tt)
+
+  next-in : (es : List Effect) → All (λ (e : Name × ℤ). NameIn n holds (e .0)) (nextAdditions es) × NamesOnce (nextAdditions es)
+  next-in [] = (tt, tt)
+  next-in (e ∷ es) = entering-in e
+
+  results-in : (e : Effect) (ds : List Stage) → EffectIn n e → All (StageIn n holds) ds → All (StageIn n holds) (resultStages e ds)
+  results-in (addEffect t c) ds h k = terms-in ((t, pos 1) ∷ []) ds (h, tt) k
+  results-in (linearEffect t w ts) ds (h, hs) k = terms-in ts ds hs k
+  results-in (quotientEffect t y c) ds (h, i) k = (drain-in y (pos 1) i, (refill-in y i, (divide-in c, (empty-in helperA tt, k))))
+  results-in (residueEffect t y c) ds (h, i) k = (drain-in y (pos 1) i, (refill-in y i, (divide-in c, (empty-in helperB tt, k))))
+
+  target-in : (e : Effect) → EffectIn n e → target e < n
+  target-in (addEffect t c) h = h
+  target-in (linearEffect t w ts) (h, hs) = h
+  target-in (quotientEffect t y c) (h, k) = h
+  target-in (residueEffect t y c) (h, k) = h
+
+  holds-in : (es : List Effect) (j : ℕ) (ds : List Stage) → j + length es ≤ holds → All (EffectIn n) es → All (StageIn n holds) ds
+      → All (StageIn n holds) (holdStages j es ds)
+  holds-in [] j ds l h k = k
+  holds-in (e ∷ es) j ds l (h, hs) k = results-in e (moveToHold j (resultIn e) (nextAdditions es) ∷ holdStages (suc j) es ds) h
+      (to-hold-in e j (nextAdditions es) (omega (arith, l)) (next-in es), holds-in es (suc j) ds (omega (arith, l)) hs k)
+
+  module _ (lo hi : ℕ → ℤ) where
+    set-in : (t : ℕ) (f : Name) (ds : List Stage) → t < n → NameIn n holds f → sameName f (source t) ≡ false → All (StageIn n holds) ds
+        → All (StageIn n holds) (setStages lo hi f t ds)
+    set-in t f ds h i e k = (clear-in t h, (move-in t f (lo t) (hi t) h i e, k))
+
+    unloads-in : (es : List Effect) (j : ℕ) → j + length es ≤ holds → All (EffectIn n) es → All (StageIn n holds) (unloadStages lo hi j es)
+    unloads-in [] j l h = tt
+    unloads-in (e ∷ es) j l (h, hs) = set-in (target e) (hold j) (unloadStages lo hi (suc j) es) (target-in e h) (omega (arith, l)) refl
+        (unloads-in es (suc j) (omega (arith, l)) hs)
+
+    stages-in : (es : List Effect) → All (EffectIn n) es → HoldsFor holds es → All (StageIn n holds) (stagesOf lo hi es)
+    stages-in [] h f = tt
+    stages-in (addEffect t c ∷ []) h f = tt
+    stages-in (linearEffect t w ts ∷ []) (h, hs) f = results-in (linearEffect t w ts) (setStages lo hi helperA t []) h (set-in t helperA [] (h .0) tt refl tt)
+    stages-in (quotientEffect t y c ∷ []) (h, hs) f = results-in (quotientEffect t y c) (setStages lo hi helperB t []) h (set-in t helperB [] (h .0) tt refl tt)
+    stages-in (residueEffect t y c ∷ []) (h, hs) f = results-in (residueEffect t y c) (setStages lo hi helperA t []) h (set-in t helperA [] (h .0) tt refl tt)
+    stages-in (e ∷ e′ ∷ es) h f = holds-in (e ∷ e′ ∷ es) 0 (unloadStages lo hi 0 (e ∷ e′ ∷ es)) (omega (arith, f)) h
+        (unloads-in (e ∷ e′ ∷ es) 0 (omega (arith, f)) h)
+
+lift-in : (n holds : ℕ) (cs : List (NumericCondition ℕ)) → All (λ (c : NumericCondition ℕ). MeasureIn (λ (i : ℕ). i < n) (c .measured)) cs
+    → All (λ (c : NumericCondition Name). MeasureIn (NameIn n holds) (c .measured)) (onSourceVariables cs)
+lift-in n holds [] h = tt
+lift-in n holds (c ∷ cs) (h, hs) = (lhs (c .measured) h, lift-in n holds cs hs)
   where
-    lhs : (l : Measured ℕ) → MeasureIn (λ (i : ℕ). i < n) l → MeasureIn (NameIn n) (onSource l)
+    lhs : (l : Measured ℕ) → MeasureIn (λ (i : ℕ). i < n) l → MeasureIn (NameIn n holds) (onSource l)
     lhs (variable i) h = h
     lhs (weightedSum ts) h = absurd h
 
-bound-in : (n : ℕ) (lo hi : ℕ → ℤ) (e : Effect) → EffectIn n e → All (λ (c : NumericCondition Name). MeasureIn (NameIn n) (c .measured)) (addedBound lo hi e)
-bound-in n lo hi noEffect h = tt
-bound-in n lo hi (addEffect t c) h = (which (ltZ (pos 0) c) (when (source t) atMost (hi t -ℤ c)) (when (source t) atLeast (lo t -ℤ c)) h h, tt)
+bound-in : (n holds : ℕ) (lo hi : ℕ → ℤ) (es : List Effect) → All (EffectIn n) es
+    → All (λ (c : NumericCondition Name). MeasureIn (NameIn n holds) (c .measured)) (addedBound lo hi es)
+bound-in n holds lo hi [] h = tt
+bound-in n holds lo hi (addEffect t c ∷ []) (h, hs) = (which (ltZ (pos 0) c) (when (source t) atMost (hi t -ℤ c)) (when (source t) atLeast (lo t -ℤ c)) h h, tt)
   where
-    which : (b : Bool) (x y : NumericCondition Name) → MeasureIn (NameIn n) (x .measured) → MeasureIn (NameIn n) (y .measured) → MeasureIn (NameIn n) ((cond b x y) .measured)
+    which : (b : Bool) (x y : NumericCondition Name) → MeasureIn (NameIn n holds) (x .measured) → MeasureIn (NameIn n holds) (y .measured)
+        → MeasureIn (NameIn n holds) ((cond b x y) .measured)
     which true x y h k = h
     which false x y h k = k
-bound-in n lo hi (linearEffect t w ts) h = tt
-bound-in n lo hi (quotientEffect t y c) h = tt
-bound-in n lo hi (residueEffect t y c) h = tt
+bound-in n holds lo hi (linearEffect t w ts ∷ []) h = tt
+bound-in n holds lo hi (quotientEffect t y c ∷ []) h = tt
+bound-in n holds lo hi (residueEffect t y c ∷ []) h = tt
+bound-in n holds lo hi (e ∷ f ∷ es) h = tt
 
-start-in : (n : ℕ) (e : Effect) → EffectIn n e → All (λ (e : Name × ℤ). NameIn n (e .0)) (openingAdditions e) × NamesOnce (openingAdditions e)
-start-in n noEffect h = (tt, tt)
-start-in n (addEffect t c) h = ((h, tt), (refl, tt))
-start-in n (linearEffect t (pos zero) ts) h = (tt, tt)
-start-in n (linearEffect t (pos (suc w)) ts) h = ((tt, tt), (refl, tt))
-start-in n (linearEffect t (negsuc w) ts) h = ((tt, tt), (refl, tt))
-start-in n (quotientEffect t y c) h = (tt, tt)
-start-in n (residueEffect t y c) h = (tt, tt)
+start-in : (n holds : ℕ) (es : List Effect) → All (EffectIn n) es
+    → All (λ (e : Name × ℤ). NameIn n holds (e .0)) (openingAdditions es) × NamesOnce (openingAdditions es)
+start-in n holds [] h = (tt, tt)
+start-in n holds (addEffect t c ∷ []) (h, hs) = ((h, tt), (refl, tt))
+start-in n holds (linearEffect t w ts ∷ []) h = to-A-in n holds w
+start-in n holds (quotientEffect t y c ∷ []) h = (tt, tt)
+start-in n holds (residueEffect t y c ∷ []) h = (tt, tt)
+start-in n holds (e ∷ f ∷ es) h = entering-in n holds e
 
-pub lower-in : (n m : ℕ) (lo hi : ℕ → ℤ) (acts : List SourceAction) (s : ℕ) → All (ActionIn n m) acts → All (NamedActionIn n m) (lowerActions lo hi s acts)
-lower-in n m lo hi [] s h = tt
-lower-in n m lo hi (a ∷ acts) s (h, hs) = (
+pub lower-in : (n holds m : ℕ) (lo hi : ℕ → ℤ) (acts : List SourceAction) (s : ℕ) → All (ActionIn n holds m) acts
+    → All (NamedActionIn n holds m) (lowerActions lo hi s acts)
+lower-in n holds m lo hi [] s h = tt
+lower-in n holds m lo hi (a ∷ acts) s (h, hs) = (
   record {
     modeConditionsIn = h .modeConditionsIn;
-    conditionsIn = all-app (λ (c : NumericCondition Name). MeasureIn (NameIn n) (c .measured)) (onSourceVariables (a .conditions)) (addedBound lo hi (a .effect)) (lift-in n (a .conditions) (h .conditionsIn)) (bound-in n lo hi (a .effect) (h .effectIn));
+    conditionsIn = all-app (λ (c : NumericCondition Name). MeasureIn (NameIn n holds) (c .measured)) (onSourceVariables (a .conditions))
+        (addedBound lo hi (a .effects)) (lift-in n holds (a .conditions) (h .conditionsIn)) (bound-in n holds lo hi (a .effects) (h .effectsIn));
     modeEffectsIn = h .modeEffectsIn;
     modeEffectsOnce = h .modeEffectsOnce;
-    additionsIn = start-in n (a .effect) (h .effectIn) .0;
-    additionsOnce = start-in n (a .effect) (h .effectIn) .1;
+    additionsIn = start-in n holds (a .effects) (h .effectsIn) .0;
+    additionsOnce = start-in n holds (a .effects) (h .effectsIn) .1;
   },
-  all-app (NamedActionIn n m) (stagesActions s (stagesOf lo hi (a .effect))) (lowerActions lo hi (s + length (stagesOf lo hi (a .effect))) acts)
-      (rows-in n m (stagesOf lo hi (a .effect)) s (stages-in n lo hi (a .effect) (h .effectIn)))
-      (lower-in n m lo hi acts (s + length (stagesOf lo hi (a .effect))) hs),
+  all-app (NamedActionIn n holds m) (stagesActions s (stagesOf lo hi (a .effects))) (lowerActions lo hi (s + length (stagesOf lo hi (a .effects))) acts)
+      (rows-in n holds m (stagesOf lo hi (a .effects)) s (stages-in n holds lo hi (a .effects) (h .effectsIn) (h .holdsFor)))
+      (lower-in n holds m lo hi acts (s + length (stagesOf lo hi (a .effects))) hs),
 )
 
 -- ---- source states
@@ -231,16 +312,16 @@ modes-all (e ∷ es) m l h (i, is) (o, os) =
     pick k true q = sym (ap (λ (r : Option ℕ). orDefault r (e .1)) (ap (modeEffectOn es) (sym (eqb→eq (e .0) k (subst T (sym q) tt))) ∙ o))
     pick k false q = refl
 
-put-store : (o : Option (ℕ × ℤ)) (l : List ℤ) → ((p : ℕ × ℤ) → o ≡ some p → p .0 < length l) → (length (putResult o l) ≡ length l) × (store o (integerAt l) ≡ integerAt (putResult o l))
-put-store none l h = (refl, refl)
-put-store (some p) l h = (length-set l (p .0) (p .1), fun-ext (λ j. sym (get-set l (p .0) j (p .1) (pos 0) (h p refl))))
+put-store : (ps : List (ℕ × ℤ)) (l : List ℤ) → All (λ (p : ℕ × ℤ). p .0 < length l) ps
+    → (length (setAll ps l) ≡ length l) × (store ps (integerAt l) ≡ integerAt (setAll ps l))
+put-store [] l h = (refl, refl)
+put-store (p ∷ ps) l (h, hs) =
+    let (e, r) = put-store ps (set l (p .0) (p .1)) (subst (λ (k : ℕ). All (λ (p : ℕ × ℤ). p .0 < k) ps) (sym (length-set l (p .0) (p .1))) hs) in
+    (e ∙ length-set l (p .0) (p .1), ap (store ps) (fun-ext (λ j. sym (get-set l (p .0) j (p .1) (pos 0) h))) ∙ r)
 
-target-in : (n : ℕ) (e : Effect) (v : ℕ → ℤ) → EffectIn n e → (p : ℕ × ℤ) → result e v ≡ some p → p .0 < n
-target-in n noEffect v h p e = absurd (Option·none-ne-some p e)
-target-in n (addEffect t c) v h p e = subst (λ (q : ℕ × ℤ). q .0 < n) (some-injective e) h
-target-in n (linearEffect t w ts) v h p e = subst (λ (q : ℕ × ℤ). q .0 < n) (some-injective e) (h .0)
-target-in n (quotientEffect t y c) v h p e = subst (λ (q : ℕ × ℤ). q .0 < n) (some-injective e) (h .0)
-target-in n (residueEffect t y c) v h p e = subst (λ (q : ℕ × ℤ). q .0 < n) (some-injective e) (h .0)
+targets-in : (n k : ℕ) → k ≡ n → (es : List Effect) (v : ℕ → ℤ) → All (EffectIn n) es → All (λ (p : ℕ × ℤ). p .0 < k) (results es v)
+targets-in n k q [] v h = tt
+targets-in n k q (e ∷ es) v (h, hs) = (subst (λ (c : ℕ). target e < c) (sym q) (target-in n 0 e h), targets-in n k q es v hs)
 
 num-lift : (n : ℕ) (cs : List (NumericCondition ℕ)) → numberedConditions n (onSourceVariables cs) ≡ cs
 num-lift n [] = refl
@@ -254,46 +335,71 @@ num-lift n (c ∷ cs) = λ i. record { measured = lhs (c .measured) i; relation 
     lhs (variable i) = refl
     lhs (weightedSum ts) = ap weightedSum (sums ts)
 
-module _ (n m : ℕ) (lo hi : ℕ → ℤ) where
-  pub goal-conds : (cs : List (NumericCondition ℕ)) → All (λ (c : NumericCondition ℕ). MeasureIn (λ (i : ℕ). i < n) (c .measured)) cs → (l : List ℤ) (f : Name → ℤ) → ValuesLaid n l f → conditionsHold cs (integerAt l) ≡ conditionsHold (onSourceVariables cs) f
-  goal-conds cs i l f L = ap (λ (u : List (NumericCondition ℕ)). conditionsHold u (integerAt l)) (sym (num-lift n cs)) ∙ values-laid-conditions n (onSourceVariables cs) l f (lift-in n cs i) L
+module _ (n holds m : ℕ) (lo hi : ℕ → ℤ) where
+  pub goal-conds : (cs : List (NumericCondition ℕ)) → All (λ (c : NumericCondition ℕ). MeasureIn (λ (i : ℕ). i < n) (c .measured)) cs
+      → (l : List ℤ) (f : Name → ℤ) → ValuesLaid n holds l f → conditionsHold cs (integerAt l) ≡ conditionsHold (onSourceVariables cs) f
+  goal-conds cs i l f L = ap (λ (u : List (NumericCondition ℕ)). conditionsHold u (integerAt l)) (sym (num-lift n cs))
+      ∙ values-laid-conditions n holds (onSourceVariables cs) l f (lift-in n holds cs i) L
 
-  actions-agree : (a : SourceAction) → ActionIn n m a → (X : State) → length (X .values) ≡ n → length (X .modes) ≡ m → Agree (SourceAgrees n m) (trySource lo hi X a) (tryNamedSource lo hi (byName X) a)
-  actions-agree a i X h k = agree-given (SourceAgrees n m) tst tst (record { values = putResult (result (a .effect) (integerAt (X .values))) (X .values); modes = setAll (a .modeEffects) (X .modes) }) (afterAction a (byName X)) refl
+  actions-agree : (a : SourceAction) → ActionIn n holds m a → (X : State) → length (X .values) ≡ n → length (X .modes) ≡ m
+      → Agree (SourceAgrees n m) (trySource lo hi X a) (tryNamedSource lo hi (byName X) a)
+  actions-agree a i X h k = agree-given (SourceAgrees n m) tst tst
+      (record { values = setAll (results (a .effects) (integerAt (X .values))) (X .values); modes = setAll (a .modeEffects) (X .modes) })
+      (afterAction a (byName X)) refl
       (λ t. (
-        put-store (result (a .effect) (integerAt (X .values))) (X .values) tin .0 ∙ h,
+        put-store (results (a .effects) (integerAt (X .values))) (X .values) tin .0 ∙ h,
         modes-all (a .modeEffects) m (X .modes) k (i .modeEffectsIn) (i .modeEffectsOnce) .0,
-        λ j. record { value = put-store (result (a .effect) (integerAt (X .values))) (X .values) tin .1 j; mode = modes-all (a .modeEffects) m (X .modes) k (i .modeEffectsIn) (i .modeEffectsOnce) .1 j },
+        λ j. record {
+          value = put-store (results (a .effects) (integerAt (X .values))) (X .values) tin .1 j;
+          mode = modes-all (a .modeEffects) m (X .modes) k (i .modeEffectsIn) (i .modeEffectsOnce) .1 j;
+        },
       ))
     where
       tst : Bool
-      tst = ((conditionsMet a (byName X)) && (withinBounds lo hi (result (a .effect) (integerAt (X .values)))))
+      tst = ((conditionsMet a (byName X)) && (withinBounds lo hi (results (a .effects) (integerAt (X .values)))))
 
-      tin : (p : ℕ × ℤ) → result (a .effect) (integerAt (X .values)) ≡ some p → p .0 < length (X .values)
-      tin p e = subst (λ (c : ℕ). p .0 < c) (sym h) (target-in n (a .effect) (integerAt (X .values)) (i .effectIn) p e)
+      tin : All (λ (p : ℕ × ℤ). p .0 < length (X .values)) (results (a .effects) (integerAt (X .values)))
+      tin = targets-in n (length (X .values)) h (a .effects) (integerAt (X .values)) (i .effectsIn)
 
-  pub source-steps-agree : (acts : List SourceAction) → All (ActionIn n m) acts → (X : State) (s : NamedSource) (k : ℕ) → SourceAgrees n m X s → Agree (SourceAgrees n m) (sourceStep lo hi acts X k) (stepNamedSource lo hi acts s k)
+  pub source-steps-agree : (acts : List SourceAction) → All (ActionIn n holds m) acts → (X : State) (s : NamedSource) (k : ℕ) → SourceAgrees n m X s
+      → Agree (SourceAgrees n m) (sourceStep lo hi acts X k) (stepNamedSource lo hi acts s k)
   source-steps-agree [] i X s k h = tt
   source-steps-agree (a ∷ acts) (i, is) X s zero h = subst (λ (u : NamedSource). Agree (SourceAgrees n m) (trySource lo hi X a) (tryNamedSource lo hi u a)) (sym (h .2)) (actions-agree a i X (h .0) (h .1))
   source-steps-agree (a ∷ acts) (i, is) X s (suc k) h = source-steps-agree acts is X s k h
 
   -- a restricted state over lists that stands for a source state at rest
-  at-rest : (Y X : State) → length (X .values) ≡ n → length (X .modes) ≡ m → RestrictedAgrees n m Y (atRest (byName X)) → Y ≡ helpersAtRest X
+  at-rest : (Y X : State) → length (X .values) ≡ n → length (X .modes) ≡ m → RestrictedAgrees n holds m Y (atRest (byName X)) → Y ≡ helpersAtRest holds X
   at-rest Y X h k (L, M) = λ i. record { values = (L .is ∙ vs) i; modes = (M .is ∙ ms) i }
     where
       v-is : L .V₀ ≡ X .values
       v-is = list-ext (L .V₀) (X .values) (pos 0) (L .lengths ∙ sym h) (λ j. ap (λ (f : Name → ℤ). f (source j)) (sym (L .reads)))
 
-      vs : L .V₀ ++ (L .a ∷ L .b ∷ []) ≡ X .values ++ (pos 0 ∷ pos 0 ∷ [])
-      vs = λ i. v-is i ++ (ap (λ (f : Name → ℤ). f helperA) (sym (L .reads)) i ∷ ap (λ (f : Name → ℤ). f helperB) (sym (L .reads)) i ∷ [])
+      h-is : L .H ≡ replicate holds (pos 0)
+      h-is = list-ext (L .H) (replicate holds (pos 0)) (pos 0) (L .holdsLength ∙ sym (length-replicate holds (pos 0)))
+          (λ j. ap (λ (f : Name → ℤ). f (hold j)) (sym (L .reads)) ∙ sym (replicated holds j))
+
+      vs : L .V₀ ++ (L .a ∷ L .b ∷ L .H) ≡ X .values ++ restingHelpers holds
+      vs = λ i. v-is i ++ (ap (λ (f : Name → ℤ). f helperA) (sym (L .reads)) i ∷ ap (λ (f : Name → ℤ). f helperB) (sym (L .reads)) i ∷ h-is i)
 
       ms : M .M₀ ++ (0 ∷ []) ≡ X .modes ++ (0 ∷ [])
       ms = ap (λ (u : List ℕ). u ++ (0 ∷ [])) (list-ext (M .M₀) (X .modes) 0 (M .lengths ∙ sym k) (λ j. ap (λ (f : ℕ → ℕ). f j) (sym (M .reads))))
 
-  pub rest-agrees : (X : State) → length (X .values) ≡ n → length (X .modes) ≡ m → RestrictedAgrees n m (helpersAtRest X) (atRest (byName X))
-  rest-agrees X h k = (record { V₀ = X .values; a = pos 0; b = pos 0; lengths = h; is = refl; reads = refl }, record { M₀ = X .modes; lengths = k; is = refl; reads = refl })
+  pub rest-agrees : (X : State) → length (X .values) ≡ n → length (X .modes) ≡ m → RestrictedAgrees n holds m (helpersAtRest holds X) (atRest (byName X))
+  rest-agrees X h k = (
+    record {
+      V₀ = X .values;
+      a = pos 0;
+      b = pos 0;
+      H = replicate holds (pos 0);
+      lengths = h;
+      holdsLength = length-replicate holds (pos 0);
+      is = refl;
+      reads = ap (namedValues (integerAt (X .values)) (pos 0) (pos 0)) (fun-ext (λ j. sym (replicated holds j)));
+    },
+    record { M₀ = X .modes; lengths = k; is = refl; reads = refl },
+  )
 
-  module _ (acts : List SourceAction) (acts-in : All (ActionIn n m) acts) where
+  module _ (acts : List SourceAction) (acts-in : All (ActionIn n holds m) acts) where
     expansions-agree : (p : List ℕ) (X : State) (s : NamedSource) → SourceAgrees n m X s
         → expandFrom (sourceStep lo hi acts) (opening lo hi acts) (stageStepsFrom lo hi acts) p X ≡ expandFrom (stepNamedSource lo hi acts) (opening lo hi acts) (stageSteps lo hi acts) p s
     expansions-agree [] X s h = refl
@@ -323,15 +429,23 @@ module _ (n m : ℕ) (lo hi : ℕ → ℤ) where
     abbrev R : List NamedAction
     R = lowerActions lo hi 1 acts
 
-    restricted-agrees : (q : List ℕ) (X : State) → length (X .values) ≡ n → length (X .modes) ≡ m → Agree (RestrictedAgrees n m) (runPlan (restrictedStep (loweredActions n m lo hi acts)) q (helpersAtRest X)) (runPlan (stepNamed R) q (atRest (byName X)))
-    restricted-agrees q X h k = agree-run (RestrictedAgrees n m) (restrictedStep (loweredActions n m lo hi acts)) (stepNamed R) (λ Y y j. restricted-steps-agree n m R (lower-in n m lo hi acts 1 acts-in) Y y j) q (helpersAtRest X) (atRest (byName X)) (rest-agrees X h k)
+    all-once : All (λ (a : SourceAction). Distinct (targets (a .effects))) acts
+    all-once = all-map (ActionIn n holds m) (λ (a : SourceAction). Distinct (targets (a .effects))) (λ a i. i .targetsOnce) acts acts-in
+
+    restricted-agrees : (q : List ℕ) (X : State) → length (X .values) ≡ n → length (X .modes) ≡ m
+        → Agree (RestrictedAgrees n holds m) (runPlan (restrictedStep (loweredActions n m lo hi acts)) q (helpersAtRest holds X))
+        (runPlan (stepNamed R) q (atRest (byName X)))
+    restricted-agrees q X h k = agree-run (RestrictedAgrees n holds m) (restrictedStep (loweredActions n m lo hi acts)) (stepNamed R)
+        (λ Y y j. restricted-steps-agree n holds m R (lower-in n holds m lo hi acts 1 acts-in) Y y j) q (helpersAtRest holds X) (atRest (byName X))
+        (rest-agrees X h k)
 
     source-agrees : (p : List ℕ) (X : State) → length (X .values) ≡ n → length (X .modes) ≡ m → Agree (SourceAgrees n m) (runPlan (sourceStep lo hi acts) p X) (runPlan (stepNamedSource lo hi acts) p (byName X))
     source-agrees p X h k = agree-run (SourceAgrees n m) (sourceStep lo hi acts) (stepNamedSource lo hi acts) (λ Y y j. source-steps-agree acts acts-in Y y j) p X (byName X) (h, k, refl)
 
     pub numbered-plans-pair-off : (gp : List (ℕ × ℕ)) (gc : List (NumericCondition ℕ)) → All (λ (p : ℕ × ℕ). p .0 < m) gp → All (λ (c : NumericCondition ℕ). MeasureIn (λ (i : ℕ). i < n) (c .measured)) gc
         → (X₀ : State) → length (X₀ .values) ≡ n → length (X₀ .modes) ≡ m → Good lo hi (byName X₀)
-        → Pairing (sourceStep lo hi acts) (restrictedStep (loweredActions n m lo hi acts)) helpersAtRest (opening lo hi acts) (sourceNumber lo hi acts) (stageStepsFrom lo hi acts) (priceFrom acts)
+        → Pairing (sourceStep lo hi acts) (restrictedStep (loweredActions n m lo hi acts)) (helpersAtRest holds) (opening lo hi acts)
+        (sourceNumber lo hi acts) (stageStepsFrom lo hi acts) (priceFrom acts)
         X₀ (SourceGoal gp gc) (LoweredGoal m gp gc) 1_000_000
     numbered-plans-pair-off gp gc gpIn gcIn X₀ h k g = record {
       forth = λ p X′ r goal l.
@@ -341,12 +455,14 @@ module _ (n m : ℕ) (lo hi : ℕ → ℤ) where
           let (s′, r′, sim) = agree-left (SourceAgrees n m) (runPlan (sourceStep lo hi acts) p X₀) (runPlan (stepNamedSource lo hi acts) p (byName X₀)) X′ (source-agrees p X₀ h k) r in
           ap length (ex-is p) ∙ P .lengths p s′ r′ ∙ sym (prices-agree p X₀ (byName X₀) (h, k, refl));
       back = λ q Y r goal l.
-          let (y, r′, sim) = agree-left (RestrictedAgrees n m) (runPlan (restrictedStep (loweredActions n m lo hi acts)) q (helpersAtRest X₀)) (runPlan (stepNamed R) q (atRest (byName X₀))) Y (restricted-agrees q X₀ h k) r in
+          let (y, r′, sim) = agree-left (RestrictedAgrees n holds m) (runPlan (restrictedStep (loweredActions n m lo hi acts)) q (helpersAtRest holds X₀))
+          (runPlan (stepNamed R) q (atRest (byName X₀))) Y (restricted-agrees q X₀ h k) r in
           fro q Y y r′ sim goal l;
     }
       where
-        P : Pairing (stepNamedSource lo hi acts) (stepNamed R) atRest (opening lo hi acts) (sourceNumber lo hi acts) (stageSteps lo hi acts) (priceAt acts) (byName X₀) (GoalS lo hi acts gp gc) (GoalR lo hi acts gp gc) 1_000_000
-        P = named-plans-pair-off lo hi acts gp gc (byName X₀) g
+        P : Pairing (stepNamedSource lo hi acts) (stepNamed R) atRest (opening lo hi acts) (sourceNumber lo hi acts) (stageSteps lo hi acts) (priceAt acts)
+            (byName X₀) (GoalS lo hi acts all-once gp gc) (GoalR lo hi acts all-once gp gc) 1_000_000
+        P = named-plans-pair-off lo hi acts all-once gp gc (byName X₀) g
 
         ex : List ℕ → List ℕ
         ex p = expandFrom (sourceStep lo hi acts) (opening lo hi acts) (stageStepsFrom lo hi acts) p X₀
@@ -354,42 +470,49 @@ module _ (n m : ℕ) (lo hi : ℕ → ℤ) where
         ex-is : (p : List ℕ) → ex p ≡ expandFrom (stepNamedSource lo hi acts) (opening lo hi acts) (stageSteps lo hi acts) p (byName X₀)
         ex-is p = expansions-agree p X₀ (byName X₀) (h, k, refl)
 
-        goal-in : (Y : State) (y : NamedState) → RestrictedAgrees n m Y y → LoweredGoal m gp gc Y → GoalR lo hi acts gp gc y
+        goal-in : (Y : State) (y : NamedState) → RestrictedAgrees n holds m Y y → LoweredGoal m gp gc Y → GoalR lo hi acts all-once gp gc y
         goal-in Y y (L, M) (a, b) =
             let (a₁, a₂) = and-parts (modesHold gp (y .mode)) (eqb (y .control) 0) (subst T (modes-laid-hold m gp (Y .modes) (y .mode) (y .control) 0 gpIn M) a) in
             (a₁, subst T (goal-conds gc gcIn (Y .values) (y .value) L) b, eqb→eq (y .control) 0 a₂)
 
-        goal-out : (Y : State) (y : NamedState) → RestrictedAgrees n m Y y → GoalR lo hi acts gp gc y → LoweredGoal m gp gc Y
+        goal-out : (Y : State) (y : NamedState) → RestrictedAgrees n holds m Y y → GoalR lo hi acts all-once gp gc y → LoweredGoal m gp gc Y
         goal-out Y y (L, M) (a, b, c) = (
           subst T (sym (modes-laid-hold m gp (Y .modes) (y .mode) (y .control) 0 gpIn M)) (and-intro (modesHold gp (y .mode)) (eqb (y .control) 0) a (subst (λ (u : ℕ). T (eqb u 0)) (sym c) tt)),
           subst T (sym (goal-conds gc gcIn (Y .values) (y .value) L)) b,
         )
 
-        arrive : (q : List ℕ) (X′ : State) → length (X′ .values) ≡ n → length (X′ .modes) ≡ m → runPlan (stepNamed R) q (atRest (byName X₀)) ≡ some (atRest (byName X′)) → runPlan (restrictedStep (loweredActions n m lo hi acts)) q (helpersAtRest X₀) ≡ some (helpersAtRest X′)
+        arrive : (q : List ℕ) (X′ : State) → length (X′ .values) ≡ n → length (X′ .modes) ≡ m
+            → runPlan (stepNamed R) q (atRest (byName X₀)) ≡ some (atRest (byName X′))
+            → runPlan (restrictedStep (loweredActions n m lo hi acts)) q (helpersAtRest holds X₀) ≡ some (helpersAtRest holds X′)
         arrive q X′ hv hm r =
-            let (Y, r′, sim) = agree-right (RestrictedAgrees n m) (runPlan (restrictedStep (loweredActions n m lo hi acts)) q (helpersAtRest X₀)) (runPlan (stepNamed R) q (atRest (byName X₀))) (atRest (byName X′)) (restricted-agrees q X₀ h k) r in
+            let (Y, r′, sim) = agree-right (RestrictedAgrees n holds m) (runPlan (restrictedStep (loweredActions n m lo hi acts)) q (helpersAtRest holds X₀))
+            (runPlan (stepNamed R) q (atRest (byName X₀))) (atRest (byName X′)) (restricted-agrees q X₀ h k) r in
             r′ ∙ ap {B = Option State} some (at-rest Y X′ hv hm sim)
 
         to : (p : List ℕ) (X′ : State) (s′ : NamedSource) → runPlan (stepNamedSource lo hi acts) p (byName X₀) ≡ some s′ → SourceAgrees n m X′ s′ → SourceGoal gp gc X′ → length (ex p) ≤ 1_000_000
-            → (runPlan (restrictedStep (loweredActions n m lo hi acts)) (ex p) (helpersAtRest X₀) ≡ some (helpersAtRest X′)) × LoweredGoal m gp gc (helpersAtRest X′) × (keep (sourceNumber lo hi acts) (ex p) ≡ p)
+            → (runPlan (restrictedStep (loweredActions n m lo hi acts)) (ex p) (helpersAtRest holds X₀) ≡ some (helpersAtRest holds X′))
+            × LoweredGoal m gp gc (helpersAtRest holds X′) × (keep (sourceNumber lo hi acts) (ex p) ≡ p)
             × (length (ex p) ≡ totalPrice (sourceStep lo hi acts) (priceFrom acts) p X₀)
         to p X′ s′ r (hv, hm, e) goal l =
             let (rr, gr, kp, ln) = P .forth p (byName X′) (subst (λ (u : NamedSource). runPlan (stepNamedSource lo hi acts) p (byName X₀) ≡ some u) e r) goal (subst (λ (u : List ℕ). length u ≤ 1_000_000) (ex-is p) l) in (
-              ap (λ (u : List ℕ). runPlan (restrictedStep (loweredActions n m lo hi acts)) u (helpersAtRest X₀)) (ex-is p) ∙ arrive (expandFrom (stepNamedSource lo hi acts) (opening lo hi acts) (stageSteps lo hi acts) p (byName X₀)) X′ hv hm rr,
-              goal-out (helpersAtRest X′) (atRest (byName X′)) (rest-agrees X′ hv hm) gr,
+              ap (λ (u : List ℕ). runPlan (restrictedStep (loweredActions n m lo hi acts)) u (helpersAtRest holds X₀)) (ex-is p)
+                  ∙ arrive (expandFrom (stepNamedSource lo hi acts) (opening lo hi acts) (stageSteps lo hi acts) p (byName X₀)) X′ hv hm rr,
+              goal-out (helpersAtRest holds X′) (atRest (byName X′)) (rest-agrees X′ hv hm) gr,
               ap (keep (sourceNumber lo hi acts)) (ex-is p) ∙ kp,
               ap length (ex-is p) ∙ ln ∙ sym (prices-agree p X₀ (byName X₀) (h, k, refl)),
             )
 
-        fro : (q : List ℕ) (Y : State) (y : NamedState) → runPlan (stepNamed R) q (atRest (byName X₀)) ≡ some y → RestrictedAgrees n m Y y → LoweredGoal m gp gc Y → length q ≤ 1_000_000
-            → (X′ : State) × (runPlan (sourceStep lo hi acts) (keep (sourceNumber lo hi acts) q) X₀ ≡ some X′) × SourceGoal gp gc X′ × (Y ≡ helpersAtRest X′) × (ex (keep (sourceNumber lo hi acts) q) ≡ q) × (length (ex (keep (sourceNumber lo hi acts) q)) ≤ 1_000_000)
+        fro : (q : List ℕ) (Y : State) (y : NamedState) → runPlan (stepNamed R) q (atRest (byName X₀)) ≡ some y → RestrictedAgrees n holds m Y y
+            → LoweredGoal m gp gc Y → length q ≤ 1_000_000
+            → (X′ : State) × (runPlan (sourceStep lo hi acts) (keep (sourceNumber lo hi acts) q) X₀ ≡ some X′) × SourceGoal gp gc X′
+            × (Y ≡ helpersAtRest holds X′) × (ex (keep (sourceNumber lo hi acts) q) ≡ q) × (length (ex (keep (sourceNumber lo hi acts) q)) ≤ 1_000_000)
         fro q Y y r sim goal l =
             let (s′, rs, gs, ys, exq, ln) = P .back q y r (goal-in Y y sim goal) l in
             let (X′, rx, hv, hm, e) = flat (agree-right (SourceAgrees n m) (runPlan (sourceStep lo hi acts) (keep (sourceNumber lo hi acts) q) X₀) (runPlan (stepNamedSource lo hi acts) (keep (sourceNumber lo hi acts) q) (byName X₀)) s′ (source-agrees (keep (sourceNumber lo hi acts) q) X₀ h k) rs) in (
               X′,
               rx,
-              subst (GoalS lo hi acts gp gc) e gs,
-              at-rest Y X′ hv hm (subst (RestrictedAgrees n m Y) (ys ∙ ap atRest e) sim),
+              subst (GoalS lo hi acts all-once gp gc) e gs,
+              at-rest Y X′ hv hm (subst (RestrictedAgrees n holds m Y) (ys ∙ ap atRest e) sim),
               ex-is (keep (sourceNumber lo hi acts) q) ∙ exq,
               subst (λ (u : List ℕ). length u ≤ 1_000_000) (sym (ex-is (keep (sourceNumber lo hi acts) q))) ln,
             )

@@ -20,7 +20,8 @@ use Rattle.integers.proofs.Numbers.{signed-bits}
 use Rattle.model.specs.Tasks.{NumericCondition, RestrictedAction, RestrictedTask, Measured, variable, weightedSum}
 use Rattle.model.specs.Steps.{naturalAt, sizesOf}
 use Rattle.model.specs.Limits.{Limits, restrictedLimits}
-use Rattle.model.specs.ReadingState.{ReadingState, Taken, begin, goOn, opened, withVariable, withMode, withCondition, withModeCondition, withModeEffect, withAdd}
+use Rattle.model.specs.ReadingState.{ReadingState, Taken, begin, goOn, opened, withVariable, withMode, withCondition, withModeCondition}
+use Rattle.model.specs.ReadingState.{withModeEffect, withNumericEffect}
 use Rattle.model.specs.Rules.{allowed, testsOf, nextOf, onwards, ruleOf, constant, outside, noVariable, noMode, notBelowSize}
 use Rattle.model.specs.Lowering.{startCommands, modeCommands, modeConditionCommands, conditionCommands, modeEffectCommands, additionCommands, actionsCommands, fileCommands, variableOf}
 use Rattle.model.specs.Trail.{Trail}
@@ -78,7 +79,9 @@ module _ (n : ℕ) (sizes : List ℕ) where
   mode-there p c e (h, g) = (lt-leb (p .declared .modes) (e .0) (omega (arith, h, c .mods)), lt-leb (naturalAt (p .declared .sizes) (e .0)) (e .1) (omega (arith, g, c .sized (e .0))))
 
   places-run : (ps : List (ℕ × ℕ)) (p : ReadingState) → Core n sizes p → 2 ≤ p .section → p .counts .modeConditions + length ps ≤ 16 → ValuesIn sizes ps → (more : List Command)
-      → ((q : ReadingState) → Core n sizes q → q .section ≡ p .section → q .actions ≡ p .actions → q .counts .conditions ≡ p .counts .conditions → q .counts .numericEffects ≡ p .counts .numericEffects → q .marks .modesSet ≡ p .marks .modesSet → q .marks .variablesSeen ≡ p .marks .variablesSeen → Trail l q more)
+      → ((q : ReadingState) → Core n sizes q → q .section ≡ p .section → q .actions ≡ p .actions
+      → q .counts .conditions ≡ p .counts .conditions → q .counts .numericEffects ≡ p .counts .numericEffects
+      → q .marks .modesSet ≡ p .marks .modesSet → q .marks .targetsSeen ≡ p .marks .targetsSeen → Trail l q more)
       → Trail l p (modeConditionCommands ps more)
   unfolding testsOf nextOf
   places-run [] p c s f h more k = k p c refl refl refl refl refl refl
@@ -88,7 +91,9 @@ module _ (n : ℕ) (sizes : List ℕ) where
       (places-run ps (withModeCondition p) c s (omega (arith, f)) hs more k)
 
   compares-run : (cs : List (NumericCondition ℕ)) (p : ReadingState) → Core n sizes p → 2 ≤ p .section → p .counts .conditions + length cs ≤ 24 → All (ConditionOk l n) cs → (more : List Command)
-      → ((q : ReadingState) → Core n sizes q → q .section ≡ p .section → q .actions ≡ p .actions → q .counts .numericEffects ≡ p .counts .numericEffects → q .marks .modesSet ≡ p .marks .modesSet → q .marks .variablesSeen ≡ p .marks .variablesSeen → Trail l q more)
+      → ((q : ReadingState) → Core n sizes q → q .section ≡ p .section → q .actions ≡ p .actions
+      → q .counts .numericEffects ≡ p .counts .numericEffects
+      → q .marks .modesSet ≡ p .marks .modesSet → q .marks .targetsSeen ≡ p .marks .targetsSeen → Trail l q more)
       → Trail l p (conditionCommands cs more)
   unfolding testsOf nextOf
   compares-run [] p c s f h more k = k p c refl refl refl refl refl
@@ -98,7 +103,8 @@ module _ (n : ℕ) (sizes : List ℕ) where
       (compares-run cs (withCondition p) c s (omega (arith, f)) hs more k)
 
   effects-run : (es : List (ℕ × ℕ)) (p : ReadingState) → Core n sizes p → p .section ≡ 2 → length sizes ≤ 8 → length (p .marks .modesSet) ≡ 8 → ValuesIn sizes es → Distinct (keys es) → Free (p .marks .modesSet) (keys es) → (more : List Command)
-      → ((q : ReadingState) → Core n sizes q → q .section ≡ 2 → q .actions ≡ p .actions → q .counts .numericEffects ≡ p .counts .numericEffects → q .marks .variablesSeen ≡ p .marks .variablesSeen → Trail l q more)
+      → ((q : ReadingState) → Core n sizes q → q .section ≡ 2 → q .actions ≡ p .actions
+      → q .counts .numericEffects ≡ p .counts .numericEffects → q .marks .targetsSeen ≡ p .marks .targetsSeen → Trail l q more)
       → Trail l p (modeEffectCommands es more)
   unfolding testsOf nextOf
   effects-run [] p c s z m h a f more k = k p c s refl refl refl
@@ -108,17 +114,20 @@ module _ (n : ℕ) (sizes : List ℕ) where
       (effects-run es (withModeEffect p (e .0)) c s z (length-set (p .marks .modesSet) (e .0) 1 ∙ m) hs as₁
       (free-set (p .marks .modesSet) (e .0) (omega (arith, h .0, z, m)) (keys es) a fs) more k)
 
-  adds-run : (es : List (ℕ × ℤ)) (p : ReadingState) → Core n sizes p → p .section ≡ 2 → n ≤ 64 → length (p .marks .variablesSeen) ≡ 64 → p .counts .numericEffects + length es ≤ 16
-      → All (AmountOk l n) es → Distinct (keys es) → Free (p .marks .variablesSeen) (keys es) → (more : List Command)
+  adds-run : (es : List (ℕ × ℤ)) (p : ReadingState) → Core n sizes p → p .section ≡ 2 → n ≤ 64
+      → length (p .marks .targetsSeen) ≡ 64 → p .counts .numericEffects + length es ≤ 16
+      → All (AmountOk l n) es → Distinct (keys es) → Free (p .marks .targetsSeen) (keys es) → (more : List Command)
       → ((q : ReadingState) → Core n sizes q → q .section ≡ 2 → q .actions ≡ p .actions → Trail l q more)
       → Trail l p (additionCommands es more)
   unfolding testsOf nextOf
   adds-run [] p c s z m w h a f more k = k p c s refl
   adds-run (e ∷ es) p c s z m w ((h₁, (h₂, h₃)), hs) (a, as₁) (f, fs) more k =
-      pass p (Add (e .0) (bitsOf 4 (e .1))) (additionCommands es more) refl (eq-eqb (p .section) 2 s)
-      (lt-leb 16 (p .counts .numericEffects) (omega (arith, w)), (declared p c h₁, (not-zero, (in-range (e .1) h₃, (lt-leb 1 (getD (p .marks .variablesSeen) (e .0) 0) (omega (arith, f)), tt)))))
-      (adds-run es (withAdd p (e .0)) c s z (length-set (p .marks .variablesSeen) (e .0) 1 ∙ m) (omega (arith, w)) hs as₁
-      (free-set (p .marks .variablesSeen) (e .0) (omega (arith, h₁, z, m)) (keys es) a fs) more k)
+      pass p (Add (e .0) (bitsOf 4 (e .1))) (additionCommands es more) refl (eq-eqb (p .section) 2 s) (
+        lt-leb 16 (p .counts .numericEffects) (omega (arith, w)),
+        (declared p c h₁, (not-zero, (in-range (e .1) h₃, (lt-leb 1 (getD (p .marks .targetsSeen) (e .0) 0) (omega (arith, f)), tt)))),
+      )
+      (adds-run es (withNumericEffect p (e .0) 0) c s z (length-set (p .marks .targetsSeen) (e .0) 1 ∙ m) (omega (arith, w)) hs as₁
+      (free-set (p .marks .targetsSeen) (e .0) (omega (arith, h₁, z, m)) (keys es) a fs) more k)
     where
       not-zero : eqb (natAbs (constant (bitsOf 4 (e .1)))) 0 ≡ false
       not-zero = rw (const-back (e .1) h₃) (ne-eqb (natAbs (e .1)) 0 (λ q. omega (arith, h₂, q)))

@@ -13,6 +13,7 @@ use Rattle.model.specs.Tasks.{SourceTask, RestrictedTask, State}
 use Rattle.model.specs.Decoding.{readSource, readRestricted}
 use Rattle.model.specs.Plans.{planNumbers}
 use Rattle.model.specs.Steps.{stepRestricted}
+use Rattle.model.specs.Stages.{holdCount}
 use Rattle.model.specs.Lowering.{helpersAtRest}
 use Rattle.model.specs.Expansion.{controlAtRest, expandTask, expandByFollowing}
 use Rattle.model.specs.Judging.{judgeSource, judgeRestricted, pricePlan, expandBytes, projectBytes}
@@ -35,7 +36,7 @@ pub record Pair (t : SourceTask) (r : RestrictedTask) (file lowered plan restric
   pub endValues : length (end .values) ≡ length (t .variables)
   pub endModes : length (end .modes) ≡ length (t .modes)
   -- R's plan ends in that state with the helpers behind it, at rest; its count of steps is the sum of the step prices of T's plan
-  pub validInR : judgeRestricted lowered restricted ≡ given (length (planNumbers restricted), helpersAtRest end)
+  pub validInR : judgeRestricted lowered restricted ≡ given (length (planNumbers restricted), helpersAtRest (holdCount (t .actions)) end)
   pub price : pricePlan file plan ≡ given (length (planNumbers restricted))
   pub few : length (planNumbers restricted) ≤ 1_000_000
   -- expanding and projecting are inverse, as round trips too
@@ -48,12 +49,12 @@ pub record Pair (t : SourceTask) (r : RestrictedTask) (file lowered plan restric
   pub forced : planNumbers restricted ≡ expandByFollowing t r (planNumbers plan)
 
 pub record PlansPair (file lowered : List ℕ) : Type 0 where
-  -- T and R: what the readers find in the two files. R has A and B behind T's variables, and control behind T's modes
+  -- T and R: what the readers find in the two files. R has A, B and the holds behind T's variables, and control behind T's modes
   pub task : SourceTask
   pub reads : readSource file ≡ given task
   pub lowering : RestrictedTask
   pub readsLowered : readRestricted lowered ≡ given lowering
-  pub variables : length (lowering .starts) ≡ length (task .variables) + 2
+  pub variables : length (lowering .starts) ≡ length (task .variables) + 2 + holdCount (task .actions)
   pub modes : length (lowering .modes) ≡ length (task .modes) + 1
   -- while control is not 0, no two actions of R apply, whatever the state
   pub oneApplies : (x : State) → controlAtRest task x ≡ false → (j k : ℕ) (y z : State)

@@ -11,7 +11,7 @@ use Rattle.lists.specs.Answer.{Answer, given, refused}
 use Rattle.commands.specs.Table.{letterV, letterU, letterM, letterA, letterC, letterP, letterE, plusSign, letterL, letterT, letterQ, letterR, letterG}
 use Rattle.commands.specs.Encoding.{byteOf, operands}
 use Rattle.commands.specs.declared.Command.{Command}
-use Rattle.model.specs.Tasks.{variable, NumericCondition, Effect, noEffect, addEffect, linearEffect, quotientEffect, residueEffect, SourceAction}
+use Rattle.model.specs.Tasks.{variable, NumericCondition, Effect, addEffect, linearEffect, quotientEffect, residueEffect, SourceAction}
 use Rattle.model.specs.Tasks.{RestrictedAction, SourceVariable, SourceTask, RestrictedTask}
 use Rattle.model.specs.Limits.{sourceLimits, restrictedLimits}
 use Rattle.model.specs.Rules.{constant}
@@ -88,18 +88,20 @@ modeEffectsOf cs = map pairOf (those letterE cs)
 abbrev pub additionsOf : List Command → List (ℕ × ℤ)
 additionsOf cs = map amountOf (those plusSign cs)
 
+-- "followed directly by 0 to 4 T": the T's up to the first command of another kind
 abbrev pub termsOf : List Command → List (ℕ × ℤ)
-termsOf cs = map amountOf (those letterT cs)
+termsOf [] = []
+termsOf (c ∷ cs) = cond (eqb (byteOf c) letterT) (amountOf c ∷ termsOf cs) []
 
--- "At most one numeric effect per action": the first; an L with the T's behind it
-abbrev pub effectOf : List Command → Effect
-effectOf [] = noEffect
-effectOf (c ∷ cs) =
-    cond (eqb (byteOf c) plusSign) (addEffect (operand c 0) (constant (operand c 1)))
-    (cond (eqb (byteOf c) letterL) (linearEffect (operand c 0) (constant (operand c 1)) (termsOf cs))
-    (cond (eqb (byteOf c) letterQ) (quotientEffect (operand c 0) (operand c 1) (constant (operand c 2)))
-    (cond (eqb (byteOf c) letterR) (residueEffect (operand c 0) (operand c 1) (constant (operand c 2)))
-    (effectOf cs))))
+-- the numeric effects, an L with its T's
+abbrev pub effectsOf : List Command → List Effect
+effectsOf [] = []
+effectsOf (c ∷ cs) =
+    cond (eqb (byteOf c) plusSign) (addEffect (operand c 0) (constant (operand c 1)) ∷ effectsOf cs)
+    (cond (eqb (byteOf c) letterL) (linearEffect (operand c 0) (constant (operand c 1)) (termsOf cs) ∷ effectsOf cs)
+    (cond (eqb (byteOf c) letterQ) (quotientEffect (operand c 0) (operand c 1) (constant (operand c 2)) ∷ effectsOf cs)
+    (cond (eqb (byteOf c) letterR) (residueEffect (operand c 0) (operand c 1) (constant (operand c 2)) ∷ effectsOf cs)
+    (effectsOf cs))))
 
 -- ---- the tasks
 abbrev pub sourceActionOf : List Command → SourceAction
@@ -107,7 +109,7 @@ sourceActionOf cs = record {
   modeConditions = modeConditionsOf cs;
   conditions = conditionsOf cs;
   modeEffects = modeEffectsOf cs;
-  effect = effectOf cs;
+  effects = effectsOf cs;
 }
 
 abbrev pub restrictedActionOf : List Command → RestrictedAction

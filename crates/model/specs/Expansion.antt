@@ -9,11 +9,11 @@ use lib.ListN.{length, getElem?, replicate}
 use lib.IntN.{ℤ, pos, negsuc, natAbs, _+ℤ_, _*ℤ_}
 use Rattle.integers.specs.Division.{floor, quotientOf, residueOf}
 use Rattle.model.specs.Systems.{orEmpty, orZero, expandFrom, keep, followPlan}
-use Rattle.model.specs.Tasks.{Effect, noEffect, addEffect, linearEffect, quotientEffect, residueEffect, SourceAction, SourceTask, RestrictedTask, State}
-use Rattle.model.specs.Steps.{conditionsHold, integerAt, naturalAt, linear, lowerBounds}
-use Rattle.model.specs.Steps.{upperBounds, sourceStart, stepSource, restrictedStart, stepRestricted}
-use Rattle.model.specs.Stages.{Name, source, helperA, helperB, hold, StageKind, byOne}
-use Rattle.model.specs.Stages.{byUnit, Stage, turnPlace, openingAdditions, stagesOf, opening, sourceNumber}
+use Rattle.model.specs.Tasks.{Effect, addEffect, linearEffect, quotientEffect, residueEffect, SourceAction, SourceTask, RestrictedTask, State}
+use Rattle.model.specs.Steps.{conditionsHold, integerAt, naturalAt, linear, lowerBounds, upperBounds, sourceStart, stepSource, restrictedStart}
+use Rattle.model.specs.Steps.{stepRestricted, target, result}
+use Rattle.model.specs.Stages.{Name, source, helperA, helperB, hold, StageKind, byOne, byUnit, Stage, turnPlace, openingAdditions, stagesOf, opening}
+use Rattle.model.specs.Stages.{sourceNumber}
 
 -- ---- values by name, and what additions make of them
 abbrev pub sameName : Name → Name → Bool
@@ -46,12 +46,19 @@ addTo (some d) z = z +ℤ d
 abbrev pub plus : List (Name × ℤ) → (Name → ℤ) → Name → ℤ
 plus es v w = addTo (additionTo es w) (v w)
 
--- the source's values, with those of A and B
-abbrev pub namedValues : (ℕ → ℤ) → ℤ → ℤ → Name → ℤ
-namedValues v a b (source j) = v j
-namedValues v a b helperA = a
-namedValues v a b helperB = b
-namedValues v a b (hold j) = pos 0
+-- the source's values, with those of A, B and the holds
+abbrev pub namedValues : (ℕ → ℤ) → ℤ → ℤ → (ℕ → ℤ) → Name → ℤ
+namedValues v a b h (source j) = v j
+namedValues v a b h helperA = a
+namedValues v a b h helperB = b
+namedValues v a b h (hold j) = h j
+
+-- with the helpers at rest
+abbrev pub allZero : ℕ → ℤ
+allZero j = pos 0
+
+abbrev pub restingValues : (ℕ → ℤ) → Name → ℤ
+restingValues v = namedValues v (pos 0) (pos 0) allZero
 
 -- ---- the walk through the stages: in each, falling or rising as often as the unit goes into the counter, then the turn
 -- how often: falling so many times, or, where negative, rising
@@ -90,20 +97,20 @@ walkToDeadEnd b (d ∷ ds) v = strokes b (unitsIn (d .kind) (v (d .counter)))
 
 -- the values behind an opening
 abbrev pub openedValues : SourceAction → (ℕ → ℤ) → Name → ℤ
-openedValues a v = plus (openingAdditions (a .effect)) (namedValues v (pos 0) (pos 0))
+openedValues a v = plus (openingAdditions (a .effects)) (restingValues v)
 
 module _ (lower upper : ℕ → ℤ) (acts : List SourceAction) where
   -- what follows the opening of action k, over the values before the step
   abbrev pub stageStepsOver : (ℕ → ℤ) → ℕ → List ℕ
-  stageStepsOver v k = orEmpty (getElem? acts k) (λ a. stageWalk (suc (opening lower upper acts k)) (stagesOf lower upper (a .effect)) (openedValues a v))
+  stageStepsOver v k = orEmpty (getElem? acts k) (λ a. stageWalk (suc (opening lower upper acts k)) (stagesOf lower upper (a .effects)) (openedValues a v))
 
   abbrev pub stageStepsFrom : State → ℕ → List ℕ
   stageStepsFrom x = stageStepsOver (integerAt (x .values))
 
-  -- the same where its result is out of bounds: up to where nothing applies
+  -- the same where a result is out of bounds: up to where nothing applies
   abbrev pub deadEndStepsOver : (ℕ → ℤ) → ℕ → List ℕ
   deadEndStepsOver v k =
-      orEmpty (getElem? acts k) (λ a. walkToDeadEnd (suc (opening lower upper acts k)) (stagesOf lower upper (a .effect)) (openedValues a v))
+      orEmpty (getElem? acts k) (λ a. walkToDeadEnd (suc (opening lower upper acts k)) (stagesOf lower upper (a .effects)) (openedValues a v))
 
   abbrev pub deadEndStepsFrom : State → ℕ → List ℕ
   deadEndStepsFrom x = deadEndStepsOver (integerAt (x .values))
@@ -116,14 +123,31 @@ magnitudes (t ∷ ts) v = natAbs (v (t .0)) + magnitudes ts v
 -- "1 without macro. L with k terms: 3 + 2k + 2 × (sum of |term variables|) + |target before| + |result|. Q and R: 7 + 2|y| + 2|q| +
 -- |target before| + r."
 abbrev pub priceOfEffect : Effect → (ℕ → ℤ) → ℕ
-priceOfEffect noEffect v = 1
 priceOfEffect (addEffect t c) v = 1
 priceOfEffect (linearEffect t w ts) v = 3 + 2 * length ts + 2 * magnitudes ts v + natAbs (v t) + natAbs (linear w ts v)
 priceOfEffect (quotientEffect t y c) v = 7 + 2 * natAbs (v y) + 2 * natAbs (quotientOf (v y) c) + natAbs (v t) + natAbs (residueOf (v y) c)
 priceOfEffect (residueEffect t y c) v = 7 + 2 * natAbs (v y) + 2 * natAbs (quotientOf (v y) c) + natAbs (v t) + natAbs (residueOf (v y) c)
 
+-- with several effects: an effect's stages before Clear
+abbrev pub priceOfResult : Effect → (ℕ → ℤ) → ℕ
+priceOfResult (addEffect t c) v = 2 + 2 * natAbs (v t)
+priceOfResult (linearEffect t w ts) v = 2 * length ts + 2 * magnitudes ts v
+priceOfResult (quotientEffect t y c) v = 4 + 2 * natAbs (v y) + natAbs (quotientOf (v y) c) + natAbs (residueOf (v y) c)
+priceOfResult (residueEffect t y c) v = 4 + 2 * natAbs (v y) + 2 * natAbs (quotientOf (v y) c)
+
+-- and the Move into a hold; then Clear and the Move out of it
+abbrev pub priceOfHeld : List Effect → (ℕ → ℤ) → ℕ
+priceOfHeld [] v = zero
+priceOfHeld (e ∷ es) v = priceOfResult e v + (1 + natAbs (result e v)) + (2 + natAbs (v (target e)) + natAbs (result e v)) + priceOfHeld es v
+
+-- "Step prices count these stages", the opening besides
+abbrev pub priceOfEffects : List Effect → (ℕ → ℤ) → ℕ
+priceOfEffects [] v = 1
+priceOfEffects (e ∷ []) v = priceOfEffect e v
+priceOfEffects (e ∷ f ∷ es) v = 1 + priceOfHeld (e ∷ f ∷ es) v
+
 abbrev pub priceOver : List SourceAction → (ℕ → ℤ) → ℕ → ℕ
-priceOver acts v k = orZero (getElem? acts k) (λ a. priceOfEffect (a .effect) v)
+priceOver acts v k = orZero (getElem? acts k) (λ a. priceOfEffects (a .effects) v)
 
 abbrev pub priceFrom : List SourceAction → State → ℕ → ℕ
 priceFrom acts x = priceOver acts (integerAt (x .values))

@@ -8,7 +8,7 @@ use mathlib.Core.List.{List, [], _∷_}
 use lib.ListN.{length, drop, getElem?}
 use lib.Dec.{eqb, ltb}
 use Rattle.lists.specs.Answer.{Answer, given, refused, then}
-use Rattle.model.specs.Tasks.{Effect, noEffect, addEffect, linearEffect, quotientEffect, residueEffect, SourceTask, State}
+use Rattle.model.specs.Tasks.{Effect, addEffect, linearEffect, quotientEffect, residueEffect, SourceTask, State}
 use Rattle.model.specs.Steps.{integerAt, naturalAt, modesHold, conditionsHold, stepSource, sourceGoalHolds}
 use Rattle.model.specs.Lowering.{lowerTask}
 use Rattle.model.specs.Expansion.{openingOf, sourceNumberOf, stageStepsOf, deadEndStepsOf}
@@ -59,20 +59,21 @@ module _ {S : Type 0} (count : ℕ) (step : S → ℕ → Option S) (goal : S �
       (strayed count i (k ∷ q))
 
 -- ---- of a whole task
--- an effect that makes its action a macro
-abbrev pub makesMacro : Effect → Bool
-makesMacro noEffect = false
-makesMacro (addEffect t c) = false
-makesMacro (linearEffect t w ts) = true
-makesMacro (quotientEffect t y c) = true
-makesMacro (residueEffect t y c) = true
+-- effects that make their action a macro
+abbrev pub makesMacro : List Effect → Bool
+makesMacro [] = false
+makesMacro (addEffect t c ∷ []) = false
+makesMacro (linearEffect t w ts ∷ []) = true
+makesMacro (quotientEffect t y c ∷ []) = true
+makesMacro (residueEffect t y c ∷ []) = true
+makesMacro (e ∷ f ∷ es) = true
 
 module _ (t : SourceTask) where
   -- the numbers in R that source action a becomes in state x
   abbrev pub macroNumbers : State → ℕ → List ℕ
   macroNumbers x a = openingOf t a ∷ stageStepsOf t x a
 
-  -- the same where its result is out of bounds
+  -- the same where one of its results is out of bounds
   abbrev pub deadEndNumbers : State → ℕ → List ℕ
   deadEndNumbers x a = openingOf t a ∷ deadEndStepsOf t x a
 
@@ -80,7 +81,7 @@ module _ (t : SourceTask) where
   abbrev pub opens : State → ℕ → Bool
   opens x a =
       ifAny (getElem? (t .actions) a)
-      (λ act. makesMacro (act .effect) && (modesHold (act .modeConditions) (naturalAt (x .modes)) && conditionsHold (act .conditions) (integerAt (x .values))))
+      (λ act. makesMacro (act .effects) && (modesHold (act .modeConditions) (naturalAt (x .modes)) && conditionsHold (act .conditions) (integerAt (x .values))))
       false
 
   abbrev pub projectFrom : ℕ → ℕ → List ℕ → State → Answer (List ℕ)

@@ -9,12 +9,14 @@ pub mod Limits
 pub mod Listing
 pub mod Lowering
 pub mod NamedSystems
+pub mod OneEffect
 pub mod Plans
 pub mod Reading
 pub mod ReadingState
 pub mod Rules
 pub mod Stages
 pub mod Steps
+pub mod Swapped
 pub mod Systems
 pub mod TaskOk
 pub mod Tasks

@@ -4,8 +4,8 @@ use Prim.Native.Nat.{ℕ}
 use mathlib.Core.Bool.{Bool, true, false}
 
 -- `restricted`: U in place of V, no L T Q R, several + an action. `size`: of a mode. `conditions` and `modeConditions`: C and P of an action
--- or goal. `additions`: + of a restricted action. `terms`: T of an L. `constant`: every constant, bound and start lies within ± it.
--- `relations`: the largest relation
+-- or goal. `numericEffects`: of an action, which in a restricted one are its +. `terms`: T of an L. `constant`: every constant, bound and
+-- start lies within ± it. `relations`: the largest relation
 pub record Limits : Type 0 where
   pub restricted : Bool
   pub variables : ℕ
@@ -14,7 +14,7 @@ pub record Limits : Type 0 where
   pub actions : ℕ
   pub conditions : ℕ
   pub modeConditions : ℕ
-  pub additions : ℕ
+  pub numericEffects : ℕ
   pub terms : ℕ
   pub constant : ℕ
   pub relations : ℕ
@@ -28,7 +28,7 @@ sourceLimits = record {
   actions = 32;
   conditions = 8;
   modeConditions = 8;
-  additions = 1;
+  numericEffects = 3;
   terms = 4;
   constant = 10_000;
   relations = 4;
@@ -43,7 +43,7 @@ restrictedLimits = record {
   actions = 16_384;
   conditions = 24;
   modeConditions = 16;
-  additions = 16;
+  numericEffects = 16;
   terms = 0;
   constant = 1_000_000_000;
   relations = 3;

@@ -4,7 +4,7 @@ use Prim.Native.Nat.{ℕ, zero, suc, _+_}
 use mathlib.Core.Bool.{cond}
 use mathlib.Core.List.{List, [], _∷_, _++_, map}
 use lib.Dec.{eqb}
-use lib.ListN.{length}
+use lib.ListN.{length, replicate}
 use lib.IntN.{ℤ, pos}
 use Rattle.integers.specs.Numbers.{bitsOf}
 use Rattle.integers.specs.Relation.{Relation, below, atMost, atLeast, above, equal, relationNumber}
@@ -13,9 +13,9 @@ use Rattle.commands.specs.declared.Command.{Command}
 use Rattle.commands.specs.declared.Command.the-variants.{Start, Mode, Action, Condition, ModeCondition, ModeEffect, Add, Goal, End}
 use Rattle.model.specs.Tasks.{Measured, variable, weightedSum, NumericCondition, SourceAction, RestrictedAction, SourceTask, RestrictedTask, State}
 use Rattle.model.specs.Steps.{lowerBounds, upperBounds, sourceStart}
-use Rattle.model.specs.Stages.{Name, source, helperA, helperB, hold, NamedAction, lowerActions, stageCount}
+use Rattle.model.specs.Stages.{Name, source, helperA, helperB, hold, NamedAction, lowerActions, stageCount, holdCount}
 
--- ---- numbers for names: "R has T's n variables, then A (number n) and B (n+1)"
+-- ---- numbers for names: "R has T's n variables, then A (number n) and B (n+1)"; "three holds .. after B"
 abbrev pub numberOfName : ℕ → Name → ℕ
 numberOfName n (source i) = i
 numberOfName n helperA = n
@@ -66,14 +66,18 @@ module _ (n m : ℕ) where
   abbrev pub loweredActions : (ℕ → ℤ) → (ℕ → ℤ) → List SourceAction → List RestrictedAction
   loweredActions lower upper acts = numberedAll (lowerActions lower upper 1 acts)
 
--- "Helpers at rest means A, B and control at 0": the state of R that has a source state's values, and its helpers at rest
-abbrev pub helpersAtRest : State → State
-helpersAtRest x = record { values = x .values ++ (pos 0 ∷ pos 0 ∷ []); modes = x .modes ++ (0 ∷ []) }
+-- A, B and so many holds at 0
+abbrev pub restingHelpers : ℕ → List ℤ
+restingHelpers holds = pos 0 ∷ pos 0 ∷ replicate holds (pos 0)
 
--- A and B start at 0; control starts at 0, "its size being 1 plus the count of all stages"; "R's goal is T's goal and control 0"
+-- "Helpers at rest means A, B and control at 0", and the holds: the state of R that has a source state's values, and its helpers at rest
+abbrev pub helpersAtRest : ℕ → State → State
+helpersAtRest holds x = record { values = x .values ++ restingHelpers holds; modes = x .modes ++ (0 ∷ []) }
+
+-- A, B and the holds start at 0; control starts at 0, "its size being 1 plus the count of all stages"; "R's goal is T's goal and control 0"
 abbrev pub lowerTask : SourceTask → RestrictedTask
 lowerTask t = record {
-  starts = sourceStart t .values ++ (pos 0 ∷ pos 0 ∷ []);
+  starts = sourceStart t .values ++ restingHelpers (holdCount (t .actions));
   modes = t .modes ++ ((suc (stageCount (lowerBounds t) (upperBounds t) (t .actions)), 0) ∷ []);
   actions = loweredActions (length (t .variables)) (length (t .modes)) (lowerBounds t) (upperBounds t) (t .actions);
   goalModes = t .goalModes ++ ((length (t .modes), 0) ∷ []);

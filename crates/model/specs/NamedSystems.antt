@@ -7,12 +7,12 @@ use mathlib.Core.Option.{Option, none, some}
 use mathlib.Core.List.{List, [], _∷_}
 use lib.Dec.{eqb}
 use lib.ListN.{getElem?}
-use lib.IntN.{ℤ, pos, natAbs}
+use lib.IntN.{ℤ, natAbs}
 use Rattle.model.specs.Systems.{bind, orZero, provided}
 use Rattle.model.specs.Tasks.{SourceAction, State}
-use Rattle.model.specs.Steps.{integerAt, naturalAt, conditionsHold, modesHold, result, withinBounds}
+use Rattle.model.specs.Steps.{integerAt, naturalAt, conditionsHold, modesHold, withinBounds, results}
 use Rattle.model.specs.Stages.{Name, NamedAction, Stage, stagesOf}
-use Rattle.model.specs.Expansion.{plus, namedValues, unitsIn, afterStrokes, afterStage, openedValues, stageStepsOver, deadEndStepsOver, priceOver}
+use Rattle.model.specs.Expansion.{plus, unitsIn, afterStrokes, afterStage, openedValues, stageStepsOver, deadEndStepsOver, priceOver, restingValues}
 
 -- ---- mode effects: mode and value, each mode at most once
 abbrev pub modeEffectOn : List (ℕ × ℕ) → ℕ → Option ℕ
@@ -52,26 +52,29 @@ pub record NamedSource : Type 0 where
 abbrev pub byName : State → NamedSource
 byName x = record { value = integerAt (x .values); mode = naturalAt (x .modes) }
 
-abbrev pub store : Option (ℕ × ℤ) → (ℕ → ℤ) → ℕ → ℤ
-store none v j = v j
-store (some p) v j = cond (eqb (p .0) j) (p .1) (v j)
+abbrev pub updated : ℕ → ℤ → (ℕ → ℤ) → ℕ → ℤ
+updated t z v j = cond (eqb t j) z (v j)
+
+abbrev pub store : List (ℕ × ℤ) → (ℕ → ℤ) → ℕ → ℤ
+store [] v = v
+store (p ∷ ps) v = store ps (updated (p .0) (p .1) v)
 
 abbrev pub conditionsMet : SourceAction → NamedSource → Bool
 conditionsMet a s = modesHold (a .modeConditions) (s .mode) && conditionsHold (a .conditions) (s .value)
 
 abbrev pub afterAction : SourceAction → NamedSource → NamedSource
-afterAction a s = record { value = store (result (a .effect) (s .value)) (s .value); mode = setModes (a .modeEffects) (s .mode) }
+afterAction a s = record { value = store (results (a .effects) (s .value)) (s .value); mode = setModes (a .modeEffects) (s .mode) }
 
 module _ (lower upper : ℕ → ℤ) where
   abbrev pub tryNamedSource : NamedSource → SourceAction → Option NamedSource
-  tryNamedSource s a = provided (conditionsMet a s && withinBounds lower upper (result (a .effect) (s .value))) (afterAction a s)
+  tryNamedSource s a = provided (conditionsMet a s && withinBounds lower upper (results (a .effects) (s .value))) (afterAction a s)
 
   abbrev pub stepNamedSource : List SourceAction → NamedSource → ℕ → Option NamedSource
   stepNamedSource acts s k = bind (getElem? acts k) (tryNamedSource s)
 
 -- a source state with its helpers at rest
 abbrev pub atRest : NamedSource → NamedState
-atRest s = record { value = namedValues (s .value) (pos 0) (pos 0); mode = s .mode; control = 0 }
+atRest s = record { value = restingValues (s .value); mode = s .mode; control = 0 }
 
 -- ---- a walk through stages: whether every turn's further conditions hold, where it ends, and how long it is
 abbrev pub passes : List Stage → (Name → ℤ) → Bool
@@ -106,7 +109,7 @@ module _ (lower upper : ℕ → ℤ) (acts : List SourceAction) where
   deadEndSteps s = deadEndStepsOver lower upper acts (s .value)
 
   abbrev pub deadEndPrice : NamedSource → ℕ → ℕ
-  deadEndPrice s k = orZero (getElem? acts k) (λ a. priceToDeadEnd (stagesOf lower upper (a .effect)) (entered a s))
+  deadEndPrice s k = orZero (getElem? acts k) (λ a. priceToDeadEnd (stagesOf lower upper (a .effects)) (entered a s))
 
 -- the price of the step
 abbrev pub priceAt : List SourceAction → NamedSource → ℕ → ℕ

@@ -28,10 +28,12 @@ pub record Counts : Type 0 where
   pub modeConditions : ℕ
   pub numericEffects : ℕ
 
--- what the action has touched: 1 at each mode that has its effect, 1 at each variable that stands in a T or a +
+-- what the action has touched: 1 at each mode that has its effect, at each variable that is the target of a numeric effect, and at each
+-- variable that stands in a T of the last L
 pub record Marks : Type 0 where
   pub modesSet : List ℕ
-  pub variablesSeen : List ℕ
+  pub targetsSeen : List ℕ
+  pub termsSeen : List ℕ
 
 -- `terms`: 0 where no T may stand, else 1 plus the T's since their L
 pub record ReadingState : Type 0 where
@@ -80,7 +82,7 @@ abbrev pub noneCounted : Counts
 noneCounted = record { conditions = 0; modeConditions = 0; numericEffects = 0 }
 
 abbrev pub noneMarked : Marks
-noneMarked = record { modesSet = noModes; variablesSeen = noVariables }
+noneMarked = record { modesSet = noModes; targetsSeen = noVariables; termsSeen = noVariables }
 
 -- ---- one more of each
 abbrev pub oneVariable : Declarations → Declarations
@@ -99,10 +101,14 @@ abbrev pub oneNumericEffect : Counts → Counts
 oneNumericEffect c = record { conditions = c .conditions; modeConditions = c .modeConditions; numericEffects = c .numericEffects + 1 }
 
 abbrev pub markMode : Marks → ℕ → Marks
-markMode m mode = record { modesSet = set (m .modesSet) mode 1; variablesSeen = m .variablesSeen }
+markMode m mode = record { modesSet = set (m .modesSet) mode 1; targetsSeen = m .targetsSeen; termsSeen = m .termsSeen }
 
-abbrev pub markVariable : Marks → ℕ → Marks
-markVariable m variable = record { modesSet = m .modesSet; variablesSeen = set (m .variablesSeen) variable 1 }
+-- the target of a numeric effect, of which no T is read yet
+abbrev pub markTarget : Marks → ℕ → Marks
+markTarget m target = record { modesSet = m .modesSet; targetsSeen = set (m .targetsSeen) target 1; termsSeen = noVariables }
+
+abbrev pub markTerm : Marks → ℕ → Marks
+markTerm m variable = record { modesSet = m .modesSet; targetsSeen = m .targetsSeen; termsSeen = set (m .termsSeen) variable 1 }
 
 -- ---- the state before the first command, and after each
 abbrev pub begin : ReadingState
@@ -136,14 +142,10 @@ withModeCondition p = inside p 0 (oneModeCondition (p .counts)) (p .marks)
 abbrev pub withModeEffect : ReadingState → ℕ → ReadingState
 withModeEffect p m = inside p 0 (p .counts) (markMode (p .marks) m)
 
--- a numeric effect, after which `terms` is as given
-abbrev pub withNumericEffect : ReadingState → ℕ → ReadingState
-withNumericEffect p terms = inside p terms (oneNumericEffect (p .counts)) (p .marks)
-
--- a + on variable v
-abbrev pub withAdd : ReadingState → ℕ → ReadingState
-withAdd p v = inside p 0 (oneNumericEffect (p .counts)) (markVariable (p .marks) v)
+-- a numeric effect on variable t, after which `terms` is as given
+abbrev pub withNumericEffect : ReadingState → ℕ → ℕ → ReadingState
+withNumericEffect p t terms = inside p terms (oneNumericEffect (p .counts)) (markTarget (p .marks) t)
 
 -- a T on variable v
 abbrev pub withTerm : ReadingState → ℕ → ReadingState
-withTerm p v = inside p (p .terms + 1) (p .counts) (markVariable (p .marks) v)
+withTerm p v = inside p (p .terms + 1) (p .counts) (markTerm (p .marks) v)

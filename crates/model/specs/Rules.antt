@@ -16,7 +16,7 @@ use Rattle.commands.specs.declared.Command.the-variants.{Variable, Start, Mode,
 use Rattle.commands.specs.declared.Command.the-variants.{Residue, Goal, End, Refused}
 use Rattle.model.specs.Limits.{Limits}
 use Rattle.model.specs.ReadingState.{inDeclarations, inAction, inGoal, ReadingState, Taken, stop, goOn, finish, rule, opened, withVariable, withMode}
-use Rattle.model.specs.ReadingState.{withCondition, withModeCondition, withModeEffect, withNumericEffect, withAdd, withTerm}
+use Rattle.model.specs.ReadingState.{withCondition, withModeCondition, withModeEffect, withNumericEffect, withTerm}
 
 abbrev pub isOneOf : ℕ → List ℕ → Bool
 isOneOf b [] = false
@@ -54,6 +54,12 @@ noVariable p v = leb (p .declared .variables) v
 abbrev pub noMode : ReadingState → ℕ → Bool
 noMode p m = leb (p .declared .modes) m
 
+abbrev pub alreadyTarget : ReadingState → ℕ → Bool
+alreadyTarget p t = leb 1 (getD (p .marks .targetsSeen) t 0)
+
+abbrev pub noRoom : Limits → ReadingState → Bool
+noRoom l p = leb (l .numericEffects) (p .counts .numericEffects)
+
 abbrev pub notBelowSize : ReadingState → ℕ → ℕ → Bool
 notBelowSize p m x = leb (getD (p .declared .sizes) m 0) x
 
@@ -81,30 +87,24 @@ testsOf l p (Condition v r k) =
 testsOf l p (ModeCondition m x) = (leb (l .modeConditions) (p .counts .modeConditions), 4) ∷ (noMode p m, 5) ∷ (notBelowSize p m x, 5) ∷ []
 -- E mode value. 5: as of P. 7: a second effect on the mode
 testsOf l p (ModeEffect m x) = (noMode p m, 5) ∷ (notBelowSize p m x, 5) ∷ (leb 1 (getD (p .marks .modesSet) m 0), 7) ∷ []
--- + var c. 4: one too many in a restricted action. 5: no such variable. 6: c is 0 or out of range.
--- 7: a second numeric effect in a source action, the variable a second time in a restricted one
+-- + var c. 4: one numeric effect too many. 5: no such variable. 6: c is 0 or out of range. 7: a target named twice
 testsOf l p (Add v k) =
-    (cond (l .restricted) (leb (l .additions) (p .counts .numericEffects)) false, 4)
-    ∷ (noVariable p v, 5)
-    ∷ (isZero (constant k), 6)
-    ∷ (outside l (constant k), 6)
-    ∷ (cond (l .restricted) (leb 1 (getD (p .marks .variablesSeen) v 0)) (leb 1 (p .counts .numericEffects)), 7)
-    ∷ []
--- L target w0. 5: no such variable. 6: out of range. 7: a second numeric effect
-testsOf l p (Linear t k) = (noVariable p t, 5) ∷ (outside l (constant k), 6) ∷ (leb 1 (p .counts .numericEffects), 7) ∷ []
+    (noRoom l p, 4) ∷ (noVariable p v, 5) ∷ (isZero (constant k), 6) ∷ (outside l (constant k), 6) ∷ (alreadyTarget p v, 7) ∷ []
+-- L target w0. 4: one numeric effect too many. 5: no such variable. 6: out of range. 7: a target named twice
+testsOf l p (Linear t k) = (noRoom l p, 4) ∷ (noVariable p t, 5) ∷ (outside l (constant k), 6) ∷ (alreadyTarget p t, 7) ∷ []
 -- T var weight. 4: a fifth. 5: no such variable. 6: the weight is 0 or out of range. 7: the variable a second time
 testsOf l p (Term v k) =
     (ltb (l .terms) (p .terms), 4)
     ∷ (noVariable p v, 5)
     ∷ (isZero (constant k), 6)
     ∷ (outside l (constant k), 6)
-    ∷ (leb 1 (getD (p .marks .variablesSeen) v 0), 7)
+    ∷ (leb 1 (getD (p .marks .termsSeen) v 0), 7)
     ∷ []
--- Q and R, target operand c. 5: no such variable. 6: c is 0 or out of range. 7: a second numeric effect
+-- Q and R, target operand c. 4: one numeric effect too many. 5: no such variable. 6: c is 0 or out of range. 7: a target named twice
 testsOf l p (Quotient t y k) =
-    (noVariable p t, 5) ∷ (noVariable p y, 5) ∷ (isZero (constant k), 6) ∷ (outside l (constant k), 6) ∷ (leb 1 (p .counts .numericEffects), 7) ∷ []
+    (noRoom l p, 4) ∷ (noVariable p t, 5) ∷ (noVariable p y, 5) ∷ (isZero (constant k), 6) ∷ (outside l (constant k), 6) ∷ (alreadyTarget p t, 7) ∷ []
 testsOf l p (Residue t y k) =
-    (noVariable p t, 5) ∷ (noVariable p y, 5) ∷ (isZero (constant k), 6) ∷ (outside l (constant k), 6) ∷ (leb 1 (p .counts .numericEffects), 7) ∷ []
+    (noRoom l p, 4) ∷ (noVariable p t, 5) ∷ (noVariable p y, 5) ∷ (isZero (constant k), 6) ∷ (outside l (constant k), 6) ∷ (alreadyTarget p t, 7) ∷ []
 testsOf l p Goal = []
 testsOf l p End = []
 -- the byte is no command's (1), or the file ends inside the operands (2)
@@ -119,11 +119,11 @@ nextOf p Action = opened p inAction (p .actions + 1)
 nextOf p (Condition v r k) = withCondition p
 nextOf p (ModeCondition m x) = withModeCondition p
 nextOf p (ModeEffect m x) = withModeEffect p m
-nextOf p (Add v k) = withAdd p v
-nextOf p (Linear t k) = withNumericEffect p 1
+nextOf p (Add v k) = withNumericEffect p v 0
+nextOf p (Linear t k) = withNumericEffect p t 1
 nextOf p (Term v k) = withTerm p v
-nextOf p (Quotient t y k) = withNumericEffect p 0
-nextOf p (Residue t y k) = withNumericEffect p 0
+nextOf p (Quotient t y k) = withNumericEffect p t 0
+nextOf p (Residue t y k) = withNumericEffect p t 0
 nextOf p Goal = opened p inGoal (p .actions)
 nextOf p End = p
 nextOf p (Refused number) = p

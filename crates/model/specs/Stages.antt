@@ -2,7 +2,7 @@
 -- numbers in R's file come in Lowering. Control is kept apart from the source's modes.
 -- Assumes nothing.
 use Prim.Native.Nat.{ℕ, zero, suc, _+_, _-_}
-use mathlib.Core.Bool.{cond}
+use mathlib.Core.Bool.{Bool, true, false, cond}
 use mathlib.Core.Option.{Option, none, some}
 use mathlib.Core.List.{List, [], _∷_, _++_}
 use lib.ListN.{length}
@@ -11,10 +11,11 @@ use lib.IntN.{ℤ, pos, negsuc, negℤ, _-ℤ_}
 use lib.Signed.{ltZ}
 use Rattle.integers.specs.Division.{unitLess, sign}
 use Rattle.integers.specs.Relation.{Relation, atMost, atLeast}
-use Rattle.model.specs.Tasks.{Measured, variable, weightedSum, NumericCondition, Effect, noEffect}
-use Rattle.model.specs.Tasks.{addEffect, linearEffect, quotientEffect, residueEffect, SourceAction}
+use Rattle.model.specs.Tasks.{Measured, variable, weightedSum, NumericCondition, Effect, addEffect, linearEffect, quotientEffect, residueEffect}
+use Rattle.model.specs.Tasks.{SourceAction}
+use Rattle.model.specs.Steps.{target}
 
--- R's variables by name: the source's, then A and B. (A hold is room for a further helper; no lowering has one.)
+-- R's variables by name: the source's, then A and B, then the holds
 pub data Name : Type 0 where
   source : ℕ → Name
   helperA : Name
@@ -149,21 +150,66 @@ clear t = unitStage (source t) ((source t, negsuc 0) ∷ []) []
 abbrev pub move : ℕ → Name → ℤ → ℤ → Stage
 move t from lower upper = unitStage from ((source t, pos 1) ∷ (from, negsuc 0) ∷ []) (when (source t) atLeast lower ∷ when (source t) atMost upper ∷ [])
 
+-- "a Move without bound test into the next hold": hold j; its turn enters the next effect's stages, and adds what that takes
+abbrev pub moveToHold : ℕ → Name → List (Name × ℤ) → Stage
+moveToHold j from entering =
+    record { counter = from; kind = byOne; additions = (from, negsuc 0) ∷ (hold j, pos 1) ∷ []; turnConditions = []; turnAdditions = entering }
+
 -- "for each term of L: Drain, Refill"
 abbrev pub drainTerms : List (ℕ × ℤ) → List Stage → List Stage
 drainTerms [] rest = rest
 drainTerms (t ∷ ts) rest = drain (t .0) (t .1) ∷ refill (t .0) ∷ drainTerms ts rest
 
+-- an effect's stages before Clear, in front of others; "such an action treats + as L with weight 1"
+abbrev pub resultStages : Effect → List Stage → List Stage
+resultStages (addEffect t c) rest = drainTerms ((t, pos 1) ∷ []) rest
+resultStages (linearEffect t w ts) rest = drainTerms ts rest
+resultStages (quotientEffect t y c) rest = drain y (pos 1) ∷ refill y ∷ divide c ∷ empty helperA ∷ rest
+resultStages (residueEffect t y c) rest = drain y (pos 1) ∷ refill y ∷ divide c ∷ empty helperB ∷ rest
+
+-- where they leave the result. "Move (Q: from B, else from A ..)"
+abbrev pub resultIn : Effect → Name
+resultIn (addEffect t c) = helperA
+resultIn (linearEffect t w ts) = helperA
+resultIn (quotientEffect t y c) = helperB
+resultIn (residueEffect t y c) = helperA
+
 -- ---- openings and single actions
--- what the first restricted action adds: c, or "A += w0 where w0 is not 0"
-abbrev pub openingAdditions : Effect → List (Name × ℤ)
-openingAdditions noEffect = []
-openingAdditions (addEffect t c) = (source t, c) ∷ []
-openingAdditions (linearEffect t (pos zero) ts) = []
-openingAdditions (linearEffect t (pos (suc n)) ts) = (helperA, pos (suc n)) ∷ []
-openingAdditions (linearEffect t (negsuc n) ts) = (helperA, negsuc n) ∷ []
-openingAdditions (quotientEffect t y c) = []
-openingAdditions (residueEffect t y c) = []
+-- "A += w0 where w0 is not 0"
+abbrev pub addToA : ℤ → List (Name × ℤ)
+addToA (pos zero) = []
+addToA (pos (suc n)) = (helperA, pos (suc n)) ∷ []
+addToA (negsuc n) = (helperA, negsuc n) ∷ []
+
+-- "the action that enters an effect's stages adds its w0 to A"; of + "w0 = c"
+abbrev pub enteringAdditions : Effect → List (Name × ℤ)
+enteringAdditions (addEffect t c) = addToA c
+enteringAdditions (linearEffect t w ts) = addToA w
+enteringAdditions (quotientEffect t y c) = []
+enteringAdditions (residueEffect t y c) = []
+
+-- of a single effect: + adds to its target at once
+abbrev pub singleAdditions : Effect → List (Name × ℤ)
+singleAdditions (addEffect t c) = (source t, c) ∷ []
+singleAdditions (linearEffect t w ts) = addToA w
+singleAdditions (quotientEffect t y c) = []
+singleAdditions (residueEffect t y c) = []
+
+-- what the first restricted action adds
+abbrev pub openingAdditions : List Effect → List (Name × ℤ)
+openingAdditions [] = []
+openingAdditions (e ∷ []) = singleAdditions e
+openingAdditions (e ∷ f ∷ es) = enteringAdditions e
+
+-- behind an effect's stages: what entering the next one's adds
+abbrev pub nextAdditions : List Effect → List (Name × ℤ)
+nextAdditions [] = []
+nextAdditions (e ∷ es) = enteringAdditions e
+
+-- "Effect by effect it runs that effect's stages before Clear, then a Move .. into the next hold, from the first on": hold j on, in front of others
+abbrev pub holdStages : ℕ → List Effect → List Stage → List Stage
+holdStages j [] rest = rest
+holdStages j (e ∷ es) rest = resultStages e (moveToHold j (resultIn e) (nextAdditions es) ∷ holdStages (suc j) es rest)
 
 -- the source's conditions, over R's variables
 abbrev pub onSourceTerms : List (ℕ × ℤ) → List (Name × ℤ)
@@ -184,49 +230,67 @@ later none = none
 later (some a) = some (suc a)
 
 module _ (lower upper : ℕ → ℤ) where
-  -- the stages of an effect, in order; none where the action stays one action
-  abbrev pub stagesOf : Effect → List Stage
-  stagesOf noEffect = []
-  stagesOf (addEffect t c) = []
-  stagesOf (linearEffect t w ts) = drainTerms ts (clear t ∷ move t helperA (lower t) (upper t) ∷ [])
-  stagesOf (quotientEffect t y c) = drain y (pos 1) ∷ refill y ∷ divide c ∷ empty helperA ∷ clear t ∷ move t helperB (lower t) (upper t) ∷ []
-  stagesOf (residueEffect t y c) = drain y (pos 1) ∷ refill y ∷ divide c ∷ empty helperB ∷ clear t ∷ move t helperA (lower t) (upper t) ∷ []
+  -- Clear, and Move with its bound test
+  abbrev pub setStages : Name → ℕ → List Stage → List Stage
+  setStages from t rest = clear t ∷ move t from (lower t) (upper t) ∷ rest
+
+  -- "Then each target in file order gets Clear and a Move from its hold, with its bound test"
+  abbrev pub unloadStages : ℕ → List Effect → List Stage
+  unloadStages j [] = []
+  unloadStages j (e ∷ es) = setStages (hold j) (target e) (unloadStages (suc j) es)
+
+  -- the stages of a single effect, in order; none where the action stays one action
+  abbrev pub singleStages : Effect → List Stage
+  singleStages (addEffect t c) = []
+  singleStages (linearEffect t w ts) = resultStages (linearEffect t w ts) (setStages helperA t [])
+  singleStages (quotientEffect t y c) = resultStages (quotientEffect t y c) (setStages helperB t [])
+  singleStages (residueEffect t y c) = resultStages (residueEffect t y c) (setStages helperA t [])
+
+  -- the stages of an action's effects, in order
+  abbrev pub stagesOf : List Effect → List Stage
+  stagesOf [] = []
+  stagesOf (e ∷ []) = singleStages e
+  stagesOf (e ∷ f ∷ es) = holdStages 0 (e ∷ f ∷ es) (unloadStages 0 (e ∷ f ∷ es))
 
   -- "with one bound more: c > 0 variable ≤ upper − c; c < 0 variable ≥ lower − c"
-  abbrev pub addedBound : Effect → List (NumericCondition Name)
-  addedBound noEffect = []
-  addedBound (addEffect t c) = cond (ltZ (pos 0) c) (when (source t) atMost (upper t -ℤ c)) (when (source t) atLeast (lower t -ℤ c)) ∷ []
-  addedBound (linearEffect t w ts) = []
-  addedBound (quotientEffect t y c) = []
-  addedBound (residueEffect t y c) = []
+  abbrev pub singleBound : Effect → List (NumericCondition Name)
+  singleBound (addEffect t c) = cond (ltZ (pos 0) c) (when (source t) atMost (upper t -ℤ c)) (when (source t) atLeast (lower t -ℤ c)) ∷ []
+  singleBound (linearEffect t w ts) = []
+  singleBound (quotientEffect t y c) = []
+  singleBound (residueEffect t y c) = []
+
+  abbrev pub addedBound : List Effect → List (NumericCondition Name)
+  addedBound [] = []
+  addedBound (e ∷ []) = singleBound e
+  addedBound (e ∷ f ∷ es) = []
 
   -- the single action or the opening of a source action, its stages, if any, being numbered from s
   abbrev pub openingAction : ℕ → SourceAction → NamedAction
   openingAction s a = record {
     control = zero;
     modeConditions = a .modeConditions;
-    conditions = onSourceVariables (a .conditions) ++ addedBound (a .effect);
+    conditions = onSourceVariables (a .conditions) ++ addedBound (a .effects);
     modeEffects = a .modeEffects;
-    nextControl = firstStage s (stagesOf (a .effect));
-    additions = openingAdditions (a .effect);
+    nextControl = firstStage s (stagesOf (a .effects));
+    additions = openingAdditions (a .effects);
   }
 
   abbrev pub macro : ℕ → SourceAction → List NamedAction
-  macro s a = openingAction s a ∷ stagesActions s (stagesOf (a .effect))
+  macro s a = openingAction s a ∷ stagesActions s (stagesOf (a .effects))
 
   -- "What one source action becomes stands together, in source order." Stages are numbered from s, which is 1 for a whole task
   abbrev pub lowerActions : ℕ → List SourceAction → List NamedAction
   lowerActions s [] = []
-  lowerActions s (a ∷ acts) = macro s a ++ lowerActions (s + length (stagesOf (a .effect))) acts
+  lowerActions s (a ∷ acts) = macro s a ++ lowerActions (s + length (stagesOf (a .effects))) acts
 
   -- "the count of all stages"
   abbrev pub stageCount : List SourceAction → ℕ
   stageCount [] = zero
-  stageCount (a ∷ acts) = length (stagesOf (a .effect)) + stageCount acts
+  stageCount (a ∷ acts) = length (stagesOf (a .effects)) + stageCount acts
 
   -- ---- the number in R of the opening or single action of source action k; and back, none for an action of a stage
   abbrev pub macroSize : SourceAction → ℕ
-  macroSize a = suc (countActions (stagesOf (a .effect)))
+  macroSize a = suc (countActions (stagesOf (a .effects)))
 
   abbrev pub opening : List SourceAction → ℕ → ℕ
   opening [] k = k
@@ -237,3 +301,14 @@ module _ (lower upper : ℕ → ℤ) where
   sourceNumber [] k = none
   sourceNumber (a ∷ acts) zero = some zero
   sourceNumber (a ∷ acts) (suc k) = cond (ltb (suc k) (macroSize a)) none (later (sourceNumber acts (suc k - macroSize a)))
+
+-- ---- the holds
+abbrev pub several : List Effect → Bool
+several [] = false
+several (e ∷ []) = false
+several (e ∷ f ∷ es) = true
+
+-- "Where some action has two or more, R gains three holds"
+abbrev pub holdCount : List SourceAction → ℕ
+holdCount [] = zero
+holdCount (a ∷ acts) = cond (several (a .effects)) 3 (holdCount acts)

@@ -1,8 +1,8 @@
 -- Document 01, "What a step does", for both kinds of task.
 -- Assumes nothing.
-use Prim.Native.Nat.{ℕ, zero, suc}
+use Prim.Native.Nat.{ℕ, suc}
 use mathlib.Core.Bool.{Bool, true, _&&_}
-use mathlib.Core.Option.{Option, none, some}
+use mathlib.Core.Option.{Option}
 use mathlib.Core.List.{List, [], _∷_, map}
 use lib.ListN.{getElem?, getD, set}
 use lib.Dec.{eqb, ltb}
@@ -10,7 +10,7 @@ use lib.Signed.{leZ}
 use lib.IntN.{ℤ, pos, _+ℤ_, _*ℤ_}
 use Rattle.integers.specs.Division.{quotientOf, residueOf}
 use Rattle.integers.specs.Relation.{related, withinLimit}
-use Rattle.model.specs.Tasks.{Measured, variable, weightedSum, NumericCondition, Effect, noEffect, addEffect, linearEffect, quotientEffect, residueEffect}
+use Rattle.model.specs.Tasks.{Measured, variable, weightedSum, NumericCondition, Effect, addEffect, linearEffect, quotientEffect, residueEffect}
 use Rattle.model.specs.Tasks.{SourceAction, RestrictedAction, SourceVariable, SourceTask, RestrictedTask, State}
 use Rattle.model.specs.Systems.{bind, provided, guarded}
 
@@ -40,8 +40,8 @@ abbrev pub modesHold : List (ℕ × ℕ) → (ℕ → ℕ) → Bool
 modesHold [] m = true
 modesHold (p ∷ ps) m = eqb (m (p .0)) (p .1) && modesHold ps m
 
--- E: the modes as the mode effects leave them
-abbrev pub setAll : List (ℕ × ℕ) → List ℕ → List ℕ
+-- values set by number: the modes as the E leave them, the variables as the numeric effects do
+abbrev pub setAll : {A : Type 0} → List (ℕ × A) → List A → List A
 setAll [] l = l
 setAll (e ∷ es) l = setAll es (set l (e .0) (e .1))
 
@@ -51,32 +51,38 @@ abbrev pub linear : ℤ → List (ℕ × ℤ) → (ℕ → ℤ) → ℤ
 linear w [] v = w
 linear w (t ∷ ts) v = linear (w +ℤ v (t .0) *ℤ t .1) ts v
 
--- the target of an effect and its value after the step, from the values before. "Q gives q, R gives r"
-abbrev pub result : Effect → (ℕ → ℤ) → Option (ℕ × ℤ)
-result noEffect v = none
-result (addEffect t c) v = some (t, v t +ℤ c)
-result (linearEffect t w ts) v = some (t, linear w ts v)
-result (quotientEffect t y c) v = some (t, quotientOf (v y) c)
-result (residueEffect t y c) v = some (t, residueOf (v y) c)
+abbrev pub target : Effect → ℕ
+target (addEffect t c) = t
+target (linearEffect t w ts) = t
+target (quotientEffect t y c) = t
+target (residueEffect t y c) = t
 
--- "its result is within the target's bounds"
-abbrev pub withinBounds : (ℕ → ℤ) → (ℕ → ℤ) → Option (ℕ × ℤ) → Bool
-withinBounds lower upper none = true
-withinBounds lower upper (some p) = leZ (lower (p .0)) (p .1) && leZ (p .1) (upper (p .0))
+-- the target's value after the step, from the values before. "Q gives q, R gives r"
+abbrev pub result : Effect → (ℕ → ℤ) → ℤ
+result (addEffect t c) v = v t +ℤ c
+result (linearEffect t w ts) v = linear w ts v
+result (quotientEffect t y c) v = quotientOf (v y) c
+result (residueEffect t y c) v = residueOf (v y) c
 
-abbrev pub putResult : Option (ℕ × ℤ) → List ℤ → List ℤ
-putResult none l = l
-putResult (some p) l = set l (p .0) (p .1)
+-- "all reading the state before"
+abbrev pub results : List Effect → (ℕ → ℤ) → List (ℕ × ℤ)
+results [] v = []
+results (e ∷ es) v = (target e, result e v) ∷ results es v
+
+-- "its result is within the target's bounds", each of them
+abbrev pub withinBounds : (ℕ → ℤ) → (ℕ → ℤ) → List (ℕ × ℤ) → Bool
+withinBounds lower upper [] = true
+withinBounds lower upper (p ∷ ps) = (leZ (lower (p .0)) (p .1) && leZ (p .1) (upper (p .0))) && withinBounds lower upper ps
 
 -- "An action applies where its conditions hold and its result is within the target's bounds; otherwise it doesn't apply. Mode effects and
--- the numeric effect read the state before."
+-- the numeric effects read the state before."
 module _ (lower upper : ℕ → ℤ) where
   abbrev pub trySource : State → SourceAction → Option State
   trySource x a =
       provided
       (modesHold (a .modeConditions) (naturalAt (x .modes)) && conditionsHold (a .conditions) (integerAt (x .values))
-      && withinBounds lower upper (result (a .effect) (integerAt (x .values))))
-      (record { values = putResult (result (a .effect) (integerAt (x .values))) (x .values); modes = setAll (a .modeEffects) (x .modes) })
+      && withinBounds lower upper (results (a .effects) (integerAt (x .values))))
+      (record { values = setAll (results (a .effects) (integerAt (x .values))) (x .values); modes = setAll (a .modeEffects) (x .modes) })
 
   abbrev pub sourceStep : List SourceAction → State → ℕ → Option State
   sourceStep acts x k = bind (getElem? acts k) (trySource x)

@@ -1,26 +1,20 @@
 -- What a file is held to, said of its task, over the limits of the kind of file: counts within the limits, references declared, values below sizes,
--- constants in range, one effect a mode, one T and one restricted + a variable.
+-- constants in range, one effect a mode, one T of an L and one numeric effect a variable.
 -- Assumes nothing.
-use mathlib.Core.Path.{_≡_}
 use Prim.Native.Nat.{ℕ, _<_, _≤_}
-use mathlib.Core.List.{List, [], _∷_, map}
-use lib.Dec.{T, eqb}
+use mathlib.Core.List.{List, map}
+use lib.Dec.{T}
 use lib.IntN.{ℤ, natAbs}
-use mathlib.Core.Bool.{false}
 use lib.ListN.{length}
 use lib.Signed.{leZ}
 use Rattle.integers.specs.All.{All}
 use Rattle.integers.specs.Relation.{relationNumber}
-use Rattle.model.specs.Tasks.{NumericCondition, Effect, noEffect, addEffect, linearEffect, quotientEffect, residueEffect, SourceAction, RestrictedAction}
+use Rattle.model.specs.Tasks.{NumericCondition, Effect, addEffect, linearEffect, quotientEffect, residueEffect, SourceAction, RestrictedAction}
 use Rattle.model.specs.Tasks.{SourceTask, RestrictedTask, SourceVariable}
 use Rattle.model.specs.Steps.{naturalAt, sizesOf}
 use Rattle.model.specs.Limits.{Limits, sourceLimits, restrictedLimits}
-use Rattle.model.specs.InTask.{MeasureIn}
-
--- no number twice
-abbrev pub Distinct : List ℕ → Type 0
-Distinct [] = Unit {0}
-Distinct (k ∷ ks) = All (λ (j : ℕ). eqb j k ≡ false) ks × Distinct ks
+use Rattle.model.specs.InTask.{MeasureIn, targets}
+pub use Rattle.model.specs.InTask.{Distinct}
 
 abbrev pub keys : {A : Type 0} → List (ℕ × A) → List ℕ
 keys es = map (λ e. e .0) es
@@ -66,7 +60,6 @@ abbrev pub TermsOk : Limits → ℕ → List (ℕ × ℤ) → Type 0
 TermsOk l n ts = All (AmountOk l n) ts × Distinct (keys ts)
 
 abbrev pub EffectOk : Limits → ℕ → Effect → Type 0
-EffectOk l n noEffect = Unit {0}
 EffectOk l n (addEffect t c) = (t < n) × Factor l c
 EffectOk l n (linearEffect t w ts) = (t < n) × InRange l w × (length ts ≤ l .terms) × TermsOk l n ts
 EffectOk l n (quotientEffect t y c) = (t < n) × (y < n) × Factor l c
@@ -76,7 +69,9 @@ pub record SourceActionOk (l : Limits) (n : ℕ) (sizes : List ℕ) (a : SourceA
   pub conditionsOk : ConditionsOk l n sizes (a .modeConditions) (a .conditions)
   pub modeEffectsIn : ValuesIn sizes (a .modeEffects)
   pub modeEffectsOnce : Distinct (keys (a .modeEffects))
-  pub effectOk : EffectOk l n (a .effect)
+  pub effectsFew : length (a .effects) ≤ l .numericEffects
+  pub effectsOk : All (EffectOk l n) (a .effects)
+  pub targetsOnce : Distinct (targets (a .effects))
 
 abbrev pub SourceVariableOk : Limits → SourceVariable → Type 0
 SourceVariableOk l b = InRange l (b .lower) × InRange l (b .upper) × T (leZ (b .lower) (b .start)) × T (leZ (b .start) (b .upper))
@@ -95,7 +90,7 @@ pub record RestrictedActionOk (l : Limits) (n : ℕ) (sizes : List ℕ) (a : Res
   pub conditionsOk : ConditionsOk l n sizes (a .modeConditions) (a .conditions)
   pub modeEffectsIn : ValuesIn sizes (a .modeEffects)
   pub modeEffectsOnce : Distinct (keys (a .modeEffects))
-  pub additionsFew : length (a .additions) ≤ l .additions
+  pub additionsFew : length (a .additions) ≤ l .numericEffects
   pub additionsIn : All (AmountOk l n) (a .additions)
   pub additionsOnce : Distinct (keys (a .additions))
 

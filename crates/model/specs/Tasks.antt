@@ -16,21 +16,20 @@ pub record NumericCondition (I : Type 0) : Type 0 where
   pub relation : Relation
   pub constant : ℤ
 
--- "At most one numeric effect per action." addEffect is +: target, c. linearEffect is L with its T: target, w0, (variable, weight) of each term.
--- quotientEffect is Q and residueEffect R: target, operand, c
+-- A numeric effect. addEffect is +: target, c. linearEffect is L with its T: target, w0, (variable, weight) of each term. quotientEffect is Q and
+-- residueEffect R: target, operand, c
 pub data Effect : Type 0 where
-  noEffect : Effect
   addEffect : ℕ → ℤ → Effect
   linearEffect : ℕ → ℤ → List (ℕ × ℤ) → Effect
   quotientEffect : ℕ → ℕ → ℤ → Effect
   residueEffect : ℕ → ℕ → ℤ → Effect
 
--- P and E are pairs of a mode and a value
+-- P and E are pairs of a mode and a value. "An action may have up to three numeric effects, on different targets, all reading the state before"
 pub record SourceAction : Type 0 where
   pub modeConditions : List (ℕ × ℕ)
   pub conditions : List (NumericCondition ℕ)
   pub modeEffects : List (ℕ × ℕ)
-  pub effect : Effect
+  pub effects : List Effect
 
 -- several + per action, each on another variable: pairs of a variable and what is added
 pub record RestrictedAction : Type 0 where

@@ -19,11 +19,12 @@ use Rattle.model.specs.Stages.{stagesOf, opening}
 use Rattle.model.specs.Expansion.{openedValues, stageWalk, stageStepsFrom}
 use Rattle.source_walk.specs.declared.Progress.the-variants.{Through, Stopped}
 use Rattle.source_step.specs.Ready.{numbersOf}
-use Rattle.source_step.specs.Table.{Table, declaredBy, takesBy, afterBy, effectBy, valuesBy, priceBy, RowsOf, Inside}
+use Rattle.source_step.specs.Table.{Table, declaredBy, takesBy, afterBy, effectsBy, valuesBy, priceBy, RowsOf, Inside}
 use Rattle.source_step.proofs.Tables.{step-agrees, inside-after}
 use Rattle.plan_strokes.specs.Strokes.{strokesOf, macroSteps}
 use Rattle.plan_strokes.specs.Opening.{Marked, Opened}
-use Rattle.plan_strokes.proofs.Walks.{walk-is, steps-length, price-is}
+use Rattle.plan_strokes.proofs.Prices.{price-is}
+use Rattle.plan_strokes.proofs.Walks.{walk-is, steps-length, targets-once}
 use Rattle.source_walk.specs.Walk.{Walk, firstPassing, walkFrom}
 use Rattle.plan_expand.specs.Expanding.{openingIn, Named, goesBy, numbersBy, expansionBy}
 
@@ -62,7 +63,7 @@ module _ (T : Table) where
       go false b w ih h = absurd (not-through 11 i h)
 
   numbers-long : (openings : List ℕ) (x : State) (k : ℕ) → length (numbersBy T openings x k) ≡ priceBy T x k
-  numbers-long openings x k = omega (arith, steps-length (openingIn openings k + 1) (strokesOf (effectBy T k) (valuesBy T x)), price-is (effectBy T k) (valuesBy T x))
+  numbers-long openings x k = omega (arith, steps-length (openingIn openings k + 1) (strokesOf (effectsBy T k) (valuesBy T x)), price-is (effectsBy T k) (valuesBy T x))
 
   -- its price is the length of the expansion
   pub walk-long : (openings p : List ℕ) (i price passing : ℕ) (x : State) → goesBy T p x ≡ true → walkFrom T true i price passing p x .price ≡ price + length (expansionBy T openings p x)
@@ -102,7 +103,7 @@ module _ (T : Table) where
   openings-alone openings [] x h = refl
   openings-alone openings (k ∷ ks) x h =
       let rest = expansionBy T openings ks (afterBy T x k) in
-      let behind = macroSteps (openingIn openings k + 1) (strokesOf (effectBy T k) (valuesBy T x)) in
+      let behind = macroSteps (openingIn openings k + 1) (strokesOf (effectsBy T k) (valuesBy T x)) in
       let l = length-append behind rest in
       let m = no-shorter openings ks (afterBy T x k) in
       ap₂ (λ (b r : List ℕ). openingIn openings k ∷ (b ++ r)) (nothing behind (omega (arith, h, l, m))) (openings-alone openings ks (afterBy T x k) (omega (arith, h, l, m)))
@@ -113,20 +114,20 @@ module _ {t : SourceTask} {T : Table} (R : RowsOf t T) (openings : List ℕ) (op
   expansion = expandFrom (stepSource t) (opening (lowerBounds t) (upperBounds t) (t .actions)) (stageStepsFrom (lowerBounds t) (upperBounds t) (t .actions))
 
   marked : (k : ℕ) → k < T .count → Marked (t .actions) (T .marks) k
-  marked k l = let r = R .ready .rowsAre k l in record { action = r .action; numbers = numbersOf (T .numbers) k; found = r .found; effect = r .row .effect }
+  marked k l = let r = R .ready .rowsAre k l in record { action = r .action; numbers = numbersOf (T .numbers) k; found = r .found; effects = r .row .effects }
 
   opening-is : (k : ℕ) → k < T .count → opening (lowerBounds t) (upperBounds t) (t .actions) k ≡ openingIn openings k
   opening-is k l = sym (opens .is (t .actions) marked (lowerBounds t) (upperBounds t) k (omega (arith, l)))
 
   -- what stands behind an opening, by its strokes
-  behind-is : (x : State) (k : ℕ) → k < T .count → stageStepsFrom (lowerBounds t) (upperBounds t) (t .actions) (declaredBy T x) k ≡ macroSteps (openingIn openings k + 1) (strokesOf (effectBy T k) (valuesBy T x))
+  behind-is : (x : State) (k : ℕ) → k < T .count → stageStepsFrom (lowerBounds t) (upperBounds t) (t .actions) (declaredBy T x) k ≡ macroSteps (openingIn openings k + 1) (strokesOf (effectsBy T k) (valuesBy T x))
   behind-is x k l =
       let r = R .ready .rowsAre k l in
       let o = opening (lowerBounds t) (upperBounds t) (t .actions) k in
       let v : ℕ → ℤ = valuesBy T x in
-      ap (λ (b : Option SourceAction). orEmpty b (λ a. stageWalk (suc o) (stagesOf (lowerBounds t) (upperBounds t) (a .effect)) (openedValues a v))) (r .found)
-      ∙ walk-is (lowerBounds t) (upperBounds t) (r .action) (suc o) v
-      ∙ ap₂ (λ (j : ℕ) (e : Effect). macroSteps j (strokesOf e v)) (sym (add-one o) ∙ ap (λ (j : ℕ). j + 1) (opening-is k l)) (sym (r .row .effect))
+      ap (λ (b : Option SourceAction). orEmpty b (λ a. stageWalk (suc o) (stagesOf (lowerBounds t) (upperBounds t) (a .effects)) (openedValues a v))) (r .found)
+      ∙ walk-is (lowerBounds t) (upperBounds t) (r .action) v (targets-once (R .ready .ok) k (r .action) (r .found)) (suc o)
+      ∙ ap₂ (λ (j : ℕ) (es : List Effect). macroSteps j (strokesOf es v)) (sym (add-one o) ∙ ap (λ (j : ℕ). j + 1) (opening-is k l)) (sym (r .row .effects))
 
   pub expansion-agrees : (p : List ℕ) (x : State) → Inside R x → goesBy T p x ≡ true
       → expandFrom (stepSource t) (opening (lowerBounds t) (upperBounds t) (t .actions)) (stageStepsFrom (lowerBounds t) (upperBounds t) (t .actions)) p (declaredBy T x) ≡ expansionBy T openings p x

@@ -19,7 +19,7 @@ use Rattle.lists.specs.declared.Written.the-variants.{Bytes, Refused}
 use Rattle.model.specs.Tasks.{State}
 use Rattle.model.specs.Plans.{planBytes}
 use Rattle.source_step.specs.Step.{state}
-use Rattle.source_step.specs.Row.{outcomeAt, staysIn, Finished}
+use Rattle.source_step.specs.Row.{staysIn, Finished}
 use Rattle.source_step.specs.Ready.{marksOf, numbersOf}
 use Rattle.source_step.specs.Table.{Table, heldBy, takesBy, afterBy, Usables}
 use Rattle.plan_strokes.specs.Opening.{Opened}
@@ -69,10 +69,10 @@ module _ {T : Table} {openings p : List ℕ} {x₀ : State} {old : List ℕ} {va
     applies = laws.applies T k (drop (i + 1) p) x here
 
     pub holds : heldBy T (state values modes) k ≡ true
-    holds = and-left (heldBy T x k) (staysIn (numbersOf (T .numbers) k) (outcomeAt (T .variables) (marksOf (T .marks) k) (numbersOf (T .numbers) k) values)) applies
+    holds = and-left (heldBy T x k) (staysIn (T .variables) (marksOf (T .marks) k) (numbersOf (T .numbers) k) values) applies
 
-    stays : staysIn (numbersOf (T .numbers) k) (outcomeAt (T .variables) (marksOf (T .marks) k) (numbersOf (T .numbers) k) values) ≡ true
-    stays = and-right (heldBy T x k) (staysIn (numbersOf (T .numbers) k) (outcomeAt (T .variables) (marksOf (T .marks) k) (numbersOf (T .numbers) k) values)) applies
+    stays : staysIn (T .variables) (marksOf (T .marks) k) (numbersOf (T .numbers) k) values ≡ true
+    stays = and-right (heldBy T x k) (staysIn (T .variables) (marksOf (T .marks) k) (numbersOf (T .numbers) k) values) applies
 
     parts : Left old 0 (planBytes (expansionBy T openings p x₀)) out place (planBytes (numbersBy T openings x k) ∷ planBytes (expansionBy T openings (drop (i + 1) p) (afterBy T x k)) ∷ [])
     unfolding expansionBy

@@ -13,8 +13,8 @@ use Rattle.lists.specs.declared.Written.{Written}
 use Rattle.lists.specs.declared.Written.the-variants.{Bytes, Refused}
 use Rattle.model.specs.Tasks.{State}
 use Rattle.model.specs.Plans.{planBytes}
-use Rattle.source_step.specs.Row.{outcomeAt, staysIn, valuesAfter, modesAfter}
-use Rattle.source_step.specs.Table.{Table, takesBy, afterBy, effectBy, valuesBy}
+use Rattle.source_step.specs.Row.{staysIn, valuesAfter, modesAfter}
+use Rattle.source_step.specs.Table.{Table, takesBy, afterBy, effectsBy, valuesBy}
 use Rattle.plan_strokes.specs.Strokes.{strokesOf, stepNumbers}
 use Rattle.plan_strokes.specs.Opening.{Opened}
 use Rattle.source_walk.specs.declared.Verdict.{Verdict}
@@ -39,8 +39,8 @@ Named p count = (i : ℕ) → i < length p → getD p i 0 < count
 
 -- ---- the rest of a step behind the test of its rows was taken, if it applies
 pub record TurnTaken (n m : ℕ) (marks : List ℕ) (numbers : List ℤ) (values : List ℤ) (modes : List ℕ) (values′ : List ℤ) (modes′ : List ℕ) : Type 0 where
-  pub valuesAre : staysIn numbers (outcomeAt n marks numbers values) ≡ true → values′ ≡ valuesAfter n marks numbers values
-  pub modesAre : staysIn numbers (outcomeAt n marks numbers values) ≡ true → modes′ ≡ modesAfter m marks modes
+  pub valuesAre : staysIn n marks numbers values ≡ true → values′ ≡ valuesAfter n marks numbers values
+  pub modesAre : staysIn n marks numbers values ≡ true → modes′ ≡ modesAfter m marks modes
 
 -- ---- plans, from a state on
 module _ (T : Table) where
@@ -51,7 +51,7 @@ module _ (T : Table) where
 
   -- the numbers that step k becomes
   abbrev pub numbersBy : List ℕ → State → ℕ → List ℕ
-  numbersBy openings x k = stepNumbers (openingIn openings k) (strokesOf (effectBy T k) (valuesBy T x))
+  numbersBy openings x k = stepNumbers (openingIn openings k) (strokesOf (effectsBy T k) (valuesBy T x))
 
   -- the expansion of a plan whose steps apply
   unfoldable pub expansionBy : List ℕ → List ℕ → State → List ℕ

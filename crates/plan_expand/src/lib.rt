@@ -1,6 +1,7 @@
 // Expanding: a source plan as a plan of the lowering.
 //
 // A plan is judged and priced first, then written, step by step, into output that the caller lends. It never writes what it refuses.
+use file_actions::EFFECTS;
 use lists::Written;
 use plan_strokes::ENTRIES;
 use plan_strokes::STAGES;
@@ -23,7 +24,7 @@ ghost use Rattle.model.specs.Judging.{expandBytes};
 ghost use Rattle.model.specs.Plans.{planBytes, planNumbers};
 ghost use Rattle.model.specs.Steps.{integerAt};
 ghost use Rattle.source_step.specs.Step.{state};
-ghost use Rattle.source_step.specs.Row.{effectAt, held, Usable};
+ghost use Rattle.source_step.specs.Row.{effectsAt, held, Usable};
 ghost use Rattle.source_step.specs.Table.{table, Usables};
 ghost use Rattle.plan_strokes.specs.Strokes.{strokesOf, stepNumbers};
 ghost use Rattle.plan_expand.specs.Expanding.{lengthOf, openingIn, OpeningsFew, Named, TurnTaken, goesBy, expansionBy, Expandable, ExpandedTo};
@@ -61,18 +62,18 @@ fn put_turn(
     requires { ⌜ (opening ≤ 65000) × (n ≤ VARIABLES) × (m ≤ MODES) × (length (now modes) ≡ MODES) × (length (now times) ≡ STAGES)
         × Usable n (now marks) (now numbers) ⌝ }
     requires { ⌜ held n m (now marks) (now numbers) (now values) (now modes) ≡ true ⌝ }
-    requires { ⌜ Room (now out) at (planBytes (stepNumbers opening (strokesOf (effectAt (now marks) (now numbers)) (integerAt (take n (now values)))))) ⌝ }
+    requires { ⌜ Room (now out) at (planBytes (stepNumbers opening (strokesOf (effectsAt (now marks) (now numbers)) (integerAt (take n (now values)))))) ⌝ }
     ensures { λ r. ⌜ Wrote (now (out .entry)) at (planBytes (stepNumbers opening
-        (strokesOf (effectAt (now (marks .entry)) (now (numbers .entry))) (integerAt (take n (now (values .entry)))))))
+        (strokesOf (effectsAt (now (marks .entry)) (now (numbers .entry))) (integerAt (take n (now (values .entry)))))))
         (now (out .exit)) r ⌝ }
     ensures { λ r. ⌜ TurnTaken n m (now (marks .entry)) (now (numbers .entry)) (now (values .entry)) (now (modes .entry))
         (now (values .exit)) (now (modes .exit)) ⌝ }
     ensures { λ r. ⌜ length (now (times .exit)) ≡ STAGES ⌝ }
 {
-    let count = plan_strokes::put_strokes(times, values, n, marks, numbers);
+    let mut results = [0i64; EFFECTS];
+    let count = plan_strokes::put_strokes(times, &mut results, values, n, marks, numbers);
     let place = plan_strokes::put_step(out, at, opening, times, count);
-    let result = plan_strokes::result_from(times, count, values, n, marks, numbers);
-    source_step::finish(values, modes, n, m, marks, numbers, result);
+    source_step::finish(values, modes, n, m, marks, numbers, &results);
     place
 }
 

@@ -25,11 +25,11 @@ there-below (a ∷ l) (suc k) h = there-below l k (omega arith)
 
 -- ---- an entry
 module _ (numbers : List ℕ) (i k : ℕ) (e : i ≡ k) where
-  pub entry-in : i < 1024 → getD numbers i 0 ≡ entryAt numbers k
-  entry-in h = rw (← e, lt-ltb i 1024 h)
+  pub entry-in : i < 3200 → getD numbers i 0 ≡ entryAt numbers k
+  entry-in h = rw (← e, lt-ltb i 3200 h)
 
-  pub entry-out : 1024 ≤ i → 32 ≡ entryAt numbers k
-  entry-out h = rw (← e, le-ltb i 1024 h)
+  pub entry-out : 3200 ≤ i → 32 ≡ entryAt numbers k
+  entry-out h = rw (← e, le-ltb i 3200 h)
 
 -- ---- a source number and its opening
 module _ (lower upper : ℕ → ℤ) where
@@ -63,15 +63,15 @@ Entered openings k j s = (s ≡ 32) ⊎ ((s < k) × (getD openings s 0 ≡ j))
 
 pub record Filling (openings : List ℕ) (count : ℕ) (numbers : List ℕ) (k : ℕ) : Type 0 where
   pub bound : k ≤ count
-  pub long : length numbers ≡ 1024
-  pub only : (j : ℕ) → j < 1024 → Entered openings k j (getD numbers j 0)
+  pub long : length numbers ≡ 3200
+  pub only : (j : ℕ) → j < 3200 → Entered openings k j (getD numbers j 0)
   pub named : Distinct openings count → (a : ℕ) → a < k → getD numbers (getD openings a 0) 0 ≡ a
 
-pub filling-start : (openings : List ℕ) (count : ℕ) → Filling openings count (replicate 1024 32) 0
+pub filling-start : (openings : List ℕ) (count : ℕ) → Filling openings count (replicate 3200 32) 0
 filling-start openings count = record {
   bound = omega arith;
-  long = length-replicate {A = ℕ} 1024 32;
-  only = λ j h. inl (getD-replicate {A = ℕ} 1024 j 32 0 h);
+  long = length-replicate {A = ℕ} 3200 32;
+  only = λ j h. inl (getD-replicate {A = ℕ} 3200 j 32 0 h);
   named = λ d a h. absurd (omega arith);
 }
 
@@ -87,7 +87,7 @@ module _ {openings : List ℕ} {count : ℕ} {numbers : List ℕ} {k : ℕ} (o :
       inside : getD openings k 0 < length numbers
       inside = omega (arith, g .long, o .small k h)
 
-      store : (j : ℕ) → j < 1024 → (b : Bool) → eqb j (getD openings k 0) ≡ b → Entered openings (k + 1) j (getD (set numbers (getD openings k 0) k) j 0)
+      store : (j : ℕ) → j < 3200 → (b : Bool) → eqb j (getD openings k 0) ≡ b → Entered openings (k + 1) j (getD (set numbers (getD openings k 0) k) j 0)
       store j l true e =
           let q : j ≡ getD openings k 0 = eqb-true j (getD openings k 0) e in
           let s : getD (set numbers (getD openings k 0) k) j 0 ≡ k = ap (λ (i : ℕ). getD (set numbers (getD openings k 0) k) i 0) q ∙ getD-set-same numbers (getD openings k 0) k 0 inside in
@@ -123,7 +123,7 @@ module _ {openings : List ℕ} {count : ℕ} {numbers : List ℕ} {k : ℕ} (o :
       let m : a < count = omega (arith, w .1) in
       (m, same a m ∙ w .0)
 
-  entered : (j s : ℕ) → j < 1024 → getD numbers j 0 ≡ s → (r : Option ℕ) → sourceNumber lower upper acts j ≡ r → Entered openings k j s → named s ≡ r
+  entered : (j s : ℕ) → j < 3200 → getD numbers j 0 ≡ s → (r : Option ℕ) → sourceNumber lower upper acts j ≡ r → Entered openings k j s → named s ≡ r
   entered j s m e none q (inl w) = ap named w
   entered j s m e (some a) q (inl w) =
       let p = opened j a q in
@@ -134,13 +134,13 @@ module _ {openings : List ℕ} {count : ℕ} {numbers : List ℕ} {k : ℕ} (o :
       let c : s < count = omega (arith, w .0) in
       ap (λ (x : Bool). cond x (some s) none) (lt-ltb s 32 (omega (arith, o .few))) ∙ sym (own s c) ∙ ap (sourceNumber lower upper acts) (w .1) ∙ q
 
-  past : (j : ℕ) → 1024 ≤ j → (r : Option ℕ) → sourceNumber lower upper acts j ≡ r → none ≡ r
+  past : (j : ℕ) → 3200 ≤ j → (r : Option ℕ) → sourceNumber lower upper acts j ≡ r → none ≡ r
   past j m none q = refl
   past j m (some a) q = let p = opened j a q in absurd (omega (arith, o .small a (p .0), p .1))
 
-  told : (j : ℕ) (b : Bool) → ltb j 1024 ≡ b → named (cond b (getD numbers j 0) 32) ≡ sourceNumber lower upper acts j
-  told j true e = entered j (getD numbers j 0) (ltb-true j 1024 e) refl (sourceNumber lower upper acts j) refl (g .only j (ltb-true j 1024 e))
-  told j false e = past j (ltb-false j 1024 e) (sourceNumber lower upper acts j) refl
+  told : (j : ℕ) (b : Bool) → ltb j 3200 ≡ b → named (cond b (getD numbers j 0) 32) ≡ sourceNumber lower upper acts j
+  told j true e = entered j (getD numbers j 0) (ltb-true j 3200 e) refl (sourceNumber lower upper acts j) refl (g .only j (ltb-true j 3200 e))
+  told j false e = past j (ltb-false j 3200 e) (sourceNumber lower upper acts j) refl
 
 pub filling-end : {openings : List ℕ} {count : ℕ} {numbers : List ℕ} {k : ℕ} → Openable openings count → Filling openings count numbers k → count ≤ k → Sourced openings count numbers
-filling-end o g h = record { is = λ lower upper acts l same j. told o g h lower upper acts l same j (ltb j 1024) refl }
+filling-end o g h = record { is = λ lower upper acts l same j. told o g h lower upper acts l same j (ltb j 3200) refl }

@@ -21,14 +21,14 @@ use Rattle.source_step.specs.Row.{Stepped}
 use Rattle.source_step.specs.Ready.{marksOf, numbersOf}
 use Rattle.source_step.specs.Table.{Table, takesBy, afterBy, stepBy, goalBy}
 use Rattle.plan_project.specs.Sources.{entryAt, sourceIn, Below, OpenedBy}
-use Rattle.plan_project.specs.Following.{strayedAt, turned, allButLast, stepIn, opensIn, numbersIn, projectBy}
+use Rattle.plan_project.specs.Following.{strayedAt, turned, stepIn, opensIn, numbersIn, deadEndIn, projectBy}
 
 -- ---- the table at a number
-pub small-entry : (sources : List ℕ) (k : ℕ) → entryAt sources k < 32 → k < 1024
-small-entry sources k = go (ltb k 1024) refl
+pub small-entry : (sources : List ℕ) (k : ℕ) → entryAt sources k < 32 → k < 3200
+small-entry sources k = go (ltb k 3200) refl
   where
-    go : (b : Bool) → ltb k 1024 ≡ b → cond b (getD sources k 0) 32 < 32 → k < 1024
-    go true e h = ltb-true k 1024 e
+    go : (b : Bool) → ltb k 3200 ≡ b → cond b (getD sources k 0) 32 < 32 → k < 3200
+    go true e h = ltb-true k 3200 e
     go false e h = absurd (omega arith)
 
 module _ (sources : List ℕ) (k : ℕ) {a : ℕ} (e : a ≡ entryAt sources k) where
@@ -56,7 +56,7 @@ module _ (T : Table) (total : ℕ) (sources : List ℕ) (opening : ℕ → ℕ) 
   atAction most i rest x a =
       ifAny (stepIn T x a)
       (λ y. pastMacro total (numbersIn T opening x a) i rest (λ j later. then (project most j later y) (λ p. given (a ∷ p))))
-      (cond (opensIn T x a) (intoMacro total (allButLast (numbersIn T opening x a)) i rest) (refused 12 i))
+      (cond (opensIn T x a) (intoMacro total (deadEndIn T opening x a) i rest) (refused 12 i))
 
   at-a-number : (most i k : ℕ) (rest : List ℕ) (x : State)
       → project (suc most) i (k ∷ rest) x ≡ ifAny (sourceIn sources k) (atAction most i (k ∷ rest) x) (strayed total i (k ∷ rest))
@@ -65,7 +65,7 @@ module _ (T : Table) (total : ℕ) (sources : List ℕ) (opening : ℕ → ℕ) 
 
   -- any bound will do that is no less than the length of the plan
   pub bounds : (most more i : ℕ) (q : List ℕ) (x : State) → length q ≤ most → length q ≤ more → projectBy T total sources opening most i q x ≡ projectBy T total sources opening more i q x
-  bounds = bounds-agree total (stepIn T) (goalBy T) (sourceIn sources) (numbersIn T opening) (λ x k. allButLast (numbersIn T opening x k)) (opensIn T) (λ s a. omega arith)
+  bounds = bounds-agree total (stepIn T) (goalBy T) (sourceIn sources) (numbersIn T opening) (deadEndIn T opening) (opensIn T) (λ s a. omega arith)
 
   module _ (q : List ℕ) (i k : ℕ) (is : k ≡ getD q i 0) (h : i < length q) (x : State) where
     here : project (length q) i (drop i q) x ≡ ifAny (sourceIn sources k) (atAction (length (drop (suc i) q)) i (drop i q) x) (strayed total i (drop i q))

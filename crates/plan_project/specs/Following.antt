@@ -2,7 +2,7 @@
 -- whole plan comes to.
 -- Assumes nothing.
 use mathlib.Core.Path.{_≡_}
-use Prim.Native.Nat.{ℕ, min, _+_, _-_, _<_, _≤_}
+use Prim.Native.Nat.{ℕ, min, _+_, _-_, _*_, _<_, _≤_}
 use mathlib.Core.Bool.{Bool, true, false, cond, _&&_}
 use mathlib.Core.Option.{Option, none}
 use mathlib.Core.List.{List, []}
@@ -13,9 +13,10 @@ use Rattle.lists.specs.Answer.{Answer, given, refused}
 use Rattle.model.specs.Tasks.{State}
 use Rattle.model.specs.Steps.{integerAt}
 use Rattle.model.specs.Following.{strayed, makesMacro, pastMacro, intoMacro, projectOver}
-use Rattle.source_step.specs.Row.{effectAt, held, Stepped}
-use Rattle.source_step.specs.Table.{Table, heldBy, stepBy, goalBy, effectBy, valuesBy}
-use Rattle.plan_strokes.specs.Strokes.{strokesOf, stepNumbers}
+use Rattle.source_step.specs.Row.{effectCountAt, effectsAt, firstOutside, held, Stepped}
+use Rattle.source_step.specs.Ready.{marksOf, numbersOf}
+use Rattle.source_step.specs.Table.{Table, heldBy, stepBy, goalBy, effectsBy, valuesBy}
+use Rattle.plan_strokes.specs.Strokes.{strokesOf, stepNumbers, priceOfStrokes}
 use Rattle.plan_project.specs.Sources.{sourceIn, OpenedBy}
 use Rattle.plan_project.specs.declared.Next.{Next}
 use Rattle.plan_project.specs.declared.Next.the-variants.{At, Refused}
@@ -48,25 +49,36 @@ pastAt total i matched size q onward = cond (eqb matched size) (onward (i + matc
 abbrev pub intoAt : ℕ → ℕ → ℕ → ℕ → List ℕ → Answer (List ℕ)
 intoAt total i matched size q = strayedAt total q (i + min matched (size - 1))
 
--- the walk to the dead end of an action whose opening applies and whose result is out of bounds
-abbrev pub allButLast : List ℕ → List ℕ
-allButLast ns = take (length ns - 1) ns
+-- ---- the walk to the dead end of an action whose opening applies, and of whose results one is out of bounds
+-- of so many strokes, with so many effects: those up to the Move to the target of effect `first`, the first whose result is. Behind it each target
+-- has a Clear and a Move
+abbrev pub strokesWalked : ℕ → ℕ → ℕ → ℕ
+strokesWalked count effects first = count - 2 * (effects - 1 - first)
+
+-- its numbers: those of these strokes and their turns, and not the last turn
+abbrev pub deadEndWalk : ℕ → ℕ → ℕ → List ℤ → List ℕ
+deadEndWalk opening effects first zs = take (priceOfStrokes (take (strokesWalked (length zs) effects first) zs) - 1) (stepNumbers opening zs)
 
 -- ---- the action of two rows, in a state
 module _ (n m : ℕ) (marks : List ℕ) (numbers : List ℤ) (values : List ℤ) (modes : List ℕ) where
   -- it becomes a macro, and its opening applies
   abbrev pub opensAt : Bool
-  opensAt = makesMacro (effectAt marks numbers) && held n m marks numbers values modes
+  opensAt = makesMacro (effectsAt marks numbers) && held n m marks numbers values modes
 
   -- the numbers that it becomes, from that of its opening
   abbrev pub numbersAt : ℕ → List ℕ
-  numbersAt opening = stepNumbers opening (strokesOf (effectAt marks numbers) (integerAt (take n values)))
+  numbersAt opening = stepNumbers opening (strokesOf (effectsAt marks numbers) (integerAt (take n values)))
+
+  -- those up to where it hangs
+  abbrev pub deadEndAt : ℕ → List ℕ
+  deadEndAt opening =
+      deadEndWalk opening (effectCountAt marks) (firstOutside n marks numbers values) (strokesOf (effectsAt marks numbers) (integerAt (take n values)))
 
   -- what the plan comes to from place i on, the action being the one that stands there, whether or not it applied
   abbrev pub turned : ℕ → ℕ → List ℕ → ℕ → Bool → (ℕ → List ℕ → Answer (List ℕ)) → Answer (List ℕ)
   turned total i q opening applied onward =
       cond applied (pastMacro total (numbersAt opening) i (drop i q) onward)
-      (cond opensAt (intoMacro total (allButLast (numbersAt opening)) i (drop i q)) (refused 12 i))
+      (cond opensAt (intoMacro total (deadEndAt opening) i (drop i q)) (refused 12 i))
 
   -- it was taken there, and the plan compared with its numbers
   pub record Advanced (total i : ℕ) (q : List ℕ) (opening : ℕ) (r : Next) (values′ : List ℤ) (modes′ : List ℕ) : Type 0 where
@@ -81,16 +93,19 @@ module _ (T : Table) where
   stepIn x k = cond (ltb k (T .count)) (stepBy T x k) none
 
   abbrev pub opensIn : State → ℕ → Bool
-  opensIn x k = cond (ltb k (T .count)) (makesMacro (effectBy T k) && heldBy T x k) false
+  opensIn x k = cond (ltb k (T .count)) (makesMacro (effectsBy T k) && heldBy T x k) false
 
   -- the numbers that action k becomes, its opening being so numbered
   abbrev pub numbersIn : (ℕ → ℕ) → State → ℕ → List ℕ
-  numbersIn opening x k = stepNumbers (opening k) (cond (ltb k (T .count)) (strokesOf (effectBy T k) (valuesBy T x)) [])
+  numbersIn opening x k = stepNumbers (opening k) (cond (ltb k (T .count)) (strokesOf (effectsBy T k) (valuesBy T x)) [])
+
+  -- and those up to where it hangs
+  abbrev pub deadEndIn : (ℕ → ℕ) → State → ℕ → List ℕ
+  deadEndIn opening x k = deadEndAt (T .variables) (T .modes) (marksOf (T .marks) k) (numbersOf (T .numbers) k) (x .values) (x .modes) (opening k)
 
   -- what a plan projects to by them from step i on, in state x; the restricted task has `total` actions
   abbrev pub projectBy : ℕ → List ℕ → (ℕ → ℕ) → ℕ → ℕ → List ℕ → State → Answer (List ℕ)
-  projectBy total sources opening = projectOver total stepIn (goalBy T) (sourceIn sources) (numbersIn opening)
-      (λ x k. allButLast (numbersIn opening x k)) opensIn
+  projectBy total sources opening = projectOver total stepIn (goalBy T) (sourceIn sources) (numbersIn opening) (deadEndIn opening) opensIn
 
 -- ---- the first source numbers that are found, noted in a list of 512
 abbrev pub notedAt : List ℕ → ℕ → ℕ → List ℕ

@@ -13,7 +13,7 @@ use Rattle.model.specs.Stages.{opening, sourceNumber}
 
 -- what the table has at a number; 32, which no source action has, past its end
 abbrev pub entryAt : List ℕ → ℕ → ℕ
-entryAt numbers k = cond (ltb k 1024) (getD numbers k 0) 32
+entryAt numbers k = cond (ltb k 3200) (getD numbers k 0) 32
 
 -- a source action by its number, or none
 abbrev pub named : ℕ → Option ℕ
@@ -34,7 +34,7 @@ OpenedBy opening numbers = (k a : ℕ) → sourceIn numbers k ≡ some a → ope
 -- the numbers of so many openings, which the table has room for
 pub record Openable (openings : List ℕ) (count : ℕ) : Type 0 where
   pub few : count ≤ 32
-  pub small : (k : ℕ) → k < count → getD openings k 0 < 1024
+  pub small : (k : ℕ) → k < count → getD openings k 0 < 3200
 
 -- the table tells of every number what the definitions tell of it
 pub record Sourced (openings : List ℕ) (count : ℕ) (numbers : List ℕ) : Type 0 where

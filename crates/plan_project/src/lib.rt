@@ -2,11 +2,10 @@
 //
 // The plan is followed by source steps, by the rows of their actions: it is compared with the runs that each source step becomes, and refused
 // at the first number that differs. The lowering is not made, and no step of it is taken. The file is read in crate source_walk.
+use file_actions::EFFECTS;
 use lists::Written;
 use plan_strokes::Openings;
 use plan_strokes::STAGES;
-use source_step::ADD;
-use source_step::KIND;
 use source_step::MARKS;
 use source_step::MODES;
 use source_step::NUMBERS;
@@ -15,7 +14,7 @@ use source_walk::Opened;
 use source_walk::ROWS;
 ghost use mathlib.Core.Path.{_≡_};
 ghost use mathlib.Core.Bool.{true, false};
-ghost use Prim.Native.Nat.{_+_, _≤_, _<_};
+ghost use Prim.Native.Nat.{_+_, _*_, _≤_, _<_};
 ghost use lib.ListN.{length, take, getD};
 ghost use Rattle.lists.specs.Answer.{refused};
 ghost use Rattle.lists.specs.Writing.{Room, Wrote};
@@ -24,16 +23,18 @@ ghost use Rattle.model.specs.Systems.{keep};
 ghost use Rattle.model.specs.Plans.{planBytes, planNumbers};
 ghost use Rattle.model.specs.Judging.{projectBytes};
 ghost use Rattle.source_step.specs.Step.{state};
-ghost use Rattle.source_step.specs.Row.{kindAt, Usable};
+ghost use Rattle.source_step.specs.Row.{Usable};
 ghost use Rattle.source_step.specs.Table.{table, Usables};
 ghost use Rattle.plan_project.specs.Sources.{entryAt, sourceIn, Below, Openable, Sourced};
-ghost use Rattle.plan_project.specs.Following.{Answers, Further, strayedAt, pastAt, intoAt, Advanced, notedAt, Notes, PlanFollowed};
+ghost use Rattle.plan_strokes.specs.Made.{MacroIs};
+ghost use Rattle.plan_project.specs.Following.{Answers, Further, strayedAt, pastAt, intoAt, strokesWalked, Advanced};
+ghost use Rattle.plan_project.specs.Following.{notedAt, Notes, PlanFollowed};
 ghost use Rattle.plan_project.specs.Projecting.{Posed, Kept, Reached, Projected, TaskProjected};
-ghost use Rattle.source_step.specs.Sizes.{VARIABLES, MODES};
+ghost use Rattle.source_step.specs.Sizes.{VARIABLES, MODES, EFFECTS};
 ghost use Rattle.plan_strokes.specs.Strokes.{STAGES};
 
 // The restricted numbers that a table of them has room for.
-const OPENINGS: usize = 1024;
+const OPENINGS: usize = 3200;
 
 // How many of the source numbers that are found are noted.
 const NOTED: usize = 512;
@@ -121,7 +122,7 @@ fn past_macro(
     Next::Refused(astray(plan, steps, total, place), place as u64)
 }
 
-// Of a step whose last number doesn't apply.
+// Of a step that hangs at the last of those numbers, which doesn't apply.
 fn into_macro(
     plan: &[u8],
     steps: usize,
@@ -136,6 +137,15 @@ fn into_macro(
 {
     let place = at + source_step::lesser(matched, size - 1);
     Next::Refused(astray(plan, steps, total, place), place as u64)
+}
+
+// How many of so many strokes a walk goes through that hangs: those up to the Move to the first target whose result is out of bounds. Behind it
+// each target has a Clear and a Move.
+fn strokes_walked(count: usize, effects: usize, first: usize) -> usize
+    requires { ⌜ (first < effects) × (effects ≤ EFFECTS) × (2 * effects ≤ count) × (count ≤ STAGES) ⌝ }
+    ensures { λ r. ⌜ r ≡ strokesWalked count effects first ⌝ }
+{
+    count - 2 * (effects - 1 - first)
 }
 
 // Takes an action that becomes a macro, in a lent state, and compares the plan, from a place on, with what it becomes there. The times are
@@ -155,7 +165,7 @@ fn advance_macro(
     times: &mut [i64; STAGES],
 ) -> Next
     requires { ⌜ (n ≤ VARIABLES) × (m ≤ MODES) × (length (now modes) ≡ MODES) × (length (now times) ≡ STAGES) × Usable n (now marks) (now numbers) ⌝ }
-    requires { ⌜ (2 ≤ kindAt (now marks)) × (steps ≡ length (planNumbers (now plan))) × (at < steps) × (opening ≤ 65000) ⌝ }
+    requires { ⌜ MacroIs (now marks) true × (steps ≡ length (planNumbers (now plan))) × (at < steps) × (opening ≤ 65000) ⌝ }
     ensures { λ r. ⌜ Advanced n m (now (marks .entry)) (now (numbers .entry)) (now (values .entry)) (now (modes .entry))
         total at (planNumbers (now (plan .entry))) opening r (now (values .exit)) (now (modes .exit)) ⌝ }
     ensures { λ r. ⌜ length (now (times .exit)) ≡ STAGES ⌝ }
@@ -163,13 +173,16 @@ fn advance_macro(
     if !source_step::holds(values, modes, n, m, marks, numbers) {
         return Next::Refused(12, at as u64);
     }
-    let count = plan_strokes::put_strokes(times, values, n, marks, numbers);
+    let mut results = [0i64; EFFECTS];
+    let count = plan_strokes::put_strokes(times, &mut results, values, n, marks, numbers);
     let matched = plan_strokes::matches_step(plan, at, opening, times, count);
-    let size = plan_strokes::price_of(times, count) as usize;
-    let result = plan_strokes::result_from(times, count, values, n, marks, numbers);
-    if source_step::finish(values, modes, n, m, marks, numbers, result) {
+    if source_step::finish(values, modes, n, m, marks, numbers, &results) {
+        let size = plan_strokes::price_of(times, count) as usize;
         return past_macro(plan, steps, total, at, matched, size);
     }
+    let first = source_step::first_outside(marks, numbers, &results);
+    let walked = strokes_walked(count, source_step::effect_count(marks), first);
+    let size = plan_strokes::price_of(times, walked) as usize;
     into_macro(plan, steps, total, at, matched, size)
 }
 
@@ -195,7 +208,7 @@ fn advance(
         total at (planNumbers (now (plan .entry))) opening r (now (values .exit)) (now (modes .exit)) ⌝ }
     ensures { λ r. ⌜ length (now (times .exit)) ≡ STAGES ⌝ }
 {
-    if marks[KIND] <= ADD {
+    if !plan_strokes::makes_macro(marks) {
         if source_step::take(values, modes, n, m, marks, numbers) {
             return Next::At(at + 1);
         }

@@ -3,6 +3,7 @@ pub mod Effects
 pub mod Making
 pub mod Matching
 pub mod Prices
+pub mod Ranges
 pub mod Sizes
 pub mod Walks
 pub mod Writing

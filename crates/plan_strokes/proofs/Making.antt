@@ -1,152 +1,308 @@
--- Strokes are made two at a time, in an array of ten.
+-- Strokes are made one behind another, in an array of as many as a macro has stages: the terms of an L in a loop, the effects in another, and
+-- the targets in a third.
 -- Assumes nothing.
-use mathlib.Core.Path.{_≡_, refl, sym, ap, _∙_}
-use Prim.Native.Nat.{ℕ, zero, suc, _+_, _*_, _≤_, _<_, zero-le}
+use mathlib.Core.Path.{_≡_, refl, sym, ap, ap₂, _∙_, subst}
+use Prim.Native.Nat.{ℕ, _+_, _-_, _*_, _≤_, _<_}
 use native.Mathlib.Numerals.{add-one}
-use native.Mathlib.Nat.{div-le-self}
 use native.Mathlib.Omega.{arith}
-use mathlib.Core.Bool.{true, false, not, _&&_}
+use mathlib.Core.Bool.{Bool, true, false}
 use mathlib.Core.List.{List, [], _∷_, _++_, append-assoc, append-nil}
-use lib.ListN.{length, take, set, length-set, length-append}
-use lib.Seq.{take-suc-set}
-use lib.IntN.{ℤ, pos, negsuc, natAbs, _-ℤ_, _*ℤ_}
+use lib.ListN.{length, getD, take, set, length-set, length-append}
+use lib.Seq.{length-take-le, take-suc-set, take-take, take-append-seam, getD-set-same, getD-set-other, getD-take, getD-append-add}
+use lib.Dec.{ltb}
+use borrow.Author.Tests.{ltb-true, ltb-false}
+use lib.IntN.{ℤ, pos, negsuc, _-ℤ_, _*ℤ_}
 use lib.Signed.{leZ}
-use Rattle.integers.specs.Division.{unitLess, floor, quotientOf, residueOf}
-use Rattle.integers.specs.Parts.{Within, EachWithin}
+use Rattle.integers.specs.Division.{unitLess, floor, quotientOf}
 use Rattle.integers.proofs.Parts.{ints, sub, mul-up, mul-down}
-use Rattle.integers.specs.Relation.{withinLimit}
-use Rattle.lists.proofs.Loops.{and-left, and-right}
-use Rattle.source_step.specs.Parts.{small, divides}
-use Rattle.source_step.proofs.InRange as numbers
-use Rattle.source_step.proofs.Rows.{Row, Left, left-next, left-none}
-use Rattle.plan_strokes.specs.Strokes.{termStrokes}
-use Rattle.plan_strokes.specs.Made.{Listed, Two}
+use Rattle.lists.specs.Each.{tabulate}
+use Rattle.lists.proofs.Each.{length-tabulate}
+use Rattle.model.specs.Tasks.{Effect}
+use Rattle.model.specs.Steps.{integerAt, result}
+use Rattle.source_step.specs.Sizes.{EFFECTS}
+use Rattle.source_step.specs.Row.{targetAt, termCountAt, variableAt, weightAt, termsAt, effectAt, effectCountAt, effectsAt, resultAt, pairsOf, ResultsAre}
+use Rattle.source_step.specs.Row.{Reads}
+use Rattle.source_step.proofs.Results.{pairs-are}
+use Rattle.source_step.proofs.Rows.{Row, Left, left-start, left-next, left-none, row-tabulate}
+use Rattle.plan_strokes.specs.Strokes.{STAGES, termStrokes, resultStrokes, heldStrokes, setStrokes, strokesOf}
+use Rattle.plan_strokes.specs.Made.{More, TermsMade, HeldMade, StrokesMade, MacroIs}
+use Rattle.plan_strokes.proofs.Effects.{one-effect, several-effects, no-strokes, workStrokes, macro-strokes, one-held}
+use Rattle.plan_strokes.proofs.Ranges.{length-terms, result-few, length-set-strokes, held-length, listed}
 
-take-two : (l : List ℤ) (i : ℕ) (x y : ℤ) → i + 1 < length l → take (i + 1 + 1) (set (set l i x) (i + 1) y) ≡ take i l ++ (x ∷ y ∷ [])
-take-two l i x y h =
-    ap (λ (k : ℕ). take k (set (set l i x) (i + 1) y)) (add-one (i + 1))
-    ∙ take-suc-set (set l i x) (i + 1) y (rw (length-set l i x) h)
-    ∙ ap (λ (k : ℕ). take k (set l i x) ++ (y ∷ [])) (add-one i)
-    ∙ ap (λ (z : List ℤ). z ++ (y ∷ [])) (take-suc-set l i x (omega arith))
-    ∙ append-assoc (take i l) (x ∷ []) (y ∷ [])
-
--- two strokes more, behind the first `at`
-pub two-more : (times : List ℤ) (at : ℕ) (x y : ℤ) → at ≤ 8 → length times ≡ 10 → Two times at x y (set (set times at x) (at + 1) y) (at + 1 + 1)
-two-more times at x y h l = record {
-  is = take-two times at x y (omega arith);
+-- ---- one stroke more, and those of two makings, one behind the other
+pub one-more : (times : List ℤ) (at : ℕ) (z : ℤ) → at < STAGES → length times ≡ STAGES → More times at (z ∷ []) (set times at z) (at + 1)
+one-more times at z h l = record {
+  is = ap (λ (k : ℕ). take k (set times at z)) (add-one at) ∙ take-suc-set times at z (omega arith);
   counted = omega arith;
-  long = length-set (set times at x) (at + 1) y ∙ length-set times at x ∙ l;
+  long = length-set times at z ∙ l;
 }
 
--- strokes of which each is small
-within-none : {n : ℕ} → EachWithin n []
-within-none i = record { within = zero-le }
+module _ {times : List ℤ} {at : ℕ} {xs : List ℤ} {times₁ : List ℤ} {r₁ : ℕ} where
+  pub then : {ys : List ℤ} {times₂ : List ℤ} {r₂ : ℕ} → More times at xs times₁ r₁ → More times₁ r₁ ys times₂ r₂ → More times at (xs ++ ys) times₂ r₂
+  then {ys} m k = record {
+    is = k .is ∙ ap (λ (l : List ℤ). l ++ ys) (m .is) ∙ append-assoc (take at times) xs ys;
+    counted = omega (arith, m .counted, k .counted, length-append xs ys);
+    long = k .long;
+  }
 
-within-first : {n : ℕ} {x : ℤ} (l : List ℤ) → Within n x → EachWithin n l → EachWithin n (x ∷ l)
-within-first l w h zero = w
-within-first l w h (suc i) = h i
+  pub more-as : {ys : List ℤ} → xs ≡ ys → More times at xs times₁ r₁ → More times at ys times₁ r₁
+  more-as e m = subst (λ (l : List ℤ). More times at l times₁ r₁) e m
 
-within-two : {n : ℕ} (l : List ℤ) {x y : ℤ} → EachWithin n l → Within n x → Within n y → EachWithin n (l ++ (x ∷ y ∷ []))
-within-two [] {x} {y} h a b = within-first (y ∷ []) a (within-first [] b within-none)
-within-two (z ∷ l) {x} {y} h a b = within-first (l ++ (x ∷ y ∷ [])) (h 0) (within-two l (λ i. h (suc i)) a b)
-
--- no strokes, in times that hold any numbers
-pub none-listed : (times : List ℤ) → length times ≡ 10 → Listed [] times 0
-none-listed times l = record { is = refl; counted = refl; few = omega arith; long = l; within = within-none }
-
--- what Divide counts is the quotient, or its opposite where c is negative
+-- ---- what Divide counts is the quotient, or its opposite where c is negative
 pub floor-up : (y c : ℤ) → leZ (pos 0) c ≡ true → quotientOf y c ≡ floor y (unitLess c)
 floor-up y (pos n) e = omega (ints, mul-up (floor y (unitLess (pos n))) (pos 1), mul-down (floor y (unitLess (pos n))) (pos 1))
 floor-up y (negsuc n) e = absurd (omega (ints, e))
 
 pub floor-down : (y c : ℤ) → leZ (pos 0) c ≡ false → pos 0 -ℤ quotientOf y c ≡ floor y (unitLess c)
 floor-down y (pos n) e = absurd (omega (ints, e))
-floor-down y (negsuc n) e = omega (ints, sub (pos 0) (floor y (unitLess (negsuc n)) *ℤ negsuc 0), mul-up (floor y (unitLess (negsuc n))) (negsuc 0), mul-down (floor y (unitLess (negsuc n))) (negsuc 0))
-
-pub floor-within : (y : ℤ) (u : ℕ) → natAbs y ≤ 10000 → Within 1000000000 (floor y u)
-floor-within (pos n) u h = record { within = omega (arith, div-le-self n (suc u)) }
-floor-within (negsuc n) u h = record { within = omega (arith, div-le-self n (suc u)) }
-
--- the numbers of a division that fits
-pub record Fitting (t y c : ℤ) : Type 0 where
-  pub target : natAbs t ≤ 10000
-  pub operand : natAbs y ≤ 10000
-  pub by : Within 2000000000000000 c × (0 < natAbs c)
-  pub quotient : natAbs (quotientOf y c) ≤ 10000
-  pub residue : natAbs (residueOf y c) ≤ 10000
-
-pub fitting : (t y c : ℤ) → ((small t && small y) && divides c) ≡ true → Fitting t y c
-fitting t y c e =
-    let f = and-left (small t && small y) (divides c) e in
-    let g = and-right (small t && small y) (divides c) e in
-    let d = numbers.divisor c g in
-    record {
-      target = numbers.first t y f;
-      operand = numbers.second t y f;
-      by = d;
-      quotient = omega (arith, numbers.quotient-small y c, numbers.second t y f);
-      residue = omega (arith, numbers.residue-small y c (d .1), numbers.small-is c (and-left (small c) (not (withinLimit 0 c)) g));
-    }
-
--- ---- two strokes more, behind those that are known
-module _ {zs : List ℤ} {times times′ : List ℤ} {at r : ℕ} {x y : ℤ} where
-  pub listed-two : Listed zs times at → Two times at x y times′ r → at ≤ 8 → Within 1000000000 x → Within 1000000000 y → Listed (zs ++ (x ∷ y ∷ [])) times′ r
-  listed-two l t h a b = record {
-    is = t .is ∙ ap (λ (z : List ℤ). z ++ (x ∷ y ∷ [])) (l .is);
-    counted = omega (arith, t .counted, l .counted, length-append zs (x ∷ y ∷ []));
-    few = omega (arith, t .counted);
-    long = t .long;
-    within = within-two zs (l .within) a b;
-  }
+floor-down y (negsuc n) e = omega (
+  ints,
+  sub (pos 0) (floor y (unitLess (negsuc n)) *ℤ negsuc 0),
+  mul-up (floor y (unitLess (negsuc n))) (negsuc 0),
+  mul-down (floor y (unitLess (negsuc n)))
+      (negsuc 0),
+)
 
 -- ---- the terms of an L: the strokes made, and behind them those of the terms that are left, are those of all terms
-pub record Draining (v : ℕ → ℤ) (ts : List (ℕ × ℤ)) (k : ℕ) (f : ℕ → ℕ × ℤ) (times : List ℤ) (count i : ℕ) : Type 0 where
-  pub left : Left ts k f i (λ rest. take count times ++ termStrokes rest v) (termStrokes ts v)
-  pub counted : count ≡ 2 * i
-  pub long : length times ≡ 10
-  pub within : EachWithin 1000000000 (take count times)
-  pub few : k ≤ 4
+module _ (marks : List ℕ) (e : ℕ) (v : ℕ → ℤ) (times₀ : List ℤ) (at : ℕ) where
+  abbrev term : List ℤ → ℕ → ℕ × ℤ
+  term numbers i = (variableAt marks e i, weightAt numbers e i)
 
-length-terms : (ts : List (ℕ × ℤ)) (v : ℕ → ℤ) → length (termStrokes ts v) ≡ 2 * length ts
-unfolding termStrokes
-length-terms [] v = refl
-length-terms (t ∷ ts) v = omega (arith, length-terms ts v)
+  pub record Draining (times : List ℤ) (count i : ℕ) : Type 0 where
+    pub left : (numbers : List ℤ) → Left (termsAt marks numbers e) (termCountAt marks e) (term numbers) i (λ rest. take count times ++ termStrokes rest v)
+        (take at times₀ ++ termStrokes (termsAt marks numbers e) v)
+    pub bound : i ≤ termCountAt marks e
+    pub counted : count ≡ at + 2 * i
+    pub long : length times ≡ STAGES
 
-module _ {v : ℕ → ℤ} {ts : List (ℕ × ℤ)} {k : ℕ} {f : ℕ → ℕ × ℤ} {times : List ℤ} where
-  pub draining-start : Row ts k f → k ≤ 4 → length times ≡ 10 → Draining v ts k f times 0 0
-  draining-start row h l = record {
-    left = record { row = row; bound = omega arith; same = refl };
-    counted = refl;
+  pub draining-start : length times₀ ≡ STAGES → Draining times₀ at 0
+  draining-start l = record {
+    left = λ numbers. left-start (λ rest. take at times₀ ++ termStrokes rest v) (row-tabulate (termCountAt marks e) (term numbers));
+    bound = omega arith;
+    counted = omega arith;
     long = l;
-    within = within-none;
-    few = h;
   }
 
-  module _ {count i : ℕ} (d : Draining v ts k f times count i) where
-    pub draining-next : {times′ : List ℤ} {r : ℕ} {x : ℤ} → i < k → x ≡ v (f i .0) → Within 1000000000 x → Two times count x x times′ r → Draining v ts k f times′ r (i + 1)
-    unfolding termStrokes
-    draining-next {times′} {r} {x} h e w t = record {
-      left = left-next (d .left) (λ rest. take r times′ ++ termStrokes rest v) h (λ rest.
-          ap (λ (z : List ℤ). z ++ termStrokes rest v) (t .is)
-          ∙ append-assoc (take count times) (x ∷ x ∷ []) (termStrokes rest v)
-          ∙ ap (λ (z : ℤ). take count times ++ (z ∷ z ∷ termStrokes rest v)) e);
-      counted = omega (arith, t .counted, d .counted);
-      long = t .long;
-      within = rw (t .is) (within-two (take count times) (d .within) w w);
-      few = d .few;
-    }
+module _ {marks : List ℕ} {e : ℕ} {v : ℕ → ℤ} {times₀ : List ℤ} {at : ℕ} {times : List ℤ} {count i : ℕ} (d : Draining marks e v times₀ at times count i) where
+  pub draining-next : {times′ : List ℤ} {r : ℕ} {x : ℤ} → i < termCountAt marks e → x ≡ v (variableAt marks e i) → More times count (x ∷ x ∷ []) times′ r
+      → Draining marks e v times₀ at times′ r (i + 1)
+  unfolding termStrokes
+  draining-next {times′} {r} {x} h q m = record {
+    left = λ numbers. left-next (d .left numbers) (λ rest. take r times′ ++ termStrokes rest v) h (λ rest.
+        ap (λ (z : List ℤ). z ++ termStrokes rest v) (m .is)
+        ∙ append-assoc (take count times) (x ∷ x ∷ []) (termStrokes rest v)
+        ∙ ap (λ (z : ℤ). take count times ++ (z ∷ z ∷ termStrokes rest v)) q);
+    bound = omega arith;
+    counted = omega (arith, m .counted, d .counted);
+    long = m .long;
+  }
 
-    pub draining-end : k ≤ i → Listed (termStrokes ts v) times count
-    unfolding termStrokes
-    draining-end h =
-        let b = d .left .bound in
-        let n = d .left .row .size in
-        let m = length-terms ts v in
-        let e : take count times ≡ termStrokes ts v = sym (append-nil (take count times)) ∙ left-none (d .left) h in
-        record {
-          is = e;
-          counted = omega (arith, d .counted);
-          few = omega (arith, d .counted, d .few);
-          long = d .long;
-          within = rw e at (d .within);
-        }
+  pub draining-end : termCountAt marks e ≤ i → TermsMade marks e v times₀ at times count
+  unfolding termStrokes
+  draining-end h = record {
+    more = λ numbers. record {
+      is = sym (append-nil (take count times)) ∙ left-none (d .left numbers) h;
+      counted = omega (
+        arith,
+        d .counted,
+        d .bound,
+        length-terms (termsAt marks numbers e) v,
+        length-tabulate {A = ℕ × ℤ} (termCountAt marks e)
+            (term marks e v times₀ at numbers),
+      );
+      long = d .long;
+    };
+  }
+
+-- ---- the effects up to the last Move into a hold: so too, and what they give
+-- the last of strokes made
+last-made : {times times′ : List ℤ} {at r : ℕ} (zs : List ℤ) (z : ℤ) → at ≤ length times → More times at (zs ++ (z ∷ [])) times′ r
+    → getD times′ (r - 1) (pos 0) ≡ z
+last-made {times} {times′} {at} {r} zs z h m =
+    let l : length (zs ++ (z ∷ [])) ≡ length zs + 1 = length-append zs (z ∷ []) in
+    let p : r - 1 ≡ length (take at times ++ zs) + 0 = omega (arith, m .counted, length-append (take at times) zs, length-take-le at times h) in
+    sym (getD-take r times′ (r - 1) (pos 0) (omega (arith, m .counted)))
+    ∙ ap₂ (λ (xs : List ℤ) (k : ℕ). getD xs k (pos 0)) (m .is ∙ sym (append-assoc (take at times) zs (z ∷ []))) p
+    ∙ getD-append-add (take at times ++ zs) (z ∷ []) 0 (pos 0)
+
+module _ (n : ℕ) (marks : List ℕ) (numbers : List ℤ) (values : List ℤ) where
+  pub record Holding (times results : List ℤ) (place e : ℕ) : Type 0 where
+    pub left : Left (effectsAt marks numbers) (effectCountAt marks) (effectAt marks numbers) e
+        (λ rest. take place times ++ heldStrokes rest (integerAt (take n values)))
+        (heldStrokes (effectsAt marks numbers) (integerAt (take n values)))
+    pub few : place ≤ 9 * e
+    pub long : length times ≡ STAGES
+    pub given : (j : ℕ) → j < e → integerAt results j ≡ resultAt n marks numbers values j
+    pub resultsLong : length results ≡ EFFECTS
+
+  pub holding-start : {times results : List ℤ} → length times ≡ STAGES → length results ≡ EFFECTS → Holding times results 0 0
+  holding-start l k = record {
+    left = left-start (λ rest. heldStrokes rest (integerAt (take n values))) (row-tabulate (effectCountAt marks) (effectAt marks numbers));
+    few = omega arith;
+    long = l;
+    given = λ j h. absurd (omega arith);
+    resultsLong = k;
+  }
+
+module _ {n : ℕ} {marks : List ℕ} {numbers : List ℤ} {values : List ℤ} {times results : List ℤ} {place e : ℕ}
+    (g : Holding n marks numbers values times results place e) where
+  abbrev v : ℕ → ℤ
+  v = integerAt (take n values)
+
+  abbrev effect : Effect
+  effect = effectAt marks numbers e
+
+  -- the last of the strokes made is one of the times
+  pub holding-last : {times′ : List ℤ} {r : ℕ} → e < effectCountAt marks
+      → More times place (resultStrokes effect v ++ (resultAt n marks numbers values e ∷ [])) times′ r
+      → (1 ≤ r) × (r ≤ STAGES)
+  holding-last h m =
+      let l : length (resultStrokes effect v ++ (result effect v ∷ []))
+      ≡ length (resultStrokes effect v) + 1 = length-append (resultStrokes effect v) (result effect v ∷ []) in
+      (omega (arith, m .counted), omega (arith, m .counted, g .few, result-few marks numbers e v))
+
+  pub holding-next : {times′ : List ℤ} {r : ℕ} → e < effectCountAt marks
+      → More times place (resultStrokes effect v ++ (resultAt n marks numbers values e ∷ [])) times′ r
+      → Holding n marks numbers values times′ (set results e (getD times′ (r - 1) (pos 0))) r (e + 1)
+  unfolding heldStrokes
+  holding-next {times′} {r} h m =
+      record {
+        left = left-next (g .left) (λ rest. take r times′ ++ heldStrokes rest v) h (λ rest.
+            ap (λ (z : List ℤ). z ++ heldStrokes rest v) (m .is)
+            ∙ append-assoc (take place times) (resultStrokes effect v ++ (result effect v ∷ [])) (heldStrokes rest v)
+            ∙ ap (λ (z : List ℤ). take place times ++ z) (append-assoc (resultStrokes effect v) (result effect v ∷ []) (heldStrokes rest v)));
+        few = omega (arith, m .counted, g .few, length-append (resultStrokes effect v) (result effect v ∷ []), result-few marks numbers e v);
+        long = m .long;
+        given = λ j l. by j l (ltb j e) refl;
+        resultsLong = length-set results e (getD times′ (r - 1) (pos 0)) ∙ g .resultsLong;
+      }
+    where
+      here : getD times′ (r - 1) (pos 0) ≡ resultAt n marks numbers values e
+      here = last-made (resultStrokes effect v) (result effect v) (omega (arith, g .few, g .long)) m
+
+      by : (j : ℕ) → j < e + 1 → (b : Bool) → ltb j e ≡ b → integerAt (set results e (getD times′ (r - 1) (pos 0))) j ≡ resultAt n marks numbers values j
+      by j l true q = let m : j < e = ltb-true j e q in
+          getD-set-other results e j (getD times′ (r - 1) (pos 0)) (pos 0) (λ p. omega arith) ∙ g .given j m
+      by j l false q = let m : e ≤ j = ltb-false j e q in
+          let p : j ≡ e = omega arith in
+          rw p (getD-set-same results e (getD times′ (r - 1) (pos 0)) (pos 0) (omega (arith, g .resultsLong)) ∙ here)
+
+  pub holding-end : effectCountAt marks ≤ e → HeldMade n marks numbers values times results place
+  unfolding heldStrokes
+  holding-end h =
+      let all : take place times ≡ heldStrokes (effectsAt marks numbers) v = sym (append-nil (take place times)) ∙ left-none (g .left) h in
+      let b : e ≤ effectCountAt marks = g .left .bound in
+      record {
+        is = all;
+        counted = sym (length-take-le place times (omega (arith, g .few, g .long))) ∙ ap length all;
+        long = g .long;
+        resultsAre = λ j l. g .given j (omega arith);
+        resultsLong = g .resultsLong;
+      }
+
+-- ---- the targets, each cleared and given its result: so too
+module _ (marks : List ℕ) (results : List ℤ) (v : ℕ → ℤ) (times₀ : List ℤ) (at : ℕ) where
+  abbrev pair : ℕ → ℕ × ℤ
+  pair j = (targetAt marks j, integerAt results j)
+
+  pub record Setting (times : List ℤ) (place e : ℕ) : Type 0 where
+    pub left : Left (pairsOf marks results) (effectCountAt marks) pair e (λ rest. take place times ++ setStrokes rest v)
+        (take at times₀ ++ setStrokes (pairsOf marks results) v)
+    pub counted : place ≡ at + 2 * e
+    pub long : length times ≡ STAGES
+
+  pub setting-start : length times₀ ≡ STAGES → Setting times₀ at 0
+  setting-start l = record {
+    left = left-start (λ rest. take at times₀ ++ setStrokes rest v) (row-tabulate (effectCountAt marks) pair);
+    counted = omega arith;
+    long = l;
+  }
+
+module _ {marks : List ℕ} {results : List ℤ} {u : ℕ → ℤ} {times₀ : List ℤ} {at : ℕ} {times : List ℤ} {place e : ℕ}
+    (g : Setting marks results u times₀ at times place e) where
+  pub setting-next : {times′ : List ℤ} {r : ℕ} {x z : ℤ} → e < effectCountAt marks → x ≡ u (targetAt marks e) → z ≡ integerAt results e
+      → More times place (x ∷ z ∷ []) times′ r
+      → Setting marks results u times₀ at times′ r (e + 1)
+  unfolding setStrokes
+  setting-next {times′} {r} {x} {z} h p q m = record {
+    left = left-next (g .left) (λ rest. take r times′ ++ setStrokes rest u) h (λ rest.
+        ap (λ (l : List ℤ). l ++ setStrokes rest u) (m .is)
+        ∙ append-assoc (take place times) (x ∷ z ∷ []) (setStrokes rest u)
+        ∙ ap₂ (λ (a b : ℤ). take place times ++ (a ∷ b ∷ setStrokes rest u)) p q);
+    counted = omega (arith, m .counted, g .counted);
+    long = m .long;
+  }
+
+  pub setting-end : effectCountAt marks ≤ e → More times₀ at (setStrokes (pairsOf marks results) u) times place
+  unfolding setStrokes
+  setting-end h =
+      let b : e ≤ effectCountAt marks = g .left .bound in
+      record {
+        is = sym (append-nil (take place times)) ∙ left-none (g .left) h;
+        counted = omega (arith, g .counted, length-set-strokes u (pairsOf marks results), g .left .row .size);
+        long = g .long;
+      }
+
+-- ---- all strokes of a row
+module _ {n : ℕ} {marks : List ℕ} {numbers : List ℤ} {values : List ℤ} (h : Reads n values marks numbers) where
+  abbrev w : ℕ → ℤ
+  w = integerAt (take n values)
+
+  module _ {times : List ℤ} {results : List ℤ} where
+    pub none-made : MacroIs marks false → length times ≡ STAGES → (length results ≡ EFFECTS) × ResultsAre n marks numbers values results
+        → StrokesMade n marks numbers values times results 0
+    none-made m l r =
+        let e = no-strokes (effectsAt marks numbers) w (m .is numbers) in
+        record { listed = listed h (sym e) (sym (ap length e)) l; resultsAre = r .1; resultsLong = r .0 }
+
+    module _ {place : ℕ} (g : HeldMade n marks numbers values times results place) where
+      pub held-few : place ≤ 27
+      held-few = omega (arith, g .counted, held-length h)
+
+      -- of a single effect: those before Clear, and what it gives
+      module _ (c : effectCountAt marks ≡ 1) where
+        abbrev only : Effect
+        only = effectAt marks numbers 0
+
+        whole : take place times ≡ resultStrokes only w ++ (result only w ∷ [])
+        whole = g .is ∙ ap (λ (es : List Effect). heldStrokes es w) (one-effect marks numbers c) ∙ one-held only w
+
+        long : place ≡ length (resultStrokes only w) + 1
+        long = g .counted ∙ ap length (sym (g .is) ∙ whole) ∙ length-append (resultStrokes only w) (result only w ∷ [])
+
+        pub held-some : 1 ≤ place
+        held-some = omega (arith, long)
+
+        front : take (place - 1) times ≡ workStrokes (effectsAt marks numbers) w
+        front =
+            sym (take-take (place - 1) place times (omega arith))
+            ∙ ap₂ (λ (i : ℕ) (xs : List ℤ). take i xs) {x = place - 1} {y = length (resultStrokes only w)} (omega (arith, long)) whole
+            ∙ take-append-seam (resultStrokes only w) (result only w ∷ []) ∙ ap (λ (es : List Effect). workStrokes es w) (sym (one-effect marks numbers c))
+
+      -- the strokes before Clear, and behind them those of the targets
+      made : MacroIs marks true → {at : ℕ} → at ≤ place → take at times ≡ workStrokes (effectsAt marks numbers) w → {times′ : List ℤ} {r : ℕ}
+          → More times at (setStrokes (pairsOf marks results) w) times′ r
+          → StrokesMade n marks numbers values times′ results r
+      made m {at} b f {times′} {r} k =
+          let p = pairs-are n marks numbers values results (g .resultsAre) in
+          let all : take r times′ ≡ strokesOf (effectsAt marks numbers) w =
+          k .is ∙ ap₂ (λ (xs : List ℤ) (ps : List (ℕ × ℤ)). xs ++ setStrokes ps w) f p ∙ sym (macro-strokes (effectsAt marks numbers) w (m .is numbers)) in
+          let c : at ≡ length (take at times) = sym (length-take-le at times (omega (arith, g .long, g .counted, held-length h))) in
+          let long : r ≡ length (strokesOf (effectsAt marks numbers) w) =
+          k .counted ∙ ap (λ (i : ℕ). i + length (setStrokes (pairsOf marks results) w)) c
+          ∙ sym (length-append (take at times) (setStrokes (pairsOf marks results) w))
+          ∙ sym (ap length (k .is)) ∙ ap length all in
+          record { listed = listed h all long (k .long); resultsAre = g .resultsAre; resultsLong = g .resultsLong }
+
+      pub one-made : MacroIs marks true → effectCountAt marks ≡ 1 → {times′ : List ℤ} {r : ℕ}
+          → More times (place - 1) (setStrokes (pairsOf marks results) w) times′ r
+          → StrokesMade n marks numbers values times′ results r
+      one-made m c k = made m (omega arith) (front c) k
+
+      pub several-made : MacroIs marks true → 2 ≤ effectCountAt marks → {times′ : List ℤ} {r : ℕ}
+          → More times place (setStrokes (pairsOf marks results) w) times′ r
+          → StrokesMade n marks numbers values times′ results r
+      several-made m c k = made m (omega arith) (g .is ∙ all) k
+        where
+          all : heldStrokes (effectsAt marks numbers) w ≡ workStrokes (effectsAt marks numbers) w
+          all = rw (several-effects marks numbers c) refl

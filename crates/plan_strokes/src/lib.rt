@@ -1,10 +1,12 @@
 // What a source step becomes in R: its opening once, then for each stage of its macro a run of the falling or of the rising action, and the
-// turn. The strokes say how long each run is, one signed number a stage, so they give the price of the step, its numbers in R, and, last, what
-// its effect gives. Expanding writes these runs, projecting compares a plan with them.
+// turn. The strokes say how long each run is, one signed number a stage, so they give the price of the step and its numbers in R; what its
+// effects give is found on the way. Expanding writes these runs, projecting compares a plan with them.
 //
 // Strokes go by the values before the step, into lent times. It never reads a file or a plan's action numbers.
+use file_actions::EFFECTS;
 use file_actions::TERMS;
 use source_step::ADD;
+use source_step::BLOCK;
 use source_step::CONSTANT;
 use source_step::COUNT;
 use source_step::KIND;
@@ -18,153 +20,238 @@ use source_step::TARGET;
 use source_step::TERM;
 use source_step::VARIABLES;
 ghost use mathlib.Core.Path.{_≡_};
-ghost use mathlib.Core.Bool.{true, _&&_};
+ghost use mathlib.Core.List.{[], _∷_};
 ghost use Prim.Native.Nat.{_+_, _≤_, _<_};
 ghost use lib.ListN.{length, take, drop};
-ghost use lib.IntN.{natAbs};
-ghost use Rattle.integers.specs.Division.{unitLess, floor};
+ghost use lib.IntN.{ℤ};
+ghost use Rattle.integers.specs.Division.{unitLess, floor, quotientOf};
 ghost use Rattle.integers.specs.Parts.{Within, EachWithin};
 ghost use Rattle.lists.specs.Writing.{Room, Wrote};
 ghost use Rattle.model.specs.Plans.{planBytes, planNumbers};
 ghost use Rattle.model.specs.Following.{agreeing};
 ghost use Rattle.model.specs.Steps.{integerAt};
-ghost use Rattle.model.specs.Tasks.{linearEffect};
-ghost use Rattle.source_step.specs.Parts.{small, divides};
-ghost use Rattle.source_step.specs.Row.{kindAt, targetAt, constantAt, termsAt, effectAt, ResultIs, Reads, Usable};
-ghost use Rattle.plan_strokes.specs.Strokes.{strokesOf, stageSteps, macroSteps, stepNumbers, priceOfStrokes};
-ghost use Rattle.plan_strokes.specs.Made.{Listed, Two, RunOf, divisionStrokes, Turned};
-ghost use Rattle.plan_strokes.specs.Opening.{Sized, Opened};
-ghost use Rattle.source_step.specs.Sizes.{VARIABLES, MODES};
+ghost use Rattle.source_step.specs.Row.{effectCountAt, kindAt, pairsOf, Reads, Usable};
+ghost use Rattle.plan_strokes.specs.Strokes.{setStrokes, stageSteps, macroSteps, stepNumbers, priceOfStrokes};
+ghost use Rattle.plan_strokes.specs.Made.{More, TermsMade, ResultMade, HeldMade, StrokesMade, MacroIs, RunOf, Turned};
+ghost use Rattle.plan_strokes.specs.Opening.{EffectSized, Sized, Opened};
+ghost use Rattle.source_step.specs.Sizes.{VARIABLES, MODES, EFFECTS};
 ghost use Rattle.plan_strokes.specs.Strokes.{STAGES};
 
 // The most stages of a macro.
-pub const STAGES: usize = 10;
+pub const STAGES: usize = 33;
 
 // How many actions a stage has, and which of them is the turn.
 const STAGE: u16 = 3;
 
 const TURN: u16 = 2;
 
-// Two strokes behind the first `at`; and how many there are then.
-fn put_two(times: &mut [i64; STAGES], at: usize, first: i64, second: i64) -> usize
-    requires { ⌜ (at ≤ 8) × (length (now times) ≡ STAGES) ⌝ }
-    ensures { λ r. ⌜ Two (now (times .entry)) at first second (now (times .exit)) r ⌝ }
+// Whether the action of a row becomes a macro: it has several effects, or one that is no +.
+pub fn makes_macro(marks: &[u16; MARKS]) -> bool
+    ensures { λ r. ⌜ MacroIs (now (marks .entry)) r ⌝ }
 {
-    let next = at + 1;
-    times[at] = first;
-    times[next] = second;
-    next + 1
+    let count = source_step::effect_count(marks);
+    if count == 1 {
+        return marks[KIND] != ADD;
+    }
+    1 < count
 }
 
-// The strokes of an L with its terms: each term drained and filled again, the target before, and what it gives.
-fn put_linear(
+// A stroke behind the first `at`; and how many there are then.
+fn put_one(times: &mut [i64; STAGES], at: usize, z: i64) -> usize
+    requires { ⌜ (at < STAGES) × (length (now times) ≡ STAGES) ⌝ }
+    ensures { λ r. ⌜ More (now (times .entry)) at (z ∷ []) (now (times .exit)) r ⌝ }
+{
+    times[at] = z;
+    at + 1
+}
+
+// Two strokes.
+fn put_two(times: &mut [i64; STAGES], at: usize, first: i64, second: i64) -> usize
+    requires { ⌜ (at + 1 < STAGES) × (length (now times) ≡ STAGES) ⌝ }
+    ensures { λ r. ⌜ More (now (times .entry)) at (first ∷ second ∷ []) (now (times .exit)) r ⌝ }
+{
+    let next = put_one(times, at, first);
+    put_one(times, next, second)
+}
+
+// The strokes of the terms of an L, effect e of a row: each drained and filled again.
+fn put_terms(
     times: &mut [i64; STAGES],
+    at: usize,
     values: &[i64; VARIABLES],
     n: usize,
     marks: &[u16; MARKS],
-    numbers: &[i64; NUMBERS],
+    e: usize,
 ) -> usize
-    requires { ⌜ (length (now times) ≡ STAGES) × Reads n (now values) (now marks) (now numbers) ⌝ }
-    ensures { λ r. ⌜ Listed (strokesOf (linearEffect (targetAt (now (marks .entry))) (constantAt (now (numbers .entry)))
-        (termsAt (now (marks .entry)) (now (numbers .entry))))
-        (integerAt (take n (now (values .entry))))) (now (times .exit)) r ⌝ }
+    requires { ⌜ (at ≤ 24) × (length (now times) ≡ STAGES) × (n ≤ VARIABLES) × (e < EFFECTS) ⌝ }
+    ensures { λ r. ⌜ TermsMade (now (marks .entry)) e (integerAt (take n (now (values .entry)))) (now (times .entry)) at (now (times .exit)) r ⌝ }
 {
-    let k = source_step::lesser(TERMS, source_step::wide16(marks[COUNT]));
-    let mut count: usize = 0;
+    let block = BLOCK * e;
+    let k = source_step::lesser(TERMS, source_step::wide16(marks[COUNT + block]));
+    let mut count = at;
     let mut i: usize = 0;
     while i < k {
-        let value = source_step::value_of(values, n, marks[TERM + i]);
+        let value = source_step::value_of(values, n, marks[TERM + block + i]);
         count = put_two(times, count, value, value);
         i += 1;
     }
-    let before = source_step::value_of(values, n, marks[TARGET]);
-    put_two(
-        times,
-        count,
-        before,
-        source_step::linear_value(values, n, marks, numbers),
-    )
+    count
 }
 
-// How often Divide goes: the operand divided by |c|, rounded down.
-fn divide_strokes(y: i64, c: i64) -> i64
-    requires { ⌜ Within 10000 y × Within 2000000000000000 c × (0 < natAbs c) ⌝ }
-    ensures { λ r. ⌜ r ≡ floor y (unitLess c) ⌝ }
+// How often Divide goes, from the quotient: the operand divided by |c|, rounded down.
+fn divide_strokes(quotient: i64, c: i64) -> i64
+    requires { ⌜ Within 10000 quotient ⌝ }
+    ensures { λ r. ⌜ ((y : ℤ) → quotient ≡ quotientOf y c → r ≡ floor y (unitLess c)) ⌝ }
 {
-    let quotient = integers::quotient(y, c);
     if 0 <= c {
         return quotient;
     }
     0 - quotient
 }
 
-// The strokes of a Q or R: the target before, the operand, what it is divided by, and what Empty and Move take away.
-fn put_division(
-    times: &mut [i64; STAGES],
-    target: i64,
-    y: i64,
-    c: i64,
-    emptied: i64,
-    moved: i64,
-) -> usize
-    requires { ⌜ (length (now times) ≡ STAGES) × (((small target && small y) && divides c) ≡ true) × Within 1000000000 emptied × Within 1000000000 moved ⌝ }
-    ensures { λ r. ⌜ Listed (divisionStrokes target y c emptied moved) (now (times .exit)) r ⌝ }
-{
-    let drained = put_two(times, 0, y, y);
-    let divided = put_two(times, drained, divide_strokes(y, c), emptied);
-    put_two(times, divided, target, moved)
-}
-
-// The strokes of a Q or R by its row. What Move takes away is what the effect gives, and Empty takes away the other one.
+// The strokes of a Q or R, effect e of a row, before Clear: the operand drained and filled again, what Divide counts, what Empty takes away;
+// and what the effect gives.
 fn put_divided(
     times: &mut [i64; STAGES],
+    at: usize,
     values: &[i64; VARIABLES],
     n: usize,
     marks: &[u16; MARKS],
     numbers: &[i64; NUMBERS],
+    e: usize,
 ) -> usize
-    requires { ⌜ (length (now times) ≡ STAGES) × Reads n (now values) (now marks) (now numbers) × (3 ≤ kindAt (now marks)) ⌝ }
-    ensures { λ r. ⌜ Listed (strokesOf (effectAt (now (marks .entry)) (now (numbers .entry))) (integerAt (take n (now (values .entry)))))
-        (now (times .exit)) r ⌝ }
+    requires { ⌜ (at ≤ 24) × (length (now times) ≡ STAGES) × Reads n (now values) (now marks) (now numbers) × (e < EFFECTS) × (2 ≤ kindAt (now marks) e) ⌝ }
+    ensures { λ r. ⌜ ResultMade n (now (marks .entry)) (now (numbers .entry)) (now (values .entry)) e (now (times .entry)) at (now (times .exit)) r ⌝ }
 {
-    let target = source_step::value_of(values, n, marks[TARGET]);
-    let y = source_step::value_of(values, n, marks[OPERAND]);
-    let c = numbers[CONSTANT];
+    let block = BLOCK * e;
+    let y = source_step::value_of(values, n, marks[OPERAND + block]);
+    let c = numbers[CONSTANT + block];
     let quotient = integers::quotient(y, c);
     let residue = integers::residue(y, c);
-    if marks[KIND] == QUOTIENT {
-        return put_division(times, target, y, c, residue, quotient);
+    let drained = put_two(times, at, y, y);
+    let divided = put_one(times, drained, divide_strokes(quotient, c));
+    if marks[KIND + block] == QUOTIENT {
+        return put_two(times, divided, residue, quotient);
     }
-    put_division(times, target, y, c, quotient, residue)
+    put_two(times, divided, quotient, residue)
 }
 
-// The strokes of the effect of a row, over the values before the step, at the front of lent times; and how many there are. An action that
-// stays one action has none.
+// The strokes of effect e of a row before Clear, and what it gives.
+fn put_result(
+    times: &mut [i64; STAGES],
+    at: usize,
+    values: &[i64; VARIABLES],
+    n: usize,
+    marks: &[u16; MARKS],
+    numbers: &[i64; NUMBERS],
+    e: usize,
+) -> usize
+    requires { ⌜ (at ≤ 24) × (length (now times) ≡ STAGES) × Reads n (now values) (now marks) (now numbers) × (e < EFFECTS) ⌝ }
+    ensures { λ r. ⌜ ResultMade n (now (marks .entry)) (now (numbers .entry)) (now (values .entry)) e (now (times .entry)) at (now (times .exit)) r ⌝ }
+{
+    let block = BLOCK * e;
+    let kind = marks[KIND + block];
+    if kind == ADD {
+        let before = source_step::value_of(values, n, marks[TARGET + block]);
+        let drained = put_two(times, at, before, before);
+        let sum = source_step::result_of(values, n, marks, numbers, e);
+        return put_one(times, drained, sum);
+    }
+    if kind == LINEAR {
+        let drained = put_terms(times, at, values, n, marks, e);
+        let sum = source_step::linear_value(values, n, marks, numbers, e);
+        return put_one(times, drained, sum);
+    }
+    put_divided(times, at, values, n, marks, numbers, e)
+}
+
+// The strokes of the effects of a row up to the last Move into a hold; and what the effects give.
+fn put_held(
+    times: &mut [i64; STAGES],
+    results: &mut [i64; EFFECTS],
+    values: &[i64; VARIABLES],
+    n: usize,
+    marks: &[u16; MARKS],
+    numbers: &[i64; NUMBERS],
+    count: usize,
+) -> usize
+    requires { ⌜ (length (now times) ≡ STAGES) × (length (now results) ≡ EFFECTS) × Reads n (now values) (now marks) (now numbers)
+        × (count ≡ effectCountAt (now marks)) ⌝ }
+    ensures { λ r. ⌜ HeldMade n (now (marks .entry)) (now (numbers .entry)) (now (values .entry)) (now (times .exit)) (now (results .exit)) r ⌝ }
+{
+    let mut place: usize = 0;
+    let mut e: usize = 0;
+    while e < count {
+        place = put_result(times, place, values, n, marks, numbers, e);
+        let last = place - 1;
+        results[e] = times[last];
+        e += 1;
+    }
+    place
+}
+
+// What stands in a hold.
+fn held_in(results: &[i64; EFFECTS], e: usize) -> i64
+    requires { ⌜ e < EFFECTS ⌝ }
+    ensures { λ r. ⌜ r ≡ integerAt (now (results .entry)) e ⌝ }
+{
+    results[e]
+}
+
+// The strokes behind those: each target cleared, and the Move of its result from its hold.
+fn put_sets(
+    times: &mut [i64; STAGES],
+    at: usize,
+    results: &[i64; EFFECTS],
+    values: &[i64; VARIABLES],
+    n: usize,
+    marks: &[u16; MARKS],
+    count: usize,
+) -> usize
+    requires { ⌜ (at ≤ 27) × (length (now times) ≡ STAGES) × (length (now results) ≡ EFFECTS) × (n ≤ VARIABLES) × (count ≡ effectCountAt (now marks)) ⌝ }
+    ensures { λ r. ⌜ More (now (times .entry)) at (setStrokes (pairsOf (now (marks .entry)) (now (results .entry))) (integerAt (take n (now (values .entry)))))
+        (now (times .exit)) r ⌝ }
+{
+    let mut place = at;
+    let mut e: usize = 0;
+    while e < count {
+        let before = source_step::value_of(values, n, marks[TARGET + BLOCK * e]);
+        place = put_two(times, place, before, held_in(results, e));
+        e += 1;
+    }
+    place
+}
+
+// The strokes of the effects of a row, over the values before the step, at the front of lent times, and how many there are: none where the
+// action stays one. What the effects give goes into lent results. A single effect's result stays where the stages before Clear leave it, so
+// that Clear takes the place of the Move into a hold.
 pub fn put_strokes(
     times: &mut [i64; STAGES],
+    results: &mut [i64; EFFECTS],
     values: &[i64; VARIABLES],
     n: usize,
     marks: &[u16; MARKS],
     numbers: &[i64; NUMBERS],
 ) -> usize
-    requires { ⌜ (length (now times) ≡ STAGES) × Reads n (now values) (now marks) (now numbers) ⌝ }
-    ensures { λ r. ⌜ Listed (strokesOf (effectAt (now (marks .entry)) (now (numbers .entry))) (integerAt (take n (now (values .entry)))))
-        (now (times .exit)) r ⌝ }
+    requires { ⌜ (length (now times) ≡ STAGES) × (length (now results) ≡ EFFECTS) × Reads n (now values) (now marks) (now numbers) ⌝ }
+    ensures { λ r. ⌜ StrokesMade n (now (marks .entry)) (now (numbers .entry)) (now (values .entry)) (now (times .exit)) (now (results .exit)) r ⌝ }
 {
-    let kind = marks[KIND];
-    if kind <= ADD {
+    if !makes_macro(marks) {
+        source_step::put_results(results, values, n, marks, numbers);
         return 0;
     }
-    if kind == LINEAR {
-        return put_linear(times, values, n, marks, numbers);
+    let count = source_step::effect_count(marks);
+    let held = put_held(times, results, values, n, marks, numbers, count);
+    if count == 1 {
+        return put_sets(times, held - 1, results, values, n, marks, count);
     }
-    put_divided(times, values, n, marks, numbers)
+    put_sets(times, held, results, values, n, marks, count)
 }
 
 // The price of a step with so many strokes: its opening, and for each stage its strokes and its turn.
 pub fn price_of(times: &[i64; STAGES], count: usize) -> u64
     requires { ⌜ (count ≤ STAGES) × (length (now times) ≡ STAGES) × EachWithin 1000000000 (take count (now times)) ⌝ }
-    ensures { λ r. ⌜ (r ≡ priceOfStrokes (take count (now (times .entry)))) × (r ≤ 20000000000) ⌝ }
+    ensures { λ r. ⌜ (r ≡ priceOfStrokes (take count (now (times .entry)))) × (r ≤ 40000000000) ⌝ }
 {
     let mut price: u64 = 1;
     let mut i: usize = 0;
@@ -175,26 +262,6 @@ pub fn price_of(times: &[i64; STAGES], count: usize) -> u64
     price
 }
 
-// What the effect of a row gives its target, from its strokes: Move takes it away, last. Any number where the effect gives nothing.
-pub fn result_from(
-    times: &[i64; STAGES],
-    count: usize,
-    values: &[i64; VARIABLES],
-    n: usize,
-    marks: &[u16; MARKS],
-    numbers: &[i64; NUMBERS],
-) -> i64
-    requires { ⌜ Reads n (now values) (now marks) (now numbers)
-        × Listed (strokesOf (effectAt (now marks) (now numbers)) (integerAt (take n (now values)))) (now times) count ⌝ }
-    ensures { λ r. ⌜ ResultIs n (now (marks .entry)) (now (numbers .entry)) (now (values .entry)) r ⌝ }
-{
-    if count == 0 {
-        return source_step::result_of(values, n, marks, numbers);
-    }
-    let last = count - 1;
-    times[last]
-}
-
 // What a step comes to: whether its action applies, and its price, which is 0 where the test of its row fails.
 pub struct Turn {
     pub applied: bool,
@@ -202,7 +269,7 @@ pub struct Turn {
 }
 
 // Takes the action of two rows in a lent state where it applies, and else leaves the state as it was. The price is counted from the values
-// before: an action that stays one costs 1, without strokes.
+// before. The times are lent for its strokes.
 pub fn take_priced(
     values: &mut [i64; VARIABLES],
     modes: &mut [u16; MODES],
@@ -223,15 +290,10 @@ pub fn take_priced(
             price: 0,
         };
     }
-    if marks[KIND] <= ADD {
-        let result = source_step::result_of(values, n, marks, numbers);
-        let applied = source_step::finish(values, modes, n, m, marks, numbers, result);
-        return Turn { applied, price: 1 };
-    }
-    let count = put_strokes(times, values, n, marks, numbers);
+    let mut results = [0i64; EFFECTS];
+    let count = put_strokes(times, &mut results, values, n, marks, numbers);
     let price = price_of(times, count);
-    let result = result_from(times, count, values, n, marks, numbers);
-    let applied = source_step::finish(values, modes, n, m, marks, numbers, result);
+    let applied = source_step::finish(values, modes, n, m, marks, numbers, &results);
     Turn { applied, price }
 }
 
@@ -363,18 +425,41 @@ pub struct Openings {
     pub numbers: [u16; ENTRIES],
 }
 
-// How many restricted actions the action of a row becomes: at most 31.
+// How many restricted actions effect e of a row becomes where there are several: the stages before Clear, Clear, and two Moves. At most 33.
+fn effect_size(marks: &[u16; MARKS], e: usize) -> u16
+    requires { ⌜ e < EFFECTS ⌝ }
+    ensures { λ r. ⌜ EffectSized (now (marks .entry)) e r ⌝ }
+{
+    let block = BLOCK * e;
+    let kind = marks[KIND + block];
+    if kind == ADD {
+        return 15;
+    }
+    if kind == LINEAR {
+        return 9
+            + 6 * (source_step::lesser(TERMS, source_step::wide16(marks[COUNT + block])) as u16);
+    }
+    21
+}
+
+// How many restricted actions the action of a row becomes: at most 100. A single effect has no Move into a hold.
 fn macro_size(marks: &[u16; MARKS]) -> u16
     ensures { λ r. ⌜ Sized (now (marks .entry)) r ⌝ }
 {
-    let kind = marks[KIND];
-    if kind <= ADD {
+    if !makes_macro(marks) {
         return 1;
     }
-    if kind == LINEAR {
-        return 7 + 6 * (source_step::lesser(TERMS, source_step::wide16(marks[COUNT])) as u16);
+    let count = source_step::effect_count(marks);
+    let mut size: u16 = 1;
+    let mut e: usize = 0;
+    while e < count {
+        size += effect_size(marks, e);
+        e += 1;
     }
-    19
+    if count == 1 {
+        return size - STAGE;
+    }
+    size
 }
 
 // The number of the first restricted action of each source action, and behind the last the count of all.

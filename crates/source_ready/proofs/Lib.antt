@@ -1,3 +1,5 @@
+pub mod Blocks
+pub mod Decoded
 pub mod Effects
 pub mod Making
 pub mod Modes

@@ -18,20 +18,21 @@ use Rattle.lists.specs.Each.{tabulate}
 use Rattle.lists.specs.Loops.{every}
 use Rattle.lists.proofs.Each.{length-tabulate, getD-tabulate}
 use Rattle.lists.proofs.Loops.{and-left, and-right, every-at}
-use Rattle.model.specs.Tasks.{NumericCondition}
+use Rattle.model.specs.Tasks.{NumericCondition, SourceAction}
 use Rattle.model.specs.Limits.{sourceLimits}
 use Rattle.model.specs.Steps.{integerAt, naturalAt, conditionsHold}
 use Rattle.model.specs.TaskOk.{ConditionIn}
 use Rattle.model.proofs.AcceptedSource.{conditions-in}
-use Rattle.file_actions.specs.declared.SourceAction.{SourceAction as DecodedSource}
+use Rattle.file_actions.specs.declared.Effects.{Effects}
 use Rattle.file_actions.specs.Views.{sourceActionIs}
 use Rattle.file_actions.specs.Within.{ConditionsWithin}
+use Rattle.source_step.specs.Layout.{MARKS, NUMBERS}
 use Rattle.source_step.specs.Parts.{valuesBetween, modesBelow}
 use Rattle.source_step.proofs.Sound.{tabulate-same}
-use Rattle.source_step.proofs.Steps.{effect-near}
+use Rattle.source_step.proofs.Steps.{effects-near}
 use Rattle.source_step.specs.Row.{valuesIn, modesIn, modesAfter, RowOf}
 use Rattle.source_ready.specs.Narrowed.{ModesIndexed, RangesPut, ModesPut}
-use Rattle.source_ready.specs.Made.{Blank, EffectPut, RowFits}
+use Rattle.source_ready.specs.Made.{BlankFrom, EffectsPut, RowFits}
 
 -- zeros
 pub zeros-at : {A : Type 0} (k : ℕ) (d : A) (j : ℕ) → getD (replicate k d) j d ≡ d
@@ -48,20 +49,23 @@ every-passes (suc n) f h = ap₂ _&&_ (h 0 (omega arith)) (every-passes n (λ k.
 each-passes : (n : ℕ) (f : ℕ → Bool) → every (λ b. b) (tabulate n f) ≡ true → (i : ℕ) → i < n → f i ≡ true
 each-passes n f h i l = sym (getD-tabulate n f i true l) ∙ every-at (λ b. b) (tabulate n f) i true h (omega (arith, length-tabulate n f, l))
 
--- ---- the rows before the effect is written
-marks-zero : {marks : List ℕ} → marks ≡ replicate 24 0 → (j : ℕ) → naturalAt marks j ≡ 0
-marks-zero e j = ap (λ (l : List ℕ). naturalAt l j) e ∙ zeros-at 24 0 j
+-- ---- the rows before the effects are written
+marks-zero : {marks : List ℕ} → marks ≡ replicate MARKS 0 → (j : ℕ) → naturalAt marks j ≡ 0
+marks-zero e j = ap (λ (l : List ℕ). naturalAt l j) e ∙ zeros-at MARKS 0 j
 
 pub blank : {lower upper : List ℤ} {cs : List (NumericCondition ℕ)} {m : ℕ} {sizes : List ℕ} {ps es : List (ℕ × ℕ)} {marks₀ : List ℕ} {numbers₀ : List ℤ} {marks₁ : List ℕ} {numbers₁ : List ℤ}
-    → marks₀ ≡ replicate 24 0 → numbers₀ ≡ replicate 24 (pos 0) → RangesPut lower upper cs numbers₀ numbers₁ → ModesPut m sizes ps es marks₀ marks₁ → Blank marks₁ numbers₁
+    → marks₀ ≡ replicate MARKS 0 → numbers₀ ≡ replicate NUMBERS (pos 0) → RangesPut lower upper cs numbers₀ numbers₁ → ModesPut m sizes ps es marks₀ marks₁ → BlankFrom 0 marks₁ numbers₁
 blank e f r p = record {
   marksLong = p .long;
   numbersLong = r .long;
-  marksBlank = λ j l. p .rest j l ∙ marks-zero e j;
-  numbersBlank = λ j l. r .rest j l ∙ ap (λ (l : List ℤ). integerAt l j) f ∙ zeros-at 24 (pos 0) j;
+  marksBlank = λ j l. p .rest j (omega arith) ∙ marks-zero e j;
+  numbersBlank = λ j l. r .rest j (omega arith) ∙ ap (λ (l : List ℤ). integerAt l j) f ∙ zeros-at NUMBERS (pos 0) j;
 }
 
-module _ {n m : ℕ} {lower upper : List ℤ} {sizes : List ℕ} {a : DecodedSource} (fit : RowFits n m lower upper sizes a) where
+module _ {n m : ℕ} {lower upper : List ℤ} {sizes : List ℕ} {parts : List ℕ} {constants : List ℤ} {effects : Effects} (fit : RowFits n m lower upper sizes parts constants effects) where
+  abbrev a : SourceAction
+  a = sourceActionIs parts constants effects
+
   value-near : (x : List ℤ) → valuesBetween n lower upper x ≡ true → (j : ℕ) → natAbs (integerAt (take n x) j) ≤ 10000
   value-near x h j = go (ltb j n) refl
     where
@@ -78,7 +82,7 @@ module _ {n m : ℕ} {lower upper : List ℤ} {sizes : List ℕ} {a : DecodedSou
           rw (List·getD-eq-default (take n x) (pos 0) {n = j} (omega (arith, length-take n x))) (omega arith)
 
   -- what the parts ask
-  pub ranges-ask : ConditionsWithin sourceLimits 8 (a .marks) (a .numbers)
+  pub ranges-ask : ConditionsWithin sourceLimits 8 parts constants
   ranges-ask = record {
     few = fit .within .row .conditions .few;
     declared = λ i l. omega (arith, fit .within .row .conditions .declared i l, fit .few);
@@ -88,20 +92,20 @@ module _ {n m : ℕ} {lower upper : List ℤ} {sizes : List ℕ} {a : DecodedSou
   few-modes : length (take m sizes) ≤ 4
   few-modes = omega (arith, length-take m sizes, fit .sizesFit .few)
 
-  pub modes-ask : ModesIndexed (a .marks)
+  pub modes-ask : ModesIndexed parts
   modes-ask = record {
     conditions = record { few = omega (arith, fit .within .row .modeConditions .few); each = λ i l. omega (arith, fit .within .row .modeConditions .declared i l, few-modes) };
     effects = record { few = omega (arith, fit .within .row .modeEffects .few, few-modes); each = λ i l. omega (arith, fit .within .row .modeEffects .declared i l, few-modes) };
   }
 
-  module _ {marks₀ : List ℕ} {numbers₀ : List ℤ} {marks₁ : List ℕ} {numbers₁ : List ℤ} {marks₂ : List ℕ} {numbers₂ : List ℤ} (blank₀ : marks₀ ≡ replicate 24 0) (r : RangesPut lower upper (sourceActionIs a .conditions) numbers₀ numbers₁)
-      (p : ModesPut m sizes (sourceActionIs a .modeConditions) (sourceActionIs a .modeEffects) marks₀ marks₁)
-      (e : EffectPut n lower upper (sourceActionIs a .effect) marks₁ numbers₁ marks₂ numbers₂) where
+  module _ {marks₀ : List ℕ} {numbers₀ : List ℤ} {marks₁ : List ℕ} {numbers₁ : List ℤ} {marks₂ : List ℕ} {numbers₂ : List ℤ} (blank₀ : marks₀ ≡ replicate MARKS 0) (r : RangesPut lower upper (a .conditions) numbers₀ numbers₁)
+      (p : ModesPut m sizes (a .modeConditions) (a .modeEffects) marks₀ marks₁)
+      (e : EffectsPut n lower upper (a .effects) marks₁ numbers₁ marks₂ numbers₂) where
     made : (i y : ℕ) → i < 4 → y * naturalAt marks₂ (8 + i) + naturalAt marks₂ (12 + i) ≡ y * naturalAt marks₁ (8 + i) + naturalAt marks₁ (12 + i)
     made i y l = ap₂ (λ (a b : ℕ). y * a + b) (e .marksKept (8 + i) (omega arith)) (e .marksKept (12 + i) (omega arith))
 
-    declared : All (ConditionIn n) (sourceActionIs a .conditions)
-    declared = conditions-in n (sourceActionIs a .conditions) (fit .ok .conditionsOk .conditionsIn)
+    declared : All (ConditionIn n) (a .conditions)
+    declared = conditions-in n (a .conditions) (fit .ok .conditionsOk .conditionsIn)
 
     values-row : (x : List ℤ) → valuesIn n numbers₂ x ≡ valuesIn n numbers₁ x
     values-row x =
@@ -128,21 +132,22 @@ module _ {n m : ℕ} {lower upper : List ℤ} {sizes : List ℕ} {a : DecodedSou
         rw is (lt-ltb _ _ (p .stays (marks-zero blank₀) (fit .ok .modeEffectsIn) i l (naturalAt x i) b)))
 
     -- THE LAW
-    pub row-of : RowOf n m lower upper sizes marks₂ numbers₂ (sourceActionIs a)
+    pub row-of : RowOf n m lower upper sizes marks₂ numbers₂ a
     row-of = record {
       usable = record {
-        near = λ x h. value-near x (and-left (valuesBetween n lower upper x) (conditionsHold (sourceActionIs a .conditions) (integerAt (take n x))) (sym (values-row x ∙ r .values n (fit .few) declared x) ∙ h));
+        near = λ x h. value-near x (and-left (valuesBetween n lower upper x) (conditionsHold (a .conditions) (integerAt (take n x))) (sym (values-row x ∙ r .values n (fit .few) declared x) ∙ h));
         keeps = λ i l. rw (e .marksKept (8 + i) (omega arith), e .marksKept (12 + i) (omega arith)) (p .keeps (marks-zero blank₀) (fit .ok .modeEffectsIn) i l);
-        factors = e .factors;
-        divides = e .divides;
-        unweighted = e .unweighted;
+        constants = λ j l. e .bounded j l .constant;
+        weights = λ j i l. e .bounded j l .weights i;
+        divides = λ j l. e .bounded j l .divides;
+        unweighted = λ j i l. e .bounded j l .unweighted i;
       };
       values = λ x. values-row x ∙ r .values n (fit .few) declared x;
       modes = λ x. modes-row x ∙ p .modes (marks-zero blank₀) (fit .ok .conditionsOk .modeConditionsIn) x;
       sets = λ x l. after-row x ∙ p .sets (marks-zero blank₀) (fit .ok .modeEffectsIn) x l;
       setsBelow = λ x l h. stays-below x h;
-      effect = e .effect;
-      fits = λ x h. effect-near n (integerAt (take n x)) (value-near x h) (sourceActionIs a .effect) (fit .ok .effectOk);
+      effects = e .effects;
+      fits = λ x h. effects-near n (integerAt (take n x)) (value-near x h) (a .effects) (fit .ok .effectsOk);
       targetDeclared = e .targetDeclared;
       lowerAt = e .lowerAt;
       upperAt = e .upperAt;

@@ -18,6 +18,7 @@ use Rattle.lists.specs.Loops.{every}
 use Rattle.lists.proofs.Each.{length-tabulate, getD-tabulate}
 use Rattle.model.specs.Steps.{naturalAt, modesHold, setAll}
 use Rattle.model.specs.TaskOk.{ValuesIn}
+use Rattle.source_step.specs.Layout.{MARKS}
 use Rattle.source_step.specs.Parts.{modesBelow}
 use Rattle.source_step.proofs.Sound.{tabulate-same}
 use Rattle.source_step.specs.Row.{modesIn}
@@ -89,7 +90,7 @@ held-other l i v j p q = capped-other (raisedMark l i v) (4 + i) v j q ∙ raise
 abbrev asks : List ℕ → ℕ → ℕ → Bool
 asks l i x = leb (naturalAt l i) x && leb x (naturalAt l (4 + i))
 
-held-asks : (l : List ℕ) (i v x : ℕ) → length l ≡ 24 → i < 4 → asks (held l i v) i x ≡ (asks l i x && eqb x v)
+held-asks : (l : List ℕ) (i v x : ℕ) → length l ≡ MARKS → i < 4 → asks (held l i v) i x ≡ (asks l i x && eqb x v)
 held-asks l i v x long h =
     let e : length (raisedMark l i v) ≡ length l = raised-long l i v in
     ap₂ _&&_
@@ -99,14 +100,14 @@ held-asks l i v x long h =
     ∙ ap (λ (b : Bool). asks l i x && b) (only-value x v)
 
 module _ (m : ℕ) (few : m ≤ 4) where
-  held-row : (l : List ℕ) (i v : ℕ) → length l ≡ 24 → i < m → (x : List ℕ) → modesIn m (held l i v) x ≡ (modesIn m l x && eqb (naturalAt (take m x) i) v)
+  held-row : (l : List ℕ) (i v : ℕ) → length l ≡ MARKS → i < m → (x : List ℕ) → modesIn m (held l i v) x ≡ (modesIn m l x && eqb (naturalAt (take m x) i) v)
   held-row l i v long h x =
       every-narrowed m i (λ j. asks l j (naturalAt x j)) (λ j. asks (held l i v) j (naturalAt x j)) (eqb (naturalAt (take m x) i) v) h
       (held-asks l i v (naturalAt x i) long (omega arith) ∙ ap (λ (y : ℕ). asks l i (naturalAt x i) && eqb y v) (sym (getD-take m x i 0 h)))
       (λ j k q. ap₂ (λ (a b : ℕ). leb a (naturalAt x j) && leb (naturalAt x j) b) (held-other l i v j q (λ e. omega arith)) (held-other l i v (4 + j) (λ e. omega arith) (λ e. q (omega arith))))
 
   -- all of them, in modes of which there are m
-  all-held-row : (zs : List ℕ) → length zs ≤ m → (ps : List (ℕ × ℕ)) → ValuesIn zs ps → (l : List ℕ) → length l ≡ 24 → (x : List ℕ) → modesIn m (heldAll ps l) x ≡ (modesIn m l x && modesHold ps (naturalAt (take m x)))
+  all-held-row : (zs : List ℕ) → length zs ≤ m → (ps : List (ℕ × ℕ)) → ValuesIn zs ps → (l : List ℕ) → length l ≡ MARKS → (x : List ℕ) → modesIn m (heldAll ps l) x ≡ (modesIn m l x && modesHold ps (naturalAt (take m x)))
   all-held-row zs short [] h l long x = sym (and-true (modesIn m l x))
     where
       and-true : (b : Bool) → (b && true) ≡ b
@@ -141,7 +142,7 @@ marked-long l i v = length-set (set l (8 + i) 0) (12 + i) v ∙ length-set l (8 
 abbrev makes : List ℕ → ℕ → ℕ → ℕ
 makes l i y = y * naturalAt l (8 + i) + naturalAt l (12 + i)
 
-module _ (l : List ℕ) (i v : ℕ) (long : length l ≡ 24) (h : i < 4) where
+module _ (l : List ℕ) (i v : ℕ) (long : length l ≡ MARKS) (h : i < 4) where
   marked-makes : (y : ℕ) → makes (marked l i v) i y ≡ v
   marked-makes y =
       let n : length (set l (8 + i) 0) ≡ length l = length-set l (8 + i) 0 in
@@ -166,7 +167,7 @@ all-marked-behind [] h l j k = refl
 all-marked-behind (e ∷ es) (h, hs) l j k = all-marked-behind es hs (marked l (e .0) (e .1)) j k ∙ marked-other l (e .0) (e .1) j (λ q. omega arith) (λ q. omega arith)
 
 -- the modes after all of them
-all-marked-row : (m : ℕ) → m ≤ 4 → (es : List (ℕ × ℕ)) → All Roomy es → (l : List ℕ) → length l ≡ 24 → (x : List ℕ)
+all-marked-row : (m : ℕ) → m ≤ 4 → (es : List (ℕ × ℕ)) → All Roomy es → (l : List ℕ) → length l ≡ MARKS → (x : List ℕ)
     → tabulate m (λ j. makes (markedAll es l) j (naturalAt x j)) ≡ setAll es (tabulate m (λ j. makes l j (naturalAt x j)))
 all-marked-row m few [] h l long x = refl
 all-marked-row m few (e ∷ es) (h, hs) l long x =
@@ -179,7 +180,7 @@ all-marked-row m few (e ∷ es) (h, hs) l long x =
 abbrev Stays : ℕ → (ℕ → ℕ) → List ℕ → Type 0
 Stays k s l = (i : ℕ) → i < k → (y : ℕ) → y < s i → makes l i y < s i
 
-all-marked-stays : (k : ℕ) → k ≤ 4 → (s : ℕ → ℕ) (es : List (ℕ × ℕ)) → All Roomy es → All (λ (e : ℕ × ℕ). e .1 < s (e .0)) es → (l : List ℕ) → length l ≡ 24 → Stays k s l → Stays k s (markedAll es l)
+all-marked-stays : (k : ℕ) → k ≤ 4 → (s : ℕ → ℕ) (es : List (ℕ × ℕ)) → All Roomy es → All (λ (e : ℕ × ℕ). e .1 < s (e .0)) es → (l : List ℕ) → length l ≡ MARKS → Stays k s l → Stays k s (markedAll es l)
 all-marked-stays k few s [] h b l long t = t
 all-marked-stays k few s (e ∷ es) (h, hs) (b, bs) l long t =
     all-marked-stays k few s es hs bs (marked l (e .0) (e .1)) (marked-long l (e .0) (e .1) ∙ long) (λ i q y r. go i q y r (eqb i (e .0)) refl)
@@ -189,7 +190,7 @@ all-marked-stays k few s (e ∷ es) (h, hs) (b, bs) l long t =
     go i q y r false f = rw (marked-elsewhere l (e .0) (e .1) long h i y (omega arith) (eqb-false i (e .0) f)) (t i q y r)
 
 -- ---- the sizes of the task first
-pub sizes-begin : (sizes marks : List ℕ) → length marks ≡ 24 → SizesPut 0 sizes marks marks
+pub sizes-begin : (sizes marks : List ℕ) → length marks ≡ MARKS → SizesPut 0 sizes marks marks
 sizes-begin sizes marks h = record { long = h; mosts = λ i l. absurd (omega arith); stay = λ i l. absurd (omega arith); leasts = λ i l. refl; others = λ i l k. refl; rest = λ j l. refl }
 
 module _ (k : ℕ) (sizes marks₀ marks : List ℕ) (h : SizesPut k sizes marks₀ marks) (few : k < 4) (a : ℕ) (isMost : a + 1 ≡ naturalAt sizes k) where
@@ -275,7 +276,7 @@ modes-put m sizes marks₀ marks ps es fit rp re put = record {
       omega arith;
 }
   where
-    long₁ : length (heldAll ps marks) ≡ 24
+    long₁ : length (heldAll ps marks) ≡ MARKS
     long₁ = all-held-long ps marks ∙ put .long
 
     same : (i y : ℕ) → makes (heldAll ps marks) i y ≡ makes marks i y

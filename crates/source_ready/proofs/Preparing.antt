@@ -24,7 +24,7 @@ use Rattle.model.specs.Decoding.{sourceActionOf, readSource}
 use Rattle.model.specs.ActionBytes.{edgeOf, actionPart, decodeAction}
 use Rattle.model.proofs.AcceptedOk.{accepted-source-ok}
 use Rattle.model.proofs.StageWalk.{all-get, all-map}
-use Rattle.file_actions.specs.declared.SourceAction.{SourceAction as DecodedSource}
+use Rattle.file_actions.specs.declared.Effects.{Effects}
 use Rattle.file_actions.specs.Places.{edgesOf, goalPart}
 use Rattle.file_actions.specs.Views.{sourceActionIs, SourceDecoded, fittingSource}
 use Rattle.file_actions.proofs.Accepted.{source-action-decoded, source-action-within, goal-action-ok, source-goal-decoded, source-edges, places-at}
@@ -72,25 +72,27 @@ module _ (file : List ℕ) (bytes : Bytes file) (count n : ℕ) (lower upper : L
     uppers-near i l = rw (declares .holds t is .upperIs i l)
         (within-all (λ (b : SourceVariable). b .upper) (t .variables) (all-map (SourceVariableOk sourceLimits) (λ (b : SourceVariable). natAbs (b .upper) ≤ 10_000) (λ b z. z .1) (t .variables) (accepted-source-ok file t is .variablesIn)) i)
 
-    module _ (k : ℕ) (below : k < count) (a : DecodedSource) (decodes : SourceDecoded (fittingSource (sourceActionOf (decodeAction (actionPart file k)))) a) where
-      pub found : getElem? (t .actions) k ≡ some (sourceActionIs a)
-      found = source-action-decoded file bytes t is k (omega (arith, counted-task file count bytes accepted t is)) a decodes
+    module _ (k : ℕ) (below : k < count) (parts : List ℕ) (constants : List ℤ) (effects : Effects)
+        (decodes : SourceDecoded (fittingSource (sourceActionOf (decodeAction (actionPart file k)))) parts constants effects) where
+      pub found : getElem? (t .actions) k ≡ some (sourceActionIs parts constants effects)
+      found = source-action-decoded file bytes t is k (omega (arith, counted-task file count bytes accepted t is)) parts constants effects decodes
 
-      pub row-fits : RowFits n m lower upper sizes a
+      pub row-fits : RowFits n m lower upper sizes parts constants effects
       row-fits =
           let h = declares .holds t is in
           let ok = accepted-source-ok file t is in
           let c = counted-task file count bytes accepted t is in
           record {
             few = h .variablesFew;
-            ok = rw (h .variableCount, h .sizesAre) (all-get (SourceActionOk sourceLimits (length (t .variables)) (sizesOf (t .modes))) (t .actions) k (sourceActionIs a) (ok .actionsOk) found);
-            within = rw (h .variableCount, h .sizesAre) (source-action-within file bytes t is k (omega arith) a decodes);
+            ok = rw (h .variableCount, h .sizesAre) (all-get (SourceActionOk sourceLimits (length (t .variables)) (sizesOf (t .modes))) (t .actions) k (sourceActionIs parts constants effects) (ok .actionsOk) found);
+            within = rw (h .variableCount, h .sizesAre) (source-action-within file bytes t is k (omega arith) parts constants effects decodes);
             sizesFit = sizes-fit;
             lowersNear = lowers-near;
             uppersNear = uppers-near;
           }
 
-  pub action-fits : (k : ℕ) → k < count → (a : DecodedSource) → SourceDecoded (fittingSource (sourceActionOf (decodeAction (actionPart file k)))) a → RowFits n m lower upper sizes a
+  pub action-fits : (k : ℕ) → k < count → (parts : List ℕ) (constants : List ℤ) (effects : Effects) → SourceDecoded (fittingSource (sourceActionOf (decodeAction (actionPart file k)))) parts constants effects
+      → RowFits n m lower upper sizes parts constants effects
   action-fits = row-fits (task-of file count) (accepted-task file count accepted)
 
   -- the places of its actions
@@ -123,12 +125,12 @@ module _ (file : List ℕ) (bytes : Bytes file) (count n : ℕ) (lower upper : L
   begins marks numbers h g = record { bound = omega arith; marksLong = h; numbersLong = g; rows = λ t is j l. absurd (omega arith) }
 
   -- the goal, as an action
-  module _ (a : DecodedSource) (decodes : SourceDecoded (fittingSource (sourceActionOf (decodeAction (goalPart file count)))) a) where
-    goal-is : (t : SourceTask) → readSource file ≡ given t → SourceDecoded (goalAction t) a
-    goal-is t is = source-goal-decoded file bytes t is a
-        (subst (λ (n : ℕ). SourceDecoded (fittingSource (sourceActionOf (decodeAction (goalPart file n)))) a) (counted-task file count bytes accepted t is) decodes)
+  module _ (parts : List ℕ) (constants : List ℤ) (effects : Effects) (decodes : SourceDecoded (fittingSource (sourceActionOf (decodeAction (goalPart file count)))) parts constants effects) where
+    goal-is : (t : SourceTask) → readSource file ≡ given t → SourceDecoded (goalAction t) parts constants effects
+    goal-is t is = source-goal-decoded file bytes t is parts constants effects
+        (subst (λ (n : ℕ). SourceDecoded (fittingSource (sourceActionOf (decodeAction (goalPart file n)))) parts constants effects) (counted-task file count bytes accepted t is) decodes)
 
-    pub goal-fits : RowFits n m lower upper sizes a
+    pub goal-fits : RowFits n m lower upper sizes parts constants effects
     goal-fits =
         let t = task-of file count in
         let is = accepted-task file count accepted in
@@ -137,13 +139,13 @@ module _ (file : List ℕ) (bytes : Bytes file) (count n : ℕ) (lower upper : L
         record {
           few = h .variablesFew;
           ok = subst⁻¹ (SourceActionOk sourceLimits n (take m sizes)) (source-is (goal-is t is)) asks;
-          within = source-within sourceLimits n (take m sizes) (goalAction t) a asks (goal-is t is);
+          within = source-within sourceLimits n (take m sizes) (goalAction t) parts constants effects asks (goal-is t is) (decodes .few);
           sizesFit = sizes-fit t is;
           lowersNear = lowers-near t is;
           uppersNear = uppers-near t is;
         }
 
-    pub over : (k : ℕ) (marks : List (List ℕ)) (numbers : List (List ℤ)) → Made file count n lower upper m sizes k marks numbers → count ≤ k → (row : List ℕ) (line : List ℤ) → RowOf n m lower upper sizes row line (sourceActionIs a)
+    pub over : (k : ℕ) (marks : List (List ℕ)) (numbers : List (List ℤ)) → Made file count n lower upper m sizes k marks numbers → count ≤ k → (row : List ℕ) (line : List ℤ) → RowOf n m lower upper sizes row line (sourceActionIs parts constants effects)
         → Prepared file count n lower upper m sizes (set marks count row) (set numbers count line)
     over k marks numbers h l row line r = record {
       ready = λ t is. record {
@@ -171,8 +173,9 @@ module _ (file : List ℕ) (bytes : Bytes file) (count n : ℕ) (lower upper : L
               row = rw (getD-set-other marks count j row [] (λ s. omega arith), getD-set-other numbers count j line [] (λ s. omega arith)) (q .row);
             }
 
-  module _ (k : ℕ) (marks : List (List ℕ)) (numbers : List (List ℤ)) (h : Made file count n lower upper m sizes k marks numbers) (l : k < count) (a : DecodedSource) (decodes : SourceDecoded (fittingSource (sourceActionOf (decodeAction (actionPart file k)))) a)
-      (row : List ℕ) (line : List ℤ) (is : RowOf n m lower upper sizes row line (sourceActionIs a)) where
+  module _ (k : ℕ) (marks : List (List ℕ)) (numbers : List (List ℤ)) (h : Made file count n lower upper m sizes k marks numbers) (l : k < count) (parts : List ℕ) (constants : List ℤ) (effects : Effects)
+      (decodes : SourceDecoded (fittingSource (sourceActionOf (decodeAction (actionPart file k)))) parts constants effects)
+      (row : List ℕ) (line : List ℤ) (is : RowOf n m lower upper sizes row line (sourceActionIs parts constants effects)) where
     room : k < 32
     room = omega (arith, few-actions file count bytes accepted)
 
@@ -195,7 +198,7 @@ module _ (file : List ℕ) (bytes : Bytes file) (count n : ℕ) (lower upper : L
         go t e j b false q =
             let s : j ≡ k = omega (arith, ltb-false j k q) in
             record {
-              action = sourceActionIs a;
-              found = rw s (found t e k l a decodes);
+              action = sourceActionIs parts constants effects;
+              found = rw s (found t e k l parts constants effects decodes);
               row = rw (s, getD-set-same marks k row [] (omega (arith, room, h .marksLong)), getD-set-same numbers k line [] (omega (arith, room, h .numbersLong))) is;
             }

@@ -20,6 +20,7 @@ use Rattle.model.specs.Tasks.{Measured, variable, weightedSum, NumericCondition
 use Rattle.model.specs.InTask.{MeasureIn}
 use Rattle.model.specs.Steps.{integerAt, measure, conditionsHold}
 use Rattle.model.specs.TaskOk.{ConditionIn}
+use Rattle.source_step.specs.Layout.{NUMBERS}
 use Rattle.source_step.specs.Parts.{valuesBetween}
 use Rattle.source_step.proofs.Sound.{tabulate-same}
 use Rattle.source_step.specs.Row.{valuesIn}
@@ -80,7 +81,7 @@ unfolding raised
 raised-long l i z = length-setIf (ltZ (integerAt l i) z) l i z
 
 -- ---- one condition
-module _ (l : List ℤ) (i : ℕ) (long : length l ≡ 24) (few : i < 8) where
+module _ (l : List ℤ) (i : ℕ) (long : length l ≡ NUMBERS) (few : i < 8) where
   capped-asks : (z x : ℤ) → between (integerAt (capped l (8 + i) z) i) (integerAt (capped l (8 + i) z) (8 + i)) x ≡ (between (integerAt l i) (integerAt l (8 + i)) x && leZ x z)
   unfolding capped
   capped-asks z x =
@@ -97,7 +98,7 @@ module _ (l : List ℤ) (i : ℕ) (long : length l ≡ 24) (few : i < 8) where
       ∙ ap (λ (b : Bool). b && leZ x (integerAt l (8 + i))) (greater-bound (integerAt l i) z x)
       ∙ and-swap (leZ (integerAt l i) x) (leZ z x) (leZ x (integerAt l (8 + i)))
 
-module _ (l : List ℤ) (i : ℕ) (long : length l ≡ 24) (few : i < 8) where
+module _ (l : List ℤ) (i : ℕ) (long : length l ≡ NUMBERS) (few : i < 8) where
   abbrev asked : ℤ → Bool
   asked x = between (integerAt l i) (integerAt l (8 + i)) x
 
@@ -128,14 +129,14 @@ narrowed-long equal l i c = capped-long (raised l i c) (8 + i) c ∙ raised-long
 
 -- ---- in a task of n variables
 module _ (n : ℕ) (few : n ≤ 8) where
-  narrowed-row : (r : Relation) (l : List ℤ) (i : ℕ) (c : ℤ) → length l ≡ 24 → i < n → (x : List ℤ) → valuesIn n (narrowed r l i c) x ≡ (valuesIn n l x && related r (integerAt (take n x) i) c)
+  narrowed-row : (r : Relation) (l : List ℤ) (i : ℕ) (c : ℤ) → length l ≡ NUMBERS → i < n → (x : List ℤ) → valuesIn n (narrowed r l i c) x ≡ (valuesIn n l x && related r (integerAt (take n x) i) c)
   narrowed-row r l i c long h x =
       every-narrowed n i (λ j. between (integerAt l j) (integerAt l (8 + j)) (integerAt x j)) (λ j. between (integerAt (narrowed r l i c) j) (integerAt (narrowed r l i c) (8 + j)) (integerAt x j))
       (related r (integerAt (take n x) i) c) h
       (narrowed-asks l i long (omega arith) r c (integerAt x i) ∙ ap (λ (z : ℤ). between (integerAt l i) (integerAt l (8 + i)) (integerAt x i) && related r z c) (sym (getD-take n x i (pos 0) h)))
       (λ j k q. ap₂ (λ (a b : ℤ). between a b (integerAt x j)) (narrowed-other r l i c j q (λ e. omega arith)) (narrowed-other r l i c (8 + j) (λ e. omega arith) (λ e. q (omega arith))))
 
-  narrowed-on : (m : Measured ℕ) (r : Relation) (c : ℤ) (l : List ℤ) → length l ≡ 24 → MeasureIn (λ (i : ℕ). i < n) m → (x : List ℤ) → valuesIn n (narrowedOn m r c l) x ≡ (valuesIn n l x && related r (measure m (integerAt (take n x))) c)
+  narrowed-on : (m : Measured ℕ) (r : Relation) (c : ℤ) (l : List ℤ) → length l ≡ NUMBERS → MeasureIn (λ (i : ℕ). i < n) m → (x : List ℤ) → valuesIn n (narrowedOn m r c l) x ≡ (valuesIn n l x && related r (measure m (integerAt (take n x))) c)
   narrowed-on (variable i) r c l long h x = narrowed-row r l i c long h x
   narrowed-on (weightedSum ts) r c l long h x = absurd h
 
@@ -148,7 +149,7 @@ on-rest n (variable i) r c l few h j k = narrowed-other r l i c j (λ e. omega a
 on-rest n (weightedSum ts) r c l few h j k = refl
 
 module _ (n : ℕ) (few : n ≤ 8) where
-  all-row : (cs : List (NumericCondition ℕ)) → All (ConditionIn n) cs → (l : List ℤ) → length l ≡ 24 → (x : List ℤ)
+  all-row : (cs : List (NumericCondition ℕ)) → All (ConditionIn n) cs → (l : List ℤ) → length l ≡ NUMBERS → (x : List ℤ)
       → valuesIn n (narrowedAll cs l) x ≡ (valuesIn n l x && conditionsHold cs (integerAt (take n x)))
   all-row [] h l long x = sym (and-true (valuesIn n l x))
     where
@@ -170,7 +171,7 @@ all-long [] l = refl
 all-long (c ∷ cs) l = all-long cs (narrowedOn (c .measured) (c .relation) (c .constant) l) ∙ on-long (c .measured) (c .relation) (c .constant) l
 
 -- ---- the bounds of the task first
-pub bounds-begin : (lower upper numbers : List ℤ) → length numbers ≡ 24 → BoundsPut 0 lower upper numbers numbers
+pub bounds-begin : (lower upper numbers : List ℤ) → length numbers ≡ NUMBERS → BoundsPut 0 lower upper numbers numbers
 bounds-begin lower upper numbers h = record { long = h; leasts = λ i l. absurd (omega arith); mosts = λ i l. absurd (omega arith); rest = λ j l. refl }
 
 module _ (k : ℕ) (lower upper numbers₀ numbers : List ℤ) (h : BoundsPut k lower upper numbers₀ numbers) (few : k < 8) (a b : ℤ) (isLower : a ≡ integerAt lower k) (isUpper : b ≡ integerAt upper k) where

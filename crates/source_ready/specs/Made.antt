@@ -1,8 +1,10 @@
 -- The parts of the rows of an action, as they are written; and what is asked of an action and of a file.
 -- Assumes nothing.
 use mathlib.Core.Path.{_≡_}
-use Prim.Native.Nat.{ℕ, _+_, _≤_, _<_}
+use Prim.Native.Nat.{ℕ, min, _+_, _*_, _≤_, _<_}
+use mathlib.Core.Bool.{cond}
 use mathlib.Core.List.{List}
+use lib.Dec.{eqb}
 use lib.ListN.{length, getD, take, set}
 use lib.IntN.{ℤ, pos, natAbs}
 use Rattle.lists.specs.Answer.{given}
@@ -13,64 +15,96 @@ use Rattle.model.specs.Steps.{integerAt, naturalAt}
 use Rattle.model.specs.Decoding.{readSource}
 use Rattle.model.specs.ActionBytes.{edgeOf}
 use Rattle.file_actions.specs.declared.Term.{Term}
-use Rattle.file_actions.specs.declared.SourceAction.{SourceAction as DecodedSource}
-use Rattle.file_actions.specs.Views.{termIs, sourceActionIs}
+use Rattle.file_actions.specs.declared.Effect.{Effect as DecodedEffect}
+use Rattle.file_actions.specs.declared.Effects.{Effects}
+use Rattle.file_actions.specs.Views.{termIs, effectIs, sourceActionIs}
 use Rattle.file_actions.specs.Within.{SourceWithin}
 use Rattle.file_declarations.specs.Holding.{HoldsSource}
+use Rattle.source_ready.specs.declared.Head.{Head}
 use Rattle.source_ready.specs.Narrowed.{SizesFit}
-use Rattle.source_step.specs.Sizes.{VARIABLES}
-use Rattle.source_step.specs.Layout.{KIND, TARGET, OPERAND, COUNT, TERM, CONSTANT, WEIGHT, LOWER, UPPER, ADD, QUOTIENT, MARKS, NUMBERS}
-use Rattle.source_step.specs.Row.{kindAt, targetAt, termCountAt, constantAt, effectAt}
+use Rattle.source_step.specs.Sizes.{VARIABLES, EFFECTS}
+use Rattle.source_step.specs.Layout.{BLOCK, MANY, KIND, TARGET, OPERAND, COUNT, TERM, CONSTANT, WEIGHT, LOWER, UPPER, LINEAR, QUOTIENT, MARKS, NUMBERS}
+use Rattle.source_step.specs.Row.{effectCountAt, kindAt, targetAt, termCountAt, constantAt, variableAt, weightAt, effectOfKind, effectAt, effectsAt}
 
--- ---- the terms of an L
+-- ---- the terms of effect e, an L
 abbrev pub termAt : List Term → ℕ → ℕ × ℤ
 termAt terms i = termIs (getD terms i (record { variable = 0; weight = pos 0 }))
 
--- the first k terms stand in the rows, of which term i is f i; the rest is as before
-pub record TermsPut (k : ℕ) (f : ℕ → ℕ × ℤ) (marks : List ℕ) (numbers : List ℤ) (marks′ : List ℕ) (numbers′ : List ℤ) : Type 0 where
+-- the first k terms stand in the block of effect e, of which term i is f i; the rest is as before
+pub record TermsPut (e k : ℕ) (f : ℕ → ℕ × ℤ) (marks : List ℕ) (numbers : List ℤ) (marks′ : List ℕ) (numbers′ : List ℤ) : Type 0 where
   pub marksLong : length marks′ ≡ MARKS
   pub numbersLong : length numbers′ ≡ NUMBERS
-  pub variables : (i : ℕ) → i < k → naturalAt marks′ (TERM + i) ≡ f i .0
-  pub weights : (i : ℕ) → i < k → integerAt numbers′ (WEIGHT + i) ≡ f i .1
-  pub marksKept : (j : ℕ) → j < TERM → naturalAt marks′ j ≡ naturalAt marks j
-  pub numbersKept : (j : ℕ) → j < WEIGHT → integerAt numbers′ j ≡ integerAt numbers j
-  pub numbersBehind : (j : ℕ) → WEIGHT + k ≤ j → integerAt numbers′ j ≡ integerAt numbers j
+  pub variables : (i : ℕ) → i < k → variableAt marks′ e i ≡ f i .0
+  pub weights : (i : ℕ) → i < k → weightAt numbers′ e i ≡ f i .1
+  pub marksKept : (j : ℕ) → j < TERM + BLOCK * e → naturalAt marks′ j ≡ naturalAt marks j
+  pub marksBehind : (j : ℕ) → TERM + BLOCK * e + k ≤ j → naturalAt marks′ j ≡ naturalAt marks j
+  pub numbersKept : (j : ℕ) → j < WEIGHT + BLOCK * e → integerAt numbers′ j ≡ integerAt numbers j
+  pub numbersBehind : (j : ℕ) → WEIGHT + BLOCK * e + k ≤ j → integerAt numbers′ j ≡ integerAt numbers j
 
--- ---- the rest of an effect
-abbrev pub headMarks : ℕ → ℕ → ℕ → ℕ → List ℕ → List ℕ
-headMarks kind target operand count l = set (set (set (set l KIND kind) TARGET target) OPERAND operand) COUNT count
+-- ---- an effect but for its terms
+pub record HeadOf (effect : DecodedEffect) (r : Head) : Type 0 where
+  pub is : (terms : List (ℕ × ℤ)) → effectOfKind (r .kind) (r .target) (r .operand) (r .constant) terms ≡ effectIs effect terms
 
-abbrev pub headNumbers : ℤ → ℤ → ℤ → List ℤ → List ℤ
-headNumbers c least most l = set (set (set l CONSTANT c) LOWER least) UPPER most
+-- how many of so many terms count for an effect of a kind
+abbrev pub termsOfKind : ℕ → ℕ → ℕ
+termsOfKind kind terms = cond (eqb kind LINEAR) (min 4 terms) 0
 
-pub record HeadPut (n : ℕ) (lower upper : List ℤ) (kind target operand count : ℕ) (c : ℤ) (marks : List ℕ) (numbers : List ℤ) (marks′ : List ℕ)
-    (numbers′ : List ℤ) : Type 0 where
-  pub marksAre : marks′ ≡ headMarks kind target operand count marks
-  pub numbersAre : numbers′ ≡ headNumbers c (integerAt (take n lower) target) (integerAt (take n upper) target) numbers
+-- ---- the rest of effect e
+abbrev pub headMarks : ℕ → ℕ → ℕ → ℕ → ℕ → List ℕ → List ℕ
+headMarks e kind target operand count l =
+    set (set (set (set l (KIND + BLOCK * e) kind) (TARGET + BLOCK * e) target) (OPERAND + BLOCK * e) operand) (COUNT + BLOCK * e) count
 
--- ---- an effect in rows that were 0 from its kind and its constant on
-pub record Blank (marks : List ℕ) (numbers : List ℤ) : Type 0 where
+abbrev pub headNumbers : ℕ → ℤ → ℤ → ℤ → List ℤ → List ℤ
+headNumbers e c least most l = set (set (set l (CONSTANT + BLOCK * e) c) (LOWER + BLOCK * e) least) (UPPER + BLOCK * e) most
+
+pub record HeadPut (e n : ℕ) (lower upper : List ℤ) (h : Head) (count : ℕ) (marks : List ℕ) (numbers : List ℤ) (marks′ : List ℕ) (numbers′ : List ℤ) : Type 0 where
+  pub marksAre : marks′ ≡ headMarks e (h .kind) (h .target) (h .operand) count marks
+  pub numbersAre : numbers′ ≡ headNumbers e (h .constant) (integerAt (take n lower) (h .target)) (integerAt (take n upper) (h .target)) numbers
+
+-- ---- rows that are 0 from the block of effect e on
+pub record BlankFrom (e : ℕ) (marks : List ℕ) (numbers : List ℤ) : Type 0 where
   pub marksLong : length marks ≡ MARKS
   pub numbersLong : length numbers ≡ NUMBERS
-  pub marksBlank : (j : ℕ) → KIND ≤ j → naturalAt marks j ≡ 0
-  pub numbersBlank : (j : ℕ) → CONSTANT ≤ j → integerAt numbers j ≡ pos 0
+  pub marksBlank : (j : ℕ) → KIND + BLOCK * e ≤ j → naturalAt marks j ≡ 0
+  pub numbersBlank : (j : ℕ) → CONSTANT + BLOCK * e ≤ j → integerAt numbers j ≡ pos 0
 
-pub record EffectPut (n : ℕ) (lower upper : List ℤ) (e : Effect) (marks : List ℕ) (numbers : List ℤ) (marks′ : List ℕ) (numbers′ : List ℤ) : Type 0 where
-  pub effect : effectAt marks′ numbers′ ≡ e
-  pub factors : (i : ℕ) → i ≤ 4 → natAbs (integerAt numbers′ (CONSTANT + i)) ≤ 10000
-  pub divides : QUOTIENT ≤ kindAt marks′ → 1 ≤ natAbs (constantAt numbers′)
-  pub unweighted : (i : ℕ) → i < 4 → termCountAt marks′ ≤ i → integerAt numbers′ (WEIGHT + i) ≡ pos 0
-  pub targetDeclared : ADD ≤ kindAt marks′ → targetAt marks′ < n
-  pub lowerAt : ADD ≤ kindAt marks′ → integerAt numbers′ LOWER ≡ integerAt (take n lower) (targetAt marks′)
-  pub upperAt : ADD ≤ kindAt marks′ → integerAt numbers′ UPPER ≡ integerAt (take n upper) (targetAt marks′)
-  pub marksKept : (j : ℕ) → j < KIND → naturalAt marks′ j ≡ naturalAt marks j
+-- ---- effect e of rows: it makes no sum, product or quotient that leaves its range
+pub record Bounded (e : ℕ) (marks : List ℕ) (numbers : List ℤ) : Type 0 where
+  pub constant : natAbs (constantAt numbers e) ≤ 10000
+  pub weights : (i : ℕ) → i < 4 → natAbs (weightAt numbers e i) ≤ 10000
+  pub divides : QUOTIENT ≤ kindAt marks e → 1 ≤ natAbs (constantAt numbers e)
+  pub unweighted : (i : ℕ) → i < 4 → termCountAt marks e ≤ i → weightAt numbers e i ≡ pos 0
+
+-- it is this one, with the bounds of its target
+pub record BlockIs (e n : ℕ) (lower upper : List ℤ) (f : Effect) (marks : List ℕ) (numbers : List ℤ) : Type 0 where
+  pub effect : effectAt marks numbers e ≡ f
+  pub bounded : Bounded e marks numbers
+  pub targetDeclared : targetAt marks e < n
+  pub lowerAt : integerAt numbers (LOWER + BLOCK * e) ≡ integerAt (take n lower) (targetAt marks e)
+  pub upperAt : integerAt numbers (UPPER + BLOCK * e) ≡ integerAt (take n upper) (targetAt marks e)
+
+-- it was written into rows that were 0 from its block on
+pub record EffectPut (e n : ℕ) (lower upper : List ℤ) (f : Effect) (marks : List ℕ) (numbers : List ℤ) (marks′ : List ℕ) (numbers′ : List ℤ) : Type 0 where
+  pub block : BlockIs e n lower upper f marks′ numbers′
+  pub marksKept : (j : ℕ) → j < KIND + BLOCK * e → naturalAt marks′ j ≡ naturalAt marks j
+  pub numbersKept : (j : ℕ) → j < CONSTANT + BLOCK * e → integerAt numbers′ j ≡ integerAt numbers j
+  pub blank : BlankFrom (e + 1) marks′ numbers′
+
+-- all were
+pub record EffectsPut (n : ℕ) (lower upper : List ℤ) (fs : List Effect) (marks : List ℕ) (numbers : List ℤ) (marks′ : List ℕ) (numbers′ : List ℤ) : Type 0 where
+  pub effects : effectsAt marks′ numbers′ ≡ fs
+  pub bounded : (e : ℕ) → e < EFFECTS → Bounded e marks′ numbers′
+  pub targetDeclared : (e : ℕ) → e < effectCountAt marks′ → targetAt marks′ e < n
+  pub lowerAt : (e : ℕ) → e < effectCountAt marks′ → integerAt numbers′ (LOWER + BLOCK * e) ≡ integerAt (take n lower) (targetAt marks′ e)
+  pub upperAt : (e : ℕ) → e < effectCountAt marks′ → integerAt numbers′ (UPPER + BLOCK * e) ≡ integerAt (take n upper) (targetAt marks′ e)
+  pub marksKept : (j : ℕ) → j < MANY → naturalAt marks′ j ≡ naturalAt marks j
   pub numbersKept : (j : ℕ) → j < CONSTANT → integerAt numbers′ j ≡ integerAt numbers j
 
--- ---- an action that keeps to the rules, in a task with these bounds and sizes
-pub record RowFits (n m : ℕ) (lower upper : List ℤ) (sizes : List ℕ) (a : DecodedSource) : Type 0 where
+-- ---- an action that keeps to the rules, in a task with these bounds and sizes: its parts row, and its effects
+pub record RowFits (n m : ℕ) (lower upper : List ℤ) (sizes : List ℕ) (parts : List ℕ) (constants : List ℤ) (effects : Effects) : Type 0 where
   pub few : n ≤ VARIABLES
-  pub ok : SourceActionOk sourceLimits n (take m sizes) (sourceActionIs a)
-  pub within : SourceWithin sourceLimits n (take m sizes) a
+  pub ok : SourceActionOk sourceLimits n (take m sizes) (sourceActionIs parts constants effects)
+  pub within : SourceWithin sourceLimits n (take m sizes) parts constants effects
   pub sizesFit : SizesFit m sizes
   pub lowersNear : (i : ℕ) → i < n → natAbs (integerAt lower i) ≤ 10000
   pub uppersNear : (i : ℕ) → i < n → natAbs (integerAt upper i) ≤ 10000

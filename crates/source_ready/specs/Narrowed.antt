@@ -16,7 +16,7 @@ use Rattle.model.specs.TaskOk.{ConditionIn, ValuesIn}
 use Rattle.file_parts.specs.Layout.{modeConditionRoom, modeConditionCount, modeConditionMode, modeEffectRoom, modeEffectCount, modeEffectMode}
 use Rattle.source_step.specs.Parts.{valuesBetween, modesBelow}
 use Rattle.source_step.specs.Sizes.{VARIABLES, MODES}
-use Rattle.source_step.specs.Layout.{TOP, KEEP, PUT, KIND, MOST, CONSTANT, MARKS, NUMBERS}
+use Rattle.source_step.specs.Layout.{TOP, KEEP, PUT, MANY, MOST, CONSTANT, MARKS, NUMBERS}
 use Rattle.source_step.specs.Row.{valuesIn, modesIn, modesAfter}
 
 -- stored at i where a test says so
@@ -47,7 +47,7 @@ abbrev pub narrowedAll : List (NumericCondition ℕ) → List ℤ → List ℤ
 narrowedAll [] l = l
 narrowedAll (c ∷ cs) l = narrowedAll cs (narrowedOn (c .measured) (c .relation) (c .constant) l)
 
--- the bounds of the first k variables stand in a row; from the effect on it is as before
+-- the bounds of the first k variables stand in a row; from the effects on it is as before
 pub record BoundsPut (k : ℕ) (lower upper : List ℤ) (numbers numbers′ : List ℤ) : Type 0 where
   pub long : length numbers′ ≡ NUMBERS
   pub leasts : (i : ℕ) → i < k → integerAt numbers′ i ≡ integerAt lower i
@@ -112,7 +112,7 @@ pub record SizesPut (k : ℕ) (sizes : List ℕ) (marks marks′ : List ℕ) : T
 -- A row that was 0 asks that the modes of a state are below their sizes and that the conditions hold, and sets them as the effects do
 pub record ModesPut (m : ℕ) (sizes : List ℕ) (ps es : List (ℕ × ℕ)) (marks marks′ : List ℕ) : Type 0 where
   pub long : length marks′ ≡ MARKS
-  pub rest : (j : ℕ) → KIND ≤ j → naturalAt marks′ j ≡ naturalAt marks j
+  pub rest : (j : ℕ) → MANY ≤ j → naturalAt marks′ j ≡ naturalAt marks j
   pub modes : ((j : ℕ) → naturalAt marks j ≡ 0) → ValuesIn (take m sizes) ps → (x : List ℕ)
       → modesIn m marks′ x ≡ (modesBelow m sizes x && modesHold ps (naturalAt (take m x)))
   pub sets : ((j : ℕ) → naturalAt marks j ≡ 0) → ValuesIn (take m sizes) es → (x : List ℕ) → m ≤ length x

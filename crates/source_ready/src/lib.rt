@@ -1,19 +1,24 @@
 // The rows of all actions of an accepted source file, made ready for many steps.
 //
 // The file is walked once, and each action is decoded once: its conditions and mode effects become ranges and marks (narrowing.rt), its
-// numeric effect stands behind them. What rows mean is said in crate source_step, specs/Row.antt. It never takes a step.
+// numeric effects stand behind them, in a block each. What rows mean is said in crate source_step, specs/Row.antt. It never takes a step.
 mod narrowing;
 
 use file_actions::Effect;
-use file_actions::SourceAction;
+use file_actions::Effects;
+use file_actions::NumericEffect;
 use file_actions::TERMS;
 use file_actions::Term;
+use file_parts::MARKS as PART_MARKS;
+use file_parts::NUMBERS as PART_NUMBERS;
 use source_step::ADD;
+use source_step::BLOCK;
 use source_step::CONSTANT;
 use source_step::COUNT;
 use source_step::KIND;
 use source_step::LINEAR;
 use source_step::LOWER;
+use source_step::MANY;
 use source_step::MARKS;
 use source_step::MODES;
 use source_step::NUMBERS;
@@ -29,22 +34,23 @@ ghost use mathlib.Core.Path.{_≡_};
 ghost use Prim.Native.Nat.{_+_, _<_, _≤_};
 ghost use lib.ListN.{length, replicate};
 ghost use lib.IntN.{pos};
-ghost use Rattle.model.specs.Tasks.{linearEffect};
+ghost use Rattle.integers.specs.All.{All};
 ghost use Rattle.model.specs.Limits.{sourceLimits};
 ghost use Rattle.model.specs.Reading.{verdictOf};
 ghost use Rattle.model.specs.Decoding.{sourceActionOf};
 ghost use Rattle.model.specs.ActionBytes.{edgeOf, actionPart, decodeAction};
 ghost use Rattle.model.specs.TaskOk.{EffectOk};
 ghost use Rattle.model.specs.Steps.{naturalAt};
+ghost use Rattle.file_parts.specs.Layout as layout;
 ghost use Rattle.file_actions.specs.Places.{goalPart};
-ghost use Rattle.file_actions.specs.Views.{sourceActionIs, SourceDecoded, fittingSource, effectIs, termsIs};
-ghost use Rattle.source_step.specs.Sizes.{VARIABLES, ACTIONS};
+ghost use Rattle.file_actions.specs.Views.{sourceActionIs, SourceDecoded, fittingSource, numericIs, effectsIs};
+ghost use Rattle.source_step.specs.Sizes.{VARIABLES, ACTIONS, EFFECTS};
 ghost use Rattle.source_step.specs.Accepted.{AcceptedWith};
 ghost use Rattle.source_step.specs.Row.{RowOf};
 ghost use Rattle.source_step.specs.Ready.{Prepared};
 ghost use Rattle.source_step.specs.Table.{ROWS};
 ghost use Rattle.source_step.specs.Layout.{MARKS, NUMBERS};
-ghost use Rattle.source_ready.specs.Made.{termAt, TermsPut, HeadPut, Blank, EffectPut, RowFits, PlacedAt, Declares};
+ghost use Rattle.source_ready.specs.Made.{termAt, TermsPut, HeadOf, HeadPut, termsOfKind, BlankFrom, EffectPut, EffectsPut, RowFits, PlacedAt, Declares};
 
 // The places of the actions of a file, and that of its goal.
 const PLACES: usize = 33;
@@ -55,137 +61,158 @@ fn wide(x: u8) -> u16
     x as u16
 }
 
-// The variables and the weights of the first k terms of an L.
-fn put_terms(marks: &mut [u16; MARKS], numbers: &mut [i64; NUMBERS], k: usize, terms: [Term; TERMS])
-    requires { ⌜ (k ≤ 4) × (length (now marks) ≡ MARKS) × (length (now numbers) ≡ NUMBERS) ⌝ }
-    ensures { λ _. ⌜ TermsPut k (termAt terms) (now (marks .entry)) (now (numbers .entry)) (now (marks .exit)) (now (numbers .exit)) ⌝ }
+// The variables and the weights of the first k terms of effect e, an L.
+fn put_terms(
+    marks: &mut [u16; MARKS],
+    numbers: &mut [i64; NUMBERS],
+    e: usize,
+    k: usize,
+    terms: [Term; TERMS],
+)
+    requires { ⌜ (e < EFFECTS) × (k ≤ 4) × (length (now marks) ≡ MARKS) × (length (now numbers) ≡ NUMBERS) ⌝ }
+    ensures { λ _. ⌜ TermsPut e k (termAt terms) (now (marks .entry)) (now (numbers .entry)) (now (marks .exit)) (now (numbers .exit)) ⌝ }
 {
     let mut i: usize = 0;
     while i < k {
         let term = terms[i];
         let weight = term.weight;
-        marks[TERM + i] = wide(term.variable);
-        numbers[WEIGHT + i] = weight;
+        marks[TERM + BLOCK * e + i] = wide(term.variable);
+        numbers[WEIGHT + BLOCK * e + i] = weight;
         i += 1;
     }
 }
 
-// What an effect is but for its terms, and the bounds of its target.
-fn put_head(
-    marks: &mut [u16; MARKS],
-    numbers: &mut [i64; NUMBERS],
-    n: usize,
-    lower: &[i64; VARIABLES],
-    upper: &[i64; VARIABLES],
+// An effect but for its terms: its kind, target, operand and constant.
+struct Head {
     kind: u16,
     target: u8,
     operand: u8,
-    count: u16,
     constant: i64,
-)
-    requires { ⌜ n ≤ VARIABLES ⌝ }
-    ensures { λ _. ⌜ HeadPut n (now (lower .entry)) (now (upper .entry)) kind target operand count constant (now (marks .entry)) (now (numbers .entry))
-        (now (marks .exit)) (now (numbers .exit)) ⌝ }
-{
-    marks[KIND] = kind;
-    marks[TARGET] = wide(target);
-    marks[OPERAND] = wide(operand);
-    marks[COUNT] = count;
-    numbers[CONSTANT] = constant;
-    numbers[LOWER] = source_step::value_at(lower, n, target);
-    numbers[UPPER] = source_step::value_at(upper, n, target);
 }
 
-// An L, with its terms.
-fn put_linear(
-    marks: &mut [u16; MARKS],
-    numbers: &mut [i64; NUMBERS],
-    n: usize,
-    lower: &[i64; VARIABLES],
-    upper: &[i64; VARIABLES],
-    target: u8,
-    constant: i64,
-    count: usize,
-    terms: [Term; TERMS],
-)
-    requires { ⌜ (n ≤ VARIABLES) × Blank (now marks) (now numbers) × EffectOk sourceLimits n (linearEffect target constant (termsIs count terms)) ⌝ }
-    ensures { λ _. ⌜ EffectPut n (now (lower .entry)) (now (upper .entry)) (linearEffect target constant (termsIs count terms)) (now (marks .entry))
-        (now (numbers .entry)) (now (marks .exit)) (now (numbers .exit)) ⌝ }
-{
-    let k = source_step::lesser(TERMS, count);
-    put_terms(marks, numbers, k, terms);
-    put_head(
-        marks,
-        numbers,
-        n,
-        lower,
-        upper,
-        LINEAR,
-        target,
-        0,
-        k as u16,
-        constant,
-    );
-}
-
-// The numeric effect of an action.
-fn put_effect(
-    marks: &mut [u16; MARKS],
-    numbers: &mut [i64; NUMBERS],
-    n: usize,
-    lower: &[i64; VARIABLES],
-    upper: &[i64; VARIABLES],
-    effect: Effect,
-    count: usize,
-    terms: [Term; TERMS],
-)
-    requires { ⌜ (n ≤ VARIABLES) × Blank (now marks) (now numbers) × EffectOk sourceLimits n (effectIs effect (termsIs count terms)) ⌝ }
-    ensures { λ _. ⌜ EffectPut n (now (lower .entry)) (now (upper .entry)) (effectIs effect (termsIs count terms)) (now (marks .entry)) (now (numbers .entry))
-        (now (marks .exit)) (now (numbers .exit)) ⌝ }
+fn head_of(effect: Effect) -> Head
+    ensures { λ r. ⌜ HeadOf effect r ⌝ }
 {
     match effect {
-        Effect::None => {}
-        Effect::Add(target, c) => put_head(marks, numbers, n, lower, upper, ADD, target, 0, 0, c),
-        Effect::Linear(target, c) => put_linear(
-            marks,
-            numbers,
-            n,
-            lower,
-            upper,
+        Effect::None => Head {
+            kind: ADD,
+            target: 0,
+            operand: 0,
+            constant: 0,
+        },
+        Effect::Add(target, c) => Head {
+            kind: ADD,
             target,
-            c,
-            count,
-            terms,
-        ),
-        Effect::Quotient(target, operand, c) => put_head(
-            marks,
-            numbers,
-            n,
-            lower,
-            upper,
-            QUOTIENT,
+            operand: 0,
+            constant: c,
+        },
+        Effect::Linear(target, c) => Head {
+            kind: LINEAR,
             target,
-            operand,
-            0,
-            c,
-        ),
-        Effect::Residue(target, operand, c) => put_head(
-            marks,
-            numbers,
-            n,
-            lower,
-            upper,
-            RESIDUE,
+            operand: 0,
+            constant: c,
+        },
+        Effect::Quotient(target, operand, c) => Head {
+            kind: QUOTIENT,
             target,
             operand,
-            0,
-            c,
-        ),
+            constant: c,
+        },
+        Effect::Residue(target, operand, c) => Head {
+            kind: RESIDUE,
+            target,
+            operand,
+            constant: c,
+        },
     }
 }
 
-// The rows of an action, in the place of zeros.
-pub fn put_row(
+// Effect e but for its terms, how many these are, and the bounds of its target.
+fn put_head(
+    marks: &mut [u16; MARKS],
+    numbers: &mut [i64; NUMBERS],
+    e: usize,
+    n: usize,
+    lower: &[i64; VARIABLES],
+    upper: &[i64; VARIABLES],
+    head: Head,
+    count: u16,
+)
+    requires { ⌜ (e < EFFECTS) × (n ≤ VARIABLES) ⌝ }
+    ensures { λ _. ⌜ HeadPut e n (now (lower .entry)) (now (upper .entry)) head count (now (marks .entry)) (now (numbers .entry))
+        (now (marks .exit)) (now (numbers .exit)) ⌝ }
+{
+    let kind = head.kind;
+    let target = head.target;
+    let operand = head.operand;
+    let constant = head.constant;
+    marks[KIND + BLOCK * e] = kind;
+    marks[TARGET + BLOCK * e] = wide(target);
+    marks[OPERAND + BLOCK * e] = wide(operand);
+    marks[COUNT + BLOCK * e] = count;
+    numbers[CONSTANT + BLOCK * e] = constant;
+    numbers[LOWER + BLOCK * e] = source_step::value_at(lower, n, target);
+    numbers[UPPER + BLOCK * e] = source_step::value_at(upper, n, target);
+}
+
+// How many of so many terms count for an effect of a kind.
+fn counted(kind: u16, terms: usize) -> usize
+    ensures { λ r. ⌜ r ≡ termsOfKind kind terms ⌝ }
+{
+    if kind == LINEAR {
+        return source_step::lesser(TERMS, terms);
+    }
+    0
+}
+
+// Effect e of an action, with its terms where it is an L.
+fn put_effect(
+    marks: &mut [u16; MARKS],
+    numbers: &mut [i64; NUMBERS],
+    e: usize,
+    n: usize,
+    lower: &[i64; VARIABLES],
+    upper: &[i64; VARIABLES],
+    place: NumericEffect,
+)
+    requires { ⌜ (e < EFFECTS) × (n ≤ VARIABLES) × BlankFrom e (now marks) (now numbers) × EffectOk sourceLimits n (numericIs place) ⌝ }
+    ensures { λ _. ⌜ EffectPut e n (now (lower .entry)) (now (upper .entry)) (numericIs place) (now (marks .entry)) (now (numbers .entry))
+        (now (marks .exit)) (now (numbers .exit)) ⌝ }
+{
+    let effect = place.effect;
+    let terms = place.terms;
+    let head = head_of(effect);
+    let count = counted(head.kind, place.term_count);
+    put_terms(marks, numbers, e, count, terms);
+    put_head(marks, numbers, e, n, lower, upper, head, count as u16);
+}
+
+// The numeric effects of an action, and how many they are.
+fn put_effects(
+    marks: &mut [u16; MARKS],
+    numbers: &mut [i64; NUMBERS],
+    n: usize,
+    lower: &[i64; VARIABLES],
+    upper: &[i64; VARIABLES],
+    effects: Effects,
+)
+    requires { ⌜ (n ≤ VARIABLES) × BlankFrom 0 (now marks) (now numbers) × (effects .count ≤ EFFECTS) × All (EffectOk sourceLimits n) (effectsIs effects) ⌝ }
+    ensures { λ _. ⌜ EffectsPut n (now (lower .entry)) (now (upper .entry)) (effectsIs effects) (now (marks .entry)) (now (numbers .entry))
+        (now (marks .exit)) (now (numbers .exit)) ⌝ }
+{
+    let count = effects.count;
+    let places = effects.places;
+    marks[MANY] = count as u16;
+    let mut e: usize = 0;
+    while e < count {
+        let place = places[e];
+        put_effect(marks, numbers, e, n, lower, upper, place);
+        e += 1;
+    }
+}
+
+// The rows of an action, in the place of zeros: of its parts row and its effects.
+pub fn put_row<'a>(
     marks: &mut [u16; MARKS],
     numbers: &mut [i64; NUMBERS],
     n: usize,
@@ -193,32 +220,57 @@ pub fn put_row(
     upper: &[i64; VARIABLES],
     m: usize,
     sizes: &[u16; MODES],
-    a: SourceAction,
+    parts: &'a [u16; PART_MARKS],
+    constants: &'a [i64; PART_NUMBERS],
+    effects: Effects,
 )
-    requires { ⌜ (now marks ≡ replicate MARKS 0) × (now numbers ≡ replicate NUMBERS (pos 0)) × RowFits n m (now lower) (now upper) (now sizes) a ⌝ }
-    ensures { λ _. ⌜ RowOf n m (now (lower .entry)) (now (upper .entry)) (now (sizes .entry)) (now (marks .exit)) (now (numbers .exit)) (sourceActionIs a) ⌝ }
+    requires { ⌜ (now marks ≡ replicate MARKS 0) × (now numbers ≡ replicate NUMBERS (pos 0))
+        × RowFits n m (now lower) (now upper) (now sizes) (now parts) (now constants) effects ⌝ }
+    ensures { λ _. ⌜ RowOf n m (now (lower .entry)) (now (upper .entry)) (now (sizes .entry)) (now (marks .exit)) (now (numbers .exit))
+        (sourceActionIs (now (parts .entry)) (now (constants .entry)) effects) ⌝ }
 {
-    narrowing::put_ranges(numbers, lower, upper, &a.marks, &a.numbers);
-    narrowing::put_modes(marks, m, sizes, &a.marks);
-    let effect = a.effect;
-    let terms = a.terms;
-    put_effect(marks, numbers, n, lower, upper, effect, a.term_count, terms);
+    narrowing::put_ranges(numbers, lower, upper, parts, constants);
+    narrowing::put_modes(marks, m, sizes, parts);
+    put_effects(marks, numbers, n, lower, upper, effects);
 }
 
 // Action k of a file, by the places of its actions.
-fn decode_placed(file: &[u8], places: &[usize; PLACES], k: usize) -> SourceAction
-    requires { ⌜ (k < ACTIONS) × PlacedAt (now file) (now places) k ⌝ }
-    ensures { λ r. ⌜ SourceDecoded (fittingSource (sourceActionOf (decodeAction (actionPart (now (file .entry)) k)))) r ⌝ }
+fn decode_placed(
+    file: &[u8],
+    places: &[usize; PLACES],
+    k: usize,
+    parts: &mut [u16; PART_MARKS],
+    constants: &mut [i64; PART_NUMBERS],
+) -> Effects
+    requires { ⌜ (k < ACTIONS) × PlacedAt (now file) (now places) k × (length (now parts) ≡ layout.MARKS) × (length (now constants) ≡ layout.NUMBERS) ⌝ }
+    ensures { λ r. ⌜ SourceDecoded (fittingSource (sourceActionOf (decodeAction (actionPart (now (file .entry)) k)))) (now (parts .exit))
+        (now (constants .exit)) r ⌝ }
 {
-    file_actions::decode_source(file_actions::part(file, places[k], places[k + 1]))
+    file_actions::decode_source(
+        file_actions::part(file, places[k], places[k + 1]),
+        parts,
+        constants,
+    )
 }
 
 // The goal of an accepted file with so many actions, as an action: it has no effects.
-fn decode_goal(file: &[u8], places: &[usize; PLACES], count: usize) -> SourceAction
-    requires { ⌜ (count ≤ ACTIONS) × (naturalAt (now places) count ≡ edgeOf (now file) count) ⌝ }
-    ensures { λ r. ⌜ SourceDecoded (fittingSource (sourceActionOf (decodeAction (goalPart (now (file .entry)) count)))) r ⌝ }
+fn decode_goal(
+    file: &[u8],
+    places: &[usize; PLACES],
+    count: usize,
+    parts: &mut [u16; PART_MARKS],
+    constants: &mut [i64; PART_NUMBERS],
+) -> Effects
+    requires { ⌜ (count ≤ ACTIONS) × (naturalAt (now places) count ≡ edgeOf (now file) count) × (length (now parts) ≡ layout.MARKS)
+        × (length (now constants) ≡ layout.NUMBERS) ⌝ }
+    ensures { λ r. ⌜ SourceDecoded (fittingSource (sourceActionOf (decodeAction (goalPart (now (file .entry)) count)))) (now (parts .exit))
+        (now (constants .exit)) r ⌝ }
 {
-    file_actions::decode_source(file_actions::goal_from(file, places[count]))
+    file_actions::decode_source(
+        file_actions::goal_from(file, places[count]),
+        parts,
+        constants,
+    )
 }
 
 // The rows of the actions of an accepted file, of which there are `count`, by what it declares; behind them that of its goal.
@@ -240,20 +292,44 @@ pub fn prepare(
 {
     let mut places = [0usize; PLACES];
     file_actions::action_places(file, &mut places);
+    let mut parts = [0u16; PART_MARKS];
+    let mut constants = [0i64; PART_NUMBERS];
     let mut k: usize = 0;
     while k < count {
-        let action = decode_placed(file, &places, k);
+        let effects = decode_placed(file, &places, k, &mut parts, &mut constants);
         let mut row = [0u16; MARKS];
         let mut line = [0i64; NUMBERS];
-        put_row(&mut row, &mut line, n, lower, upper, m, sizes, action);
+        put_row(
+            &mut row,
+            &mut line,
+            n,
+            lower,
+            upper,
+            m,
+            sizes,
+            &parts,
+            &constants,
+            effects,
+        );
         marks[k] = row;
         numbers[k] = line;
         k += 1;
     }
-    let goal = decode_goal(file, &places, count);
+    let goal = decode_goal(file, &places, count, &mut parts, &mut constants);
     let mut last = [0u16; MARKS];
     let mut most = [0i64; NUMBERS];
-    put_row(&mut last, &mut most, n, lower, upper, m, sizes, goal);
+    put_row(
+        &mut last,
+        &mut most,
+        n,
+        lower,
+        upper,
+        m,
+        sizes,
+        &parts,
+        &constants,
+        goal,
+    );
     marks[count] = last;
     numbers[count] = most;
 }

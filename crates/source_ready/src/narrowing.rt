@@ -1,7 +1,7 @@
 // Between which values an action of a source task applies, and what it sets modes to, written into the rows of the action.
 //
 // A row begins with the bounds of the task. Each condition of the action's parts row narrows it, and each mode effect marks it. What rows mean
-// is said in crate source_step, specs/Row.antt; where parts stand in a parts row, in crate file_parts. The numeric effect is not known here.
+// is said in crate source_step, specs/Row.antt; where parts stand in a parts row, in crate file_parts. The numeric effects are not known here.
 use file_parts::CONDITION_COUNT;
 use file_parts::CONDITION_RELATION;
 use file_parts::CONDITION_VARIABLE;
@@ -43,7 +43,7 @@ fn wide(x: u16) -> usize
 
 // Makes number i of a row at most `most`.
 fn cap(numbers: &mut [i64; NUMBERS], i: usize, most: i64)
-    requires { ⌜ i < 24 ⌝ }
+    requires { ⌜ i < NUMBERS ⌝ }
     ensures { λ _. ⌜ now (numbers .exit) ≡ capped (now (numbers .entry)) i most ⌝ }
 {
     if most < numbers[i] {
@@ -54,7 +54,7 @@ fn cap(numbers: &mut [i64; NUMBERS], i: usize, most: i64)
 
 // Makes number i of a row at least `least`.
 fn raise(numbers: &mut [i64; NUMBERS], i: usize, least: i64)
-    requires { ⌜ i < 24 ⌝ }
+    requires { ⌜ i < NUMBERS ⌝ }
     ensures { λ _. ⌜ now (numbers .exit) ≡ raised (now (numbers .entry)) i least ⌝ }
 {
     if numbers[i] < least {
@@ -105,7 +105,7 @@ fn narrow_all<'a>(
 
 // The bounds of a task, at the front of a row.
 fn put_bounds(numbers: &mut [i64; NUMBERS], lower: &[i64; VARIABLES], upper: &[i64; VARIABLES])
-    requires { ⌜ length (now numbers) ≡ 24 ⌝ }
+    requires { ⌜ length (now numbers) ≡ NUMBERS ⌝ }
     ensures { λ _. ⌜ BoundsPut VARIABLES (now (lower .entry)) (now (upper .entry)) (now (numbers .entry)) (now (numbers .exit)) ⌝ }
 {
     let mut i: usize = 0;

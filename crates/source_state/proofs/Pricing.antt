@@ -13,11 +13,11 @@ use Rattle.integers.specs.Division.{quotientOf, residueOf}
 use Rattle.lists.specs.Answer.{Answer, given, refused, then}
 use Rattle.lists.proofs.Loops.{and-left}
 use Rattle.model.specs.Limits.{sourceLimits}
-use Rattle.model.specs.Tasks.{Effect, noEffect, addEffect, linearEffect, quotientEffect, residueEffect, SourceAction, SourceTask, State}
+use Rattle.model.specs.Tasks.{Effect, addEffect, linearEffect, quotientEffect, residueEffect, SourceAction, SourceTask, State}
 use Rattle.model.specs.TaskOk.{AmountOk, EffectOk, SourceActionOk}
 use Rattle.model.specs.Systems.{orZero}
-use Rattle.model.specs.Steps.{integerAt, linear, stepSource, sizesOf}
-use Rattle.model.specs.Expansion.{magnitudes, priceOfEffect, priceFrom}
+use Rattle.model.specs.Steps.{integerAt, linear, target, result, stepSource, sizesOf}
+use Rattle.model.specs.Expansion.{magnitudes, priceOfEffect, priceOfResult, priceOfHeld, priceOfEffects, priceFrom}
 use Rattle.model.specs.Judging.{stepAlone, stepSourceAlone, priceStep}
 use Rattle.model.specs.Decoding.{readSource}
 use Rattle.model.proofs.AcceptedOk.{accepted-source-ok}
@@ -26,16 +26,16 @@ use Rattle.file_declarations.specs.declared.Declared.{Declared}
 use Rattle.file_actions.specs.Places.{BytesOfAction}
 use Rattle.source_step.specs.Step.{state}
 use Rattle.source_step.proofs.Judging.{task-of, task-by}
-use Rattle.source_step.specs.Row.{effectAt, held, takes, staysIn, outcomeAt, Reads}
+use Rattle.source_step.specs.Row.{effectsAt, held, takes, staysIn, Reads}
 use Rattle.source_step.proofs.Taking.{read-when-held}
 use Rattle.plan_strokes.specs.Made.{Listed}
 use Rattle.plan_strokes.specs.Strokes.{strokesOf, priceOfStrokes}
-use Rattle.plan_strokes.proofs.Prices.{price-from}
+use Rattle.plan_strokes.proofs.Prices.{price-is}
 use Rattle.source_state.specs.Alone.{stepVerdict, verdictOver, RowRead}
 use Rattle.source_state.specs.Step.{steppedBy}
 use Rattle.source_state.proofs.Alone.{step-taken}
 
--- ---- an effect that names declared variables, of n, costs over the first n values what it costs over all
+-- ---- effects that name declared variables, of n, cost over the first n values what they cost over all
 module _ (n : ℕ) (l : List ℤ) where
   same-at : (j : ℕ) → j < n → integerAt (take n l) j ≡ integerAt l j
   same-at j h = getD-take n l j (pos 0) h
@@ -56,7 +56,6 @@ module _ (n : ℕ) (l : List ℤ) where
   divided c u z = 7 + 2 * natAbs z + 2 * natAbs (quotientOf z c) + natAbs u + natAbs (residueOf z c)
 
   same-price : (e : Effect) → EffectOk sourceLimits n e → priceOfEffect e (integerAt (take n l)) ≡ priceOfEffect e (integerAt l)
-  same-price noEffect o = refl
   same-price (addEffect t c) o = refl
   same-price (linearEffect t w ts) o =
       ap₂ (λ (s : ℕ) (z : ℤ). 3 + 2 * length ts + 2 * s + natAbs z + natAbs (linear w ts (integerAt (take n l))))
@@ -65,12 +64,45 @@ module _ (n : ℕ) (l : List ℤ) where
   same-price (quotientEffect t y c) o = ap₂ (divided c) (same-at t (o .0)) (same-at y (o .1))
   same-price (residueEffect t y c) o = ap₂ (divided c) (same-at t (o .0)) (same-at y (o .1))
 
+  same-target : (e : Effect) → EffectOk sourceLimits n e → integerAt (take n l) (target e) ≡ integerAt l (target e)
+  same-target (addEffect t c) o = same-at t (o .0)
+  same-target (linearEffect t w ts) o = same-at t (o .0)
+  same-target (quotientEffect t y c) o = same-at t (o .0)
+  same-target (residueEffect t y c) o = same-at t (o .0)
+
+  same-result : (e : Effect) → EffectOk sourceLimits n e → result e (integerAt (take n l)) ≡ result e (integerAt l)
+  same-result (addEffect t c) o = ap (λ (z : ℤ). z +ℤ c) (same-at t (o .0))
+  same-result (linearEffect t w ts) o = same-linear w ts (o .3 .0)
+  same-result (quotientEffect t y c) o = ap (λ (z : ℤ). quotientOf z c) (same-at y (o .1))
+  same-result (residueEffect t y c) o = ap (λ (z : ℤ). residueOf z c) (same-at y (o .1))
+
+  -- the stages before Clear
+  same-before : (e : Effect) → EffectOk sourceLimits n e → priceOfResult e (integerAt (take n l)) ≡ priceOfResult e (integerAt l)
+  same-before (addEffect t c) o = ap (λ (z : ℤ). 2 + 2 * natAbs z) (same-at t (o .0))
+  same-before (linearEffect t w ts) o = ap (λ (s : ℕ). 2 * length ts + 2 * s) (same-sizes ts (o .3 .0))
+  same-before (quotientEffect t y c) o =
+      ap (λ (z : ℤ). 4 + 2 * natAbs z + natAbs (quotientOf z c) + natAbs (residueOf z c)) (same-at y (o .1))
+  same-before (residueEffect t y c) o = ap (λ (z : ℤ). 4 + 2 * natAbs z + 2 * natAbs (quotientOf z c)) (same-at y (o .1))
+
+  same-held : (es : List Effect) → All (EffectOk sourceLimits n) es → priceOfHeld es (integerAt (take n l)) ≡ priceOfHeld es (integerAt l)
+  same-held [] o = refl
+  same-held (e ∷ es) (o, os) =
+      ap₂ (λ (p : ℕ) (z : ℤ). p + (1 + natAbs z) + (2 + natAbs (integerAt (take n l) (target e)) + natAbs z) + priceOfHeld es (integerAt (take n l)))
+      (same-before e o) (same-result e o)
+      ∙ ap₂ (λ (z : ℤ) (q : ℕ). priceOfResult e (integerAt l) + (1 + natAbs (result e (integerAt l))) + (2 + natAbs z + natAbs (result e (integerAt l))) + q)
+      (same-target e o) (same-held es os)
+
+  same-prices : (es : List Effect) → All (EffectOk sourceLimits n) es → priceOfEffects es (integerAt (take n l)) ≡ priceOfEffects es (integerAt l)
+  same-prices [] o = refl
+  same-prices (e ∷ []) (o, os) = same-price e o
+  same-prices (e ∷ f ∷ es) o = ap (λ (p : ℕ). 1 + p) (same-held (e ∷ f ∷ es) o)
+
 module _ {file bytes marks : List ℕ} {numbers : List ℤ} {r : Declared} (R : RowRead file bytes marks numbers r)
     (values : List ℤ) (modes : List ℕ) where
   -- a state in which the row is taken can be priced
   pub readable : takes (r .variables) (r .modes) marks numbers values modes ≡ true → Reads (r .variables) values marks numbers
   readable e =
-      let passed = and-left (held (r .variables) (r .modes) marks numbers values modes) (staysIn numbers (outcomeAt (r .variables) marks numbers values)) e in
+      let passed = and-left (held (r .variables) (r .modes) marks numbers values modes) (staysIn (r .variables) marks numbers values) e in
       read-when-held (r .modes) values modes (R .few .0) (R .row .usable) passed
 
   -- ---- a step of action k, in a state that is handed in
@@ -98,19 +130,19 @@ module _ {file bytes marks : List ℕ} {numbers : List ℤ} {r : Declared} (R : 
     not-priced e = ap (λ (q : Bool). priced (verdictOver (stepVerdict q) after)) (sym e) ∙ alone
 
     pub priced-alone : b ≡ true → {times : List ℤ} {count : ℕ}
-        → Listed (strokesOf (effectAt marks numbers) (integerAt (take (r .variables) values))) times count
+        → Listed (strokesOf (effectsAt marks numbers) (integerAt (take (r .variables) values))) times count
         → (price : ℕ) → price ≡ priceOfStrokes (take count times) → given price ≡ priceStep file x k
     priced-alone e l price p =
         let is = task-by file k of in
         let h = R .holds t is in
         let found = R .found t is k of in
         let ok = accepted-source-ok file t is .actionsOk in
-        let effect-ok = all-get (SourceActionOk sourceLimits (length (t .variables)) (sizesOf (t .modes))) (t .actions) k (R .action) ok found .effectOk in
+        let effects-ok = all-get (SourceActionOk sourceLimits (length (t .variables)) (sizesOf (t .modes))) (t .actions) k (R .action) ok found .effectsOk in
         let same : price ≡ priceFrom (t .actions) x k =
-        price-from (r .variables) marks numbers values l p
-        ∙ ap₂ (λ (f : Effect) (n : ℕ). priceOfEffect f (integerAt (take n values))) (R .row .effect) (h .variableCount)
-        ∙ same-price (length (t .variables)) values (R .action .effect) effect-ok
-        ∙ ap (λ (o : Option SourceAction). orZero o (λ a. priceOfEffect (a .effect) (integerAt values))) (sym found) in
+        p ∙ ap priceOfStrokes (l .is) ∙ sym (price-is (effectsAt marks numbers) (integerAt (take (r .variables) values)))
+        ∙ ap₂ (λ (fs : List Effect) (n : ℕ). priceOfEffects fs (integerAt (take n values))) (R .row .effects) (h .variableCount)
+        ∙ same-prices (length (t .variables)) values (R .action .effects) effects-ok
+        ∙ ap (λ (o : Option SourceAction). orZero o (λ a. priceOfEffects (a .effects) (integerAt values))) (sym found) in
         ap given same ∙ ap (λ (q : Bool). priced (verdictOver (stepVerdict q) after)) (sym e) ∙ alone
 
 -- ---- a step that is refused has no price

@@ -2,7 +2,10 @@
 //
 // A state is passed and returned by value. A step is that of the action's row (crate source_step), in whatever state is handed in: a state outside
 // the bounds of its task fails the row's test. A step's price is counted from the values before it (crate plan_strokes).
+use file_actions::EFFECTS;
 use file_declarations::Declared;
+use file_parts::MARKS as PART_MARKS;
+use file_parts::NUMBERS as PART_NUMBERS;
 use plan_strokes::STAGES;
 use source_step::MARKS;
 use source_step::MODES;
@@ -92,8 +95,21 @@ fn read_row(
     );
     let n = declared.variables;
     let m = declared.modes;
-    let action = file_actions::decode_source(bytes);
-    source_ready::put_row(marks, numbers, n, &lower, &upper, m, &sizes, action);
+    let mut parts = [0u16; PART_MARKS];
+    let mut constants = [0i64; PART_NUMBERS];
+    let effects = file_actions::decode_source(bytes, &mut parts, &mut constants);
+    source_ready::put_row(
+        marks,
+        numbers,
+        n,
+        &lower,
+        &upper,
+        m,
+        &sizes,
+        &parts,
+        &constants,
+        effects,
+    );
     declared
 }
 
@@ -171,7 +187,8 @@ fn price_accepted(file: &[u8], bytes: &[u8], state: State) -> Priced
     }
     let values = state.values;
     let mut times = [0i64; STAGES];
-    let count = plan_strokes::put_strokes(&mut times, &values, n, &marks, &numbers);
+    let mut results = [0i64; EFFECTS];
+    let count = plan_strokes::put_strokes(&mut times, &mut results, &values, n, &marks, &numbers);
     Priced::Price(plan_strokes::price_of(&times, count))
 }
 

@@ -75,3 +75,14 @@ quotient-small y c = rw (mul-abs (floor y (unitLess c)) (sign c), sign-one c) (o
 
 pub residue-small : (y c : ℤ) → 0 < natAbs c → natAbs (residueOf y c) < natAbs c
 residue-small y c h = let e = euclid y c h in omega (ints, e .high, e .low, abs (residueOf y c))
+
+-- what an effect gives, from numbers of a source file
+module _ (y c : ℤ) (h : natAbs y ≤ 10_000) (k : natAbs c ≤ 10_000) where
+  pub sum-within : Within 1_000_000_000 (y +ℤ c)
+  sum-within = record { within = omega (arith, abs-sum y c, h, k) }
+
+  pub quotient-within : Within 1_000_000_000 (quotientOf y c)
+  quotient-within = record { within = omega (arith, quotient-small y c, h) }
+
+  pub residue-within : 0 < natAbs c → Within 1_000_000_000 (residueOf y c)
+  residue-within l = record { within = omega (arith, residue-small y c l, k) }

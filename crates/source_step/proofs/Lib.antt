@@ -2,6 +2,7 @@ pub mod InRange
 pub mod Judging
 pub mod Modes
 pub mod Numbers
+pub mod Results
 pub mod Rows
 pub mod Sound
 pub mod Standing

@@ -1,22 +1,24 @@
--- What an effect reads and makes: of numbers within 10,000 nothing leaves 64 bits; terms that are not there, at weight 0, add nothing; the effect of each kind.
+-- What effect e of an action reads and makes: of numbers within 10,000 nothing leaves 64 bits; terms that are not there, at weight 0, add nothing; the effect of each kind.
 -- Assumes nothing.
 use mathlib.Core.Path.{_≡_, refl, sym, ap, _∙_}
-use Prim.Native.Nat.{ℕ, zero, suc, _+_, _≤_, _<_}
+use Prim.Native.Nat.{ℕ, zero, suc, _≤_, _<_}
 use native.Mathlib.Omega.{arith}
-use mathlib.Core.Bool.{Bool, true, false, _&&_}
-use mathlib.Core.Option.{Option, none, some}
+use mathlib.Core.Bool.{Bool, true, false, cond, _&&_}
 use mathlib.Core.List.{List}
 use lib.ListN.{take}
 use lib.IntN.{ℤ, pos, natAbs, _+ℤ_, _*ℤ_}
+use lib.Dec.{eqb}
 use borrow.Author.Tests.{le-leb, ne-eqb}
 use Rattle.integers.specs.Parts.{Within}
 use Rattle.integers.specs.Division.{quotientOf, residueOf}
 use Rattle.integers.proofs.Parts.{ints, add, mul}
 use Rattle.lists.specs.Each.{tabulate}
-use Rattle.model.specs.Tasks.{Effect, residueEffect}
-use Rattle.model.specs.Steps.{integerAt, naturalAt, linear, result}
+use Rattle.model.specs.Tasks.{Effect, addEffect, linearEffect, quotientEffect, residueEffect}
+use Rattle.model.specs.Steps.{integerAt, linear, target, result}
 use Rattle.source_step.specs.Parts.{small}
-use Rattle.source_step.specs.Row.{kindAt, targetAt, operandAt, termCountAt, constantAt, termsAt, effectOfKind, outcomeAt, Usable}
+use Rattle.source_step.specs.Sizes.{EFFECTS}
+use Rattle.source_step.proofs.InRange.{sum-within, quotient-within, residue-within}
+use Rattle.source_step.specs.Row.{kindAt, targetAt, operandAt, termCountAt, constantAt, variableAt, weightAt, termsAt, effectOfKind, effectAt, resultAt, Usable, Reads}
 
 both : (a b : Bool) → a ≡ true → b ≡ true → (a && b) ≡ true
 both true b e f = f
@@ -42,62 +44,88 @@ padded (suc room) zero f v z h w =
 padded (suc room) (suc k) f v z h w = padded room k (λ i. f (suc i)) v (z +ℤ v (f 0 .0) *ℤ f 0 .1) (omega arith) (λ i l m. w (suc i) (omega arith) (omega arith))
 
 -- the sum of four terms
-module _ {n : ℕ} (marks : List ℕ) (numbers : List ℤ) (u : Usable n marks numbers) (v : ℕ → ℤ) where
+module _ {n : ℕ} (marks : List ℕ) (numbers : List ℤ) (u : Usable n marks numbers) (v : ℕ → ℤ) (e : ℕ) (l : e < EFFECTS) where
   abbrev product : ℕ → ℤ
-  product i = v (naturalAt marks (20 + i)) *ℤ integerAt numbers (17 + i)
+  product i = v (variableAt marks e i) *ℤ weightAt numbers e i
 
-  pub four-terms : {a b c d : ℤ} → a ≡ constantAt numbers +ℤ product 0 → b ≡ a +ℤ product 1 → c ≡ b +ℤ product 2 → d ≡ c +ℤ product 3 → d ≡ linear (constantAt numbers) (termsAt marks numbers) v
+  pub four-terms : {a b c d : ℤ} → a ≡ constantAt numbers e +ℤ product 0 → b ≡ a +ℤ product 1 → c ≡ b +ℤ product 2 → d ≡ c +ℤ product 3 → d ≡ linear (constantAt numbers e) (termsAt marks numbers e) v
   unfolding tabulate
   four-terms {a} {b} {c} {d} ea eb ec ed =
       ed ∙ ap (λ (z : ℤ). z +ℤ product 3) (ec ∙ ap (λ (z : ℤ). z +ℤ product 2) (eb ∙ ap (λ (z : ℤ). z +ℤ product 1) ea))
-      ∙ sym (padded 4 (termCountAt marks) (λ i. (naturalAt marks (20 + i), integerAt numbers (17 + i))) v (constantAt numbers) (omega arith) (u .unweighted))
+      ∙ sym (padded 4 (termCountAt marks e) (λ i. (variableAt marks e i, weightAt numbers e i)) v (constantAt numbers e) (omega arith) (λ i. u .unweighted e i l))
 
 -- ---- kinds
-module _ (target operand : ℕ) (c : ℤ) (terms : List (ℕ × ℤ)) where
-  residue-is : (kind : ℕ) → 4 ≤ kind → effectOfKind kind target operand c terms ≡ residueEffect target operand c
+module _ (t operand : ℕ) (c : ℤ) (terms : List (ℕ × ℤ)) where
+  residue-is : (kind : ℕ) → 3 ≤ kind → effectOfKind kind t operand c terms ≡ residueEffect t operand c
   unfolding effectOfKind
-  residue-is kind h = rw (ne-eqb kind 0 (λ e. omega arith), ne-eqb kind 1 (λ e. omega arith), ne-eqb kind 2 (λ e. omega arith), ne-eqb kind 3 (λ e. omega arith)) refl
+  residue-is kind h = rw (ne-eqb kind 0 (λ e. omega arith), ne-eqb kind 1 (λ e. omega arith), ne-eqb kind 2 (λ e. omega arith)) refl
 
-  kind-is : (kind k : ℕ) → kind ≡ k → effectOfKind kind target operand c terms ≡ effectOfKind k target operand c terms
-  kind-is kind k e = ap (λ (j : ℕ). effectOfKind j target operand c terms) e
+  kind-is : (kind k : ℕ) → kind ≡ k → effectOfKind kind t operand c terms ≡ effectOfKind k t operand c terms
+  kind-is kind k e = ap (λ (j : ℕ). effectOfKind j t operand c terms) e
 
--- what an effect that gives a value gives its target
-pub record Gives (o : Option (ℕ × ℤ)) (target : ℕ) : Type 0 where
-  pub value : ℤ
-  pub is : o ≡ some (target, value)
-
-module _ (n : ℕ) (marks : List ℕ) (numbers : List ℤ) (values : List ℤ) where
-  abbrev v : ℕ → ℤ
-  v = integerAt (take n values)
-
-  of-kind : (k : ℕ) → kindAt marks ≡ k → outcomeAt n marks numbers values ≡ result (effectOfKind k (targetAt marks) (operandAt marks) (constantAt numbers) (termsAt marks numbers)) (integerAt (take n values))
-  of-kind k e = ap (λ (f : Effect). result f (integerAt (take n values))) (kind-is (targetAt marks) (operandAt marks) (constantAt numbers) (termsAt marks numbers) (kindAt marks) k e)
-
-  pub outcome-none : kindAt marks ≡ 0 → outcomeAt n marks numbers values ≡ none
+  -- each has the target that it is written with
+  target-of-kind : (kind : ℕ) → target (effectOfKind kind t operand c terms) ≡ t
   unfolding effectOfKind
-  outcome-none e = of-kind 0 e
-
-  pub outcome-add : kindAt marks ≡ 1 → outcomeAt n marks numbers values ≡ some (targetAt marks, v (targetAt marks) +ℤ constantAt numbers)
-  unfolding effectOfKind
-  outcome-add e = of-kind 1 e
-
-  pub outcome-linear : kindAt marks ≡ 2 → outcomeAt n marks numbers values ≡ some (targetAt marks, linear (constantAt numbers) (termsAt marks numbers) v)
-  unfolding effectOfKind
-  outcome-linear e = of-kind 2 e
-
-  pub outcome-quotient : kindAt marks ≡ 3 → outcomeAt n marks numbers values ≡ some (targetAt marks, quotientOf (v (operandAt marks)) (constantAt numbers))
-  unfolding effectOfKind
-  outcome-quotient e = of-kind 3 e
-
-  pub outcome-residue : 4 ≤ kindAt marks → outcomeAt n marks numbers values ≡ some (targetAt marks, residueOf (v (operandAt marks)) (constantAt numbers))
-  outcome-residue h = ap (λ (f : Effect). result f v) (residue-is (targetAt marks) (operandAt marks) (constantAt numbers) (termsAt marks numbers) (kindAt marks) h)
-
-  pub gives : 1 ≤ kindAt marks → Gives (outcomeAt n marks numbers values) (targetAt marks)
-  gives h = go (kindAt marks) refl
+  target-of-kind kind = go (eqb kind 0) (eqb kind 1) (eqb kind 2)
     where
-      go : (k : ℕ) → kindAt marks ≡ k → Gives (outcomeAt n marks numbers values) (targetAt marks)
-      go zero e = absurd (omega arith)
-      go (suc zero) e = record { value = _; is = outcome-add e }
-      go (suc (suc zero)) e = record { value = _; is = outcome-linear e }
-      go (suc (suc (suc zero))) e = record { value = _; is = outcome-quotient e }
-      go (suc (suc (suc (suc k)))) e = record { value = _; is = outcome-residue (omega arith) }
+      go : (a b d : Bool) → target (cond a (addEffect t c) (cond b (linearEffect t c terms) (cond d (quotientEffect t operand c) (residueEffect t operand c)))) ≡ t
+      go true b d = refl
+      go false true d = refl
+      go false false true = refl
+      go false false false = refl
+
+-- ---- what effect e gives
+module _ (marks : List ℕ) (numbers : List ℤ) (e : ℕ) where
+  pub target-is : target (effectAt marks numbers e) ≡ targetAt marks e
+  target-is = target-of-kind (targetAt marks e) (operandAt marks e) (constantAt numbers e) (termsAt marks numbers e) (kindAt marks e)
+
+  module _ (n : ℕ) (values : List ℤ) where
+    abbrev v : ℕ → ℤ
+    v = integerAt (take n values)
+
+    of-kind : (k : ℕ) → kindAt marks e ≡ k → resultAt n marks numbers values e ≡ result (effectOfKind k (targetAt marks e) (operandAt marks e) (constantAt numbers e) (termsAt marks numbers e)) (integerAt (take n values))
+    of-kind k h = ap (λ (f : Effect). result f (integerAt (take n values))) (kind-is (targetAt marks e) (operandAt marks e) (constantAt numbers e) (termsAt marks numbers e) (kindAt marks e) k h)
+
+    pub result-add : kindAt marks e ≡ 0 → resultAt n marks numbers values e ≡ v (targetAt marks e) +ℤ constantAt numbers e
+    unfolding effectOfKind
+    result-add h = of-kind 0 h
+
+    pub result-linear : kindAt marks e ≡ 1 → resultAt n marks numbers values e ≡ linear (constantAt numbers e) (termsAt marks numbers e) v
+    unfolding effectOfKind
+    result-linear h = of-kind 1 h
+
+    pub result-quotient : kindAt marks e ≡ 2 → resultAt n marks numbers values e ≡ quotientOf (v (operandAt marks e)) (constantAt numbers e)
+    unfolding effectOfKind
+    result-quotient h = of-kind 2 h
+
+    pub result-residue : 3 ≤ kindAt marks e → resultAt n marks numbers values e ≡ residueOf (v (operandAt marks e)) (constantAt numbers e)
+    result-residue h = ap (λ (f : Effect). result f v) (residue-is (targetAt marks e) (operandAt marks e) (constantAt numbers e) (termsAt marks numbers e) (kindAt marks e) h)
+
+-- ---- what it gives of values of a source file: by its kind, and small
+module _ {n : ℕ} {values : List ℤ} {marks : List ℕ} {numbers : List ℤ} (R : Reads n values marks numbers) (e : ℕ) (l : e < EFFECTS) where
+  abbrev target-value : ℤ
+  target-value = integerAt (take n values) (targetAt marks e)
+
+  abbrev operand-value : ℤ
+  operand-value = integerAt (take n values) (operandAt marks e)
+
+  constant-near : natAbs (constantAt numbers e) ≤ 10_000
+  constant-near = R .usable .constants e l
+
+  abbrev Gives : ℤ → Type 0
+  Gives z = (z ≡ resultAt n marks numbers values e) × Within 1_000_000_000 z
+
+  pub gives-sum : kindAt marks e ≡ 0 → {z : ℤ} → z ≡ target-value +ℤ constantAt numbers e → Gives z
+  gives-sum h q =
+      (q ∙ sym (result-add marks numbers e n values h), rw q (sum-within target-value (constantAt numbers e) (R .near (targetAt marks e)) constant-near))
+
+  pub gives-linear : kindAt marks e ≡ 1 → {z : ℤ} → (z ≡ linear (constantAt numbers e) (termsAt marks numbers e) (integerAt (take n values))) × Within 1_000_000_000 z → Gives z
+  gives-linear h q = (q .0 ∙ sym (result-linear marks numbers e n values h), q .1)
+
+  pub gives-quotient : kindAt marks e ≡ 2 → {z : ℤ} → z ≡ quotientOf operand-value (constantAt numbers e) → Gives z
+  gives-quotient h q =
+      (q ∙ sym (result-quotient marks numbers e n values h), rw q (quotient-within operand-value (constantAt numbers e) (R .near (operandAt marks e)) constant-near))
+
+  pub gives-residue : 3 ≤ kindAt marks e → {z : ℤ} → z ≡ residueOf operand-value (constantAt numbers e) → Gives z
+  gives-residue h q =
+      (q ∙ sym (result-residue marks numbers e n values h), rw q (residue-within operand-value (constantAt numbers e) (R .near (operandAt marks e)) constant-near (R .usable .divides e l (omega arith))))

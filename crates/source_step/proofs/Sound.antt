@@ -1,10 +1,9 @@
--- The tests of a state by number, as the code makes them, are those of the model; and what an effect gives its target within its bounds leaves all values within theirs.
+-- The tests of a state by number, as the code makes them, are those of the model; and what effects give their targets within the bounds of these leaves all values within theirs.
 -- Assumes nothing.
 use mathlib.Core.Path.{_≡_, refl, sym, ap, ap₂, _∙_}
 use Prim.Native.Nat.{ℕ, zero, suc, _≤_, _<_}
 use native.Mathlib.Omega.{arith}
 use mathlib.Core.Bool.{Bool, true, false, cond, _&&_}
-use mathlib.Core.Option.{Option, none, some}
 use mathlib.Core.List.{List, [], _∷_, _++_}
 use lib.Dec.{ltb}
 use lib.ListN.{length, length-take, length-set, getD, take, drop, set, take-append-drop, List·getD-eq-default}
@@ -16,7 +15,7 @@ use Rattle.integers.specs.Relation.{between}
 use Rattle.lists.specs.Each.{tabulate}
 use Rattle.lists.specs.Loops.{every}
 use Rattle.lists.proofs.Loops.{and-left, and-right}
-use Rattle.model.specs.Steps.{integerAt, naturalAt, valuesWithinBounds, modesBelowSizes, withinBounds, putResult}
+use Rattle.model.specs.Steps.{integerAt, naturalAt, setAll, valuesWithinBounds, modesBelowSizes, withinBounds}
 use Rattle.source_step.specs.Parts.{valuesBetween, modesBelow}
 use Rattle.source_step.specs.Step.{setAt, settled}
 
@@ -60,16 +59,20 @@ modes-sound n sizes modes s h =
 take-short : {A : Type 0} (n : ℕ) (l : List A) → length (take n l) ≤ n
 take-short n l = let e = length-take n l in omega arith
 
-pub set-at : {A : Type 0} (n : ℕ) (l : List A) (i : ℕ) (x : A) → setAt n l i x ≡ set (take n l) i x ++ drop n l
-set-at n l i x = go (ltb i n) refl
-  where
-    go : (b : Bool) → ltb i n ≡ b → cond b (set l i x) l ≡ set (take n l) i x ++ drop n l
-    go true e =
-        let h : i < n = ltb-true i n e in
-        sym (take-append-drop n (set l i x)) ∙ ap₂ (λ a b. a ++ b) (take-set-lt n l i x h) (drop-set-lt n l i x h)
-    go false e =
-        let h : n ≤ i = ltb-false i n e in
-        sym (take-append-drop n l) ∙ ap (λ a. a ++ drop n l) (sym (set-out (take n l) i x (omega (arith, take-short n l))))
+module _ {A : Type 0} (n : ℕ) (l : List A) (i : ℕ) (x : A) where
+  take-setAt : take n (setAt n l i x) ≡ set (take n l) i x
+  take-setAt = go (ltb i n) refl
+    where
+      go : (b : Bool) → ltb i n ≡ b → take n (cond b (set l i x) l) ≡ set (take n l) i x
+      go true e = take-set-lt n l i x (ltb-true i n e)
+      go false e = let h : n ≤ i = ltb-false i n e in sym (set-out (take n l) i x (omega (arith, take-short n l)))
+
+  drop-setAt : drop n (setAt n l i x) ≡ drop n l
+  drop-setAt = go (ltb i n) refl
+    where
+      go : (b : Bool) → ltb i n ≡ b → drop n (cond b (set l i x) l) ≡ drop n l
+      go true e = drop-set-lt n l i x (ltb-true i n e)
+      go false e = refl
 
 pub length-setAt : {A : Type 0} (n : ℕ) (l : List A) (i : ℕ) (x : A) → length (setAt n l i x) ≡ length l
 length-setAt n l i x = go (ltb i n)
@@ -78,11 +81,16 @@ length-setAt n l i x = go (ltb i n)
     go true = length-set l i x
     go false = refl
 
-pub settled-is : (n : ℕ) (o : Option (ℕ × ℤ)) (l : List ℤ) → settled n o l ≡ putResult o (take n l) ++ drop n l
-settled-is n none l = sym (take-append-drop n l)
-settled-is n (some p) l = set-at n l (p .0) (p .1)
+pub length-settled : (n : ℕ) (ps : List (ℕ × ℤ)) (l : List ℤ) → length (settled n ps l) ≡ length l
+length-settled n [] l = refl
+length-settled n (p ∷ ps) l = length-settled n ps (setAt n l (p .0) (p .1)) ∙ length-setAt n l (p .0) (p .1)
 
--- ---- a value within its bounds leaves all within theirs
+pub settled-is : (n : ℕ) (ps : List (ℕ × ℤ)) (l : List ℤ) → settled n ps l ≡ setAll ps (take n l) ++ drop n l
+settled-is n [] l = sym (take-append-drop n l)
+settled-is n (p ∷ ps) l =
+    settled-is n ps (setAt n l (p .0) (p .1)) ∙ ap₂ (λ a b. setAll ps a ++ b) (take-setAt n l (p .0) (p .1)) (drop-setAt n l (p .0) (p .1))
+
+-- ---- values within their bounds leave all within theirs
 both : (a b : Bool) → a ≡ true → b ≡ true → (a && b) ≡ true
 both true b e f = f
 both false b e f = e
@@ -94,9 +102,11 @@ stays lower upper (x ∷ l) (suc t) z h k =
     both _ _ (and-left (between (lower 0) (upper 0) x) _ h)
     (stays (λ j. lower (suc j)) (λ j. upper (suc j)) l t z (and-right (between (lower 0) (upper 0) x) _ h) k)
 
-pub put-stays : (lower upper : ℕ → ℤ) (o : Option (ℕ × ℤ)) (l : List ℤ) → valuesWithinBounds lower upper l ≡ true → withinBounds lower upper o ≡ true → valuesWithinBounds lower upper (putResult o l) ≡ true
-put-stays lower upper none l h k = h
-put-stays lower upper (some p) l h k = stays lower upper l (p .0) (p .1) h k
+pub put-stays : (lower upper : ℕ → ℤ) (ps : List (ℕ × ℤ)) (l : List ℤ) → valuesWithinBounds lower upper l ≡ true → withinBounds lower upper ps ≡ true → valuesWithinBounds lower upper (setAll ps l) ≡ true
+put-stays lower upper [] l h k = h
+put-stays lower upper (p ∷ ps) l h k =
+    let b = between (lower (p .0)) (upper (p .0)) (p .1) in
+    put-stays lower upper ps (set l (p .0) (p .1)) (stays lower upper l (p .0) (p .1) h (and-left b (withinBounds lower upper ps) k)) (and-right b (withinBounds lower upper ps) k)
 
 -- ---- what the code reads and stores by number
 module _ {A : Type 0} (n : ℕ) (l : List A) (i j : ℕ) (e : i ≡ j) where

@@ -11,15 +11,15 @@ use lib.IntN.{ℤ, natAbs}
 use Rattle.lists.proofs.Loops.{and-left, and-right}
 use Rattle.model.specs.Tasks.{Effect, SourceAction, SourceTask, State}
 use Rattle.model.specs.Systems.{bind, provided}
-use Rattle.model.specs.Steps.{integerAt, naturalAt, modesHold, conditionsHold, result, withinBounds, trySource, valuesWithinBounds, modesBelowSizes, soundSource, lowerBounds, upperBounds, stepSource, sourceGoalHolds}
+use Rattle.model.specs.Steps.{integerAt, naturalAt, modesHold, conditionsHold, results, withinBounds, trySource, valuesWithinBounds, modesBelowSizes, soundSource, lowerBounds, upperBounds, stepSource, sourceGoalHolds}
 use Rattle.model.specs.Judging.{declaredPart}
 use Rattle.model.proofs.Pairing.{none-not-some, some-injective}
-use Rattle.source_step.specs.Parts.{effectFits, valuesBetween, modesBelow}
+use Rattle.source_step.specs.Parts.{effectsFit, valuesBetween, modesBelow}
 use Rattle.source_step.specs.Step.{state, stepOf, handedBack, Shaped, Tried, Kept}
 use Rattle.source_step.proofs.Sound.{values-sound, modes-sound}
 use Rattle.source_step.proofs.Steps.{values-near, step-of-task}
 use Rattle.source_step.proofs.Trying.{tried-keeps}
-use Rattle.source_step.specs.Row.{valuesIn, modesIn, effectAt, outcomeAt, staysIn, Usable, Reads, Stepped}
+use Rattle.source_step.specs.Row.{valuesIn, modesIn, effectsAt, staysIn, Usable, Reads, Stepped}
 use Rattle.source_step.proofs.Taking as taking
 use Rattle.source_step.specs.Ready.{marksOf, numbersOf, Ready, Standing}
 
@@ -37,7 +37,7 @@ last-passed true true (some z) ok y e = go (ok z) refl e
 sound-after : (lower upper : List ℤ) (sizes : List ℕ) (x y : State) (a : SourceAction) → stepOf lower upper sizes x a ≡ some y → soundSource (integerAt lower) (integerAt upper) sizes y ≡ true
 unfolding stepOf
 sound-after lower upper sizes x y a e =
-    last-passed (effectFits (a .effect) (integerAt (x .values))) (soundSource (integerAt lower) (integerAt upper) sizes x) (trySource (integerAt lower) (integerAt upper) x a) (soundSource (integerAt lower) (integerAt upper) sizes) y e
+    last-passed (effectsFit (a .effects) (integerAt (x .values))) (soundSource (integerAt lower) (integerAt upper) sizes x) (trySource (integerAt lower) (integerAt upper) x a) (soundSource (integerAt lower) (integerAt upper) sizes) y e
 
 module _ {count : ℕ} {marks : List (List ℕ)} {numbers : List (List ℤ)} {n : ℕ} {lower upper : List ℤ} {m : ℕ} {sizes : List ℕ} where
   -- ---- a state within its bounds
@@ -64,10 +64,10 @@ module _ {count : ℕ} {marks : List (List ℕ)} {numbers : List (List ℤ)} {n 
       pub reads : Reads n values (marksOf marks k) (numbersOf numbers k)
       reads = record { variablesFew = S .shaped .variablesFew; near = near; usable = usable }
 
-      pub fits : effectFits (effectAt (marksOf marks k) (numbersOf numbers k)) (integerAt (take n values)) ≡ true
+      pub fits : effectsFit (effectsAt (marksOf marks k) (numbersOf numbers k)) (integerAt (take n values)) ≡ true
       fits =
           let R = S .ready .rowsAre k l .row in
-          ap (λ (e : Effect). effectFits e (integerAt (take n values))) (R .effect) ∙ R .fits values values-within
+          ap (λ (es : List Effect). effectsFit es (integerAt (take n values))) (R .effects) ∙ R .fits values values-within
 
       -- the rows ask just the conditions
       pub opens : let a = S .ready .rowsAre k l .action in
@@ -101,13 +101,13 @@ module _ {count : ℕ} {marks : List (List ℕ)} {numbers : List (List ℤ)} {n 
           sym (step-of-task t (ready .ok) (declaredPart n m (state values modes)) k action (ready .rowsAre k l .found))
           ∙ rw (← ready .lowersAre, ← ready .uppersAre, ← ready .sizesAre) (tried .declares)
 
-      -- an action whose conditions hold and that does not apply has its result out of bounds
+      -- an action whose conditions hold and that does not apply has a result out of bounds
       pub turned-back : (modesIn m (marksOf marks k) modes && valuesIn n (numbersOf numbers k) values) ≡ true → r ≡ false
-          → withinBounds (lowerBounds t) (upperBounds t) (result (action .effect) (integerAt (take n values))) ≡ false
+          → withinBounds (lowerBounds t) (upperBounds t) (results (action .effects) (integerAt (take n values))) ≡ false
       turned-back h e =
           rw (← ready .lowersAre, ← ready .uppersAre) (
           sym (taking.bounds-are shaped (ready .rowsAre k l .row))
-          ∙ sym (ap (λ (b : Bool). b && staysIn (numbersOf numbers k) (outcomeAt n (marksOf marks k) (numbersOf numbers k) values)) h) ∙ sym (T .is) ∙ e)
+          ∙ sym (ap (λ (b : Bool). b && staysIn n (marksOf marks k) (numbersOf numbers k) values) h) ∙ sym (T .is) ∙ e)
 
       pub kept : Kept n m values modes values′ modes′
       kept = tried-keeps shaped tried

@@ -18,16 +18,16 @@ use Rattle.model.specs.Limits.{sourceLimits}
 use Rattle.model.specs.TaskOk.{AmountOk, EffectOk, SourceActionOk, SourceVariableOk, SourceTaskOk}
 use Rattle.model.proofs.StageWalk.{all-get, all-map}
 use Rattle.lists.specs.Loops.{every}
-use Rattle.model.specs.Tasks.{Effect, noEffect, addEffect, linearEffect, quotientEffect, residueEffect, SourceAction, SourceVariable, SourceTask, State}
+use Rattle.model.specs.Tasks.{Effect, addEffect, linearEffect, quotientEffect, residueEffect, SourceAction, SourceVariable, SourceTask, State}
 use Rattle.model.specs.Systems.{bind, provided}
-use Rattle.model.specs.Steps.{integerAt, naturalAt, modesHold, conditionsHold, withinBounds, result, putResult, setAll, trySource, valuesWithinBounds, modesBelowSizes, soundSource, lowerBounds, upperBounds, sizesOf, stepSource}
-use Rattle.source_step.specs.Parts.{small, termFits, effectFits}
+use Rattle.model.specs.Steps.{integerAt, naturalAt, modesHold, conditionsHold, withinBounds, results, setAll, trySource, valuesWithinBounds, modesBelowSizes, soundSource, lowerBounds, upperBounds, sizesOf, stepSource}
+use Rattle.source_step.specs.Parts.{small, termFits, effectFits, effectsFit}
 use Rattle.source_step.specs.Step.{stepOf}
 use Rattle.source_step.proofs.Sound.{put-stays}
 
 -- the state that an action makes
 abbrev pub after : State → SourceAction → State
-after x a = record { values = putResult (result (a .effect) (integerAt (x .values))) (x .values); modes = setAll (a .modeEffects) (x .modes) }
+after x a = record { values = setAll (results (a .effects) (integerAt (x .values))) (x .values); modes = setAll (a .modeEffects) (x .modes) }
 
 -- tests, one after the other
 abbrev pub asked : {A : Type 0} → List Bool → A → Option A
@@ -72,9 +72,9 @@ module _ (lower upper : List ℤ) (sizes : List ℕ) (x : State) (a : SourceActi
       ∷ modesBelowSizes sizes (x .modes)
       ∷ modesHold (a .modeConditions) (naturalAt (x .modes))
       ∷ conditionsHold (a .conditions) (integerAt (x .values))
-      ∷ effectFits (a .effect) (integerAt (x .values))
+      ∷ effectsFit (a .effects) (integerAt (x .values))
       ∷ modesBelowSizes sizes (setAll (a .modeEffects) (x .modes))
-      ∷ withinBounds (integerAt lower) (integerAt upper) (result (a .effect) (integerAt (x .values)))
+      ∷ withinBounds (integerAt lower) (integerAt upper) (results (a .effects) (integerAt (x .values)))
       ∷ []
 
   pub step-asks : stepOf lower upper sizes x a ≡ asked tests (after x a)
@@ -82,8 +82,8 @@ module _ (lower upper : List ℤ) (sizes : List ℕ) (x : State) (a : SourceActi
   step-asks =
       reordered (λ (z : State). valuesWithinBounds (integerAt lower) (integerAt upper) (z .values)) (λ (z : State). modesBelowSizes sizes (z .modes)) (after x a)
       (valuesWithinBounds (integerAt lower) (integerAt upper) (x .values)) (modesBelowSizes sizes (x .modes)) (modesHold (a .modeConditions) (naturalAt (x .modes))) (conditionsHold (a .conditions) (integerAt (x .values)))
-      (effectFits (a .effect) (integerAt (x .values))) (withinBounds (integerAt lower) (integerAt upper) (result (a .effect) (integerAt (x .values))))
-      (put-stays (integerAt lower) (integerAt upper) (result (a .effect) (integerAt (x .values))) (x .values))
+      (effectsFit (a .effects) (integerAt (x .values))) (withinBounds (integerAt lower) (integerAt upper) (results (a .effects) (integerAt (x .values))))
+      (put-stays (integerAt lower) (integerAt upper) (results (a .effects) (integerAt (x .values))) (x .values))
 
 -- ---- a task that keeps to the rules on source files: a step by its action is the model's step by number
 pub within-all : (f : SourceVariable → ℤ) (vs : List SourceVariable) → All (λ (b : SourceVariable). natAbs (f b) ≤ 10_000) vs → (j : ℕ) → natAbs (integerAt (map f vs) j) ≤ 10_000
@@ -114,12 +114,15 @@ terms-near : (n : ℕ) (v : ℕ → ℤ) → ((j : ℕ) → natAbs (v j) ≤ 10_
 terms-near n v h [] o = refl
 terms-near n v h (t ∷ ts) (o, os) = both _ _ (both _ _ (near (v (t .0)) (h (t .0))) (near (t .1) (o .1 .1))) (terms-near n v h ts os)
 
-pub effect-near : (n : ℕ) (v : ℕ → ℤ) → ((j : ℕ) → natAbs (v j) ≤ 10_000) → (e : Effect) → EffectOk sourceLimits n e → effectFits e v ≡ true
-effect-near n v h noEffect o = refl
+effect-near : (n : ℕ) (v : ℕ → ℤ) → ((j : ℕ) → natAbs (v j) ≤ 10_000) → (e : Effect) → EffectOk sourceLimits n e → effectFits e v ≡ true
 effect-near n v h (addEffect t c) o = both _ _ (near (v t) (h t)) (near c (o .1 .1))
 effect-near n v h (linearEffect t w ts) o = both _ _ (both _ _ (near (v t) (h t)) (near w (o .1))) (terms-near n v h ts (o .3 .0))
 effect-near n v h (quotientEffect t y c) o = both _ _ (both _ _ (near (v t) (h t)) (near (v y) (h y))) (both _ _ (near c (o .2 .1)) (not-zero c (o .2 .0)))
 effect-near n v h (residueEffect t y c) o = both _ _ (both _ _ (near (v t) (h t)) (near (v y) (h y))) (both _ _ (near c (o .2 .1)) (not-zero c (o .2 .0)))
+
+pub effects-near : (n : ℕ) (v : ℕ → ℤ) → ((j : ℕ) → natAbs (v j) ≤ 10_000) → (es : List Effect) → All (EffectOk sourceLimits n) es → effectsFit es v ≡ true
+effects-near n v h [] o = refl
+effects-near n v h (e ∷ es) (o, os) = both _ _ (effect-near n v h e o) (effects-near n v h es os)
 
 chosen : {A : Type 0} (f s : Bool) (o p : Option A) → (s ≡ true → f ≡ true) → (s ≡ false → p ≡ none) → o ≡ p → cond f o none ≡ p
 chosen true s o p h k e = e
@@ -138,11 +141,11 @@ module _ (t : SourceTask) (ok : SourceTaskOk t) where
       (within-all (λ (b : SourceVariable). b .upper) (t .variables) (all-map (SourceVariableOk sourceLimits) (λ (b : SourceVariable). natAbs (b .upper) ≤ 10_000) (λ b h. h .1) (t .variables) (ok .variablesIn)))
       (x .values) (and-left (valuesWithinBounds (lowerBounds t) (upperBounds t) (x .values)) (modesBelowSizes (sizesOf (t .modes)) (x .modes)) s)
 
-  -- in a state within its bounds every effect of the task fits, whether its action applies or not
-  pub effect-of-task-fits : (x : State) → soundSource (lowerBounds t) (upperBounds t) (sizesOf (t .modes)) x ≡ true
-      → (k : ℕ) (a : SourceAction) → getElem? (t .actions) k ≡ some a → effectFits (a .effect) (integerAt (x .values)) ≡ true
-  effect-of-task-fits x s k a e =
-      effect-near (length (t .variables)) (integerAt (x .values)) (values-near x s) (a .effect) (all-get (SourceActionOk sourceLimits (length (t .variables)) (sizesOf (t .modes))) (t .actions) k a (ok .actionsOk) e .effectOk)
+  -- in a state within its bounds the effects of each action fit, whether the action applies or not
+  pub effects-of-task-fit : (x : State) → soundSource (lowerBounds t) (upperBounds t) (sizesOf (t .modes)) x ≡ true
+      → (k : ℕ) (a : SourceAction) → getElem? (t .actions) k ≡ some a → effectsFit (a .effects) (integerAt (x .values)) ≡ true
+  effects-of-task-fit x s k a e =
+      effects-near (length (t .variables)) (integerAt (x .values)) (values-near x s) (a .effects) (all-get (SourceActionOk sourceLimits (length (t .variables)) (sizesOf (t .modes))) (t .actions) k a (ok .actionsOk) e .effectsOk)
 
   -- THE LAW
   pub step-of-task : (x : State) (k : ℕ) (a : SourceAction) → getElem? (t .actions) k ≡ some a
@@ -152,7 +155,7 @@ module _ (t : SourceTask) (ok : SourceTaskOk t) where
       let sound = soundSource (lowerBounds t) (upperBounds t) (sizesOf (t .modes)) in
       let after-try : Option State → Option State = λ (o : Option State). bind o (λ (y : State). cond (sound x) (cond (sound y) (some y) none) none) in
       let same : after-try (trySource (lowerBounds t) (upperBounds t) x a) ≡ stepSource t x k = ap (λ (o : Option SourceAction). after-try (bind o (trySource (lowerBounds t) (upperBounds t) x))) (sym e) in
-      chosen (effectFits (a .effect) (integerAt (x .values))) (sound x) (after-try (trySource (lowerBounds t) (upperBounds t) x a)) (stepSource t x k)
-      (λ s. effect-of-task-fits x s k a e)
+      chosen (effectsFit (a .effects) (integerAt (x .values))) (sound x) (after-try (trySource (lowerBounds t) (upperBounds t) x a)) (stepSource t x k)
+      (λ s. effects-of-task-fit x s k a e)
       (λ s. sym same ∙ ap (λ (b : Bool). bind (trySource (lowerBounds t) (upperBounds t) x a) (λ (y : State). cond b (cond (sound y) (some y) none) none)) s ∙ unsound (trySource (lowerBounds t) (upperBounds t) x a) sound)
       same

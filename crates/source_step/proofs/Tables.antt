@@ -6,12 +6,13 @@ use native.Mathlib.Omega.{arith}
 use native.Mathlib.Decide.{ℕ-discrete}
 use mathlib.Core.Bool.{Bool, true, false, cond, _&&_}
 use mathlib.Core.Option.{Option}
+use mathlib.Core.List.{List}
 use lib.ListN.{take}
 use lib.IntN.{ℤ}
 use Rattle.model.specs.Tasks.{Effect, SourceAction, SourceTask, State}
 use Rattle.model.specs.Systems.{provided, orZero}
-use Rattle.model.specs.Steps.{naturalAt, integerAt, modesHold, conditionsHold, result, withinBounds, lowerBounds, upperBounds, stepSource, sourceGoalHolds}
-use Rattle.model.specs.Expansion.{priceOfEffect, priceFrom}
+use Rattle.model.specs.Steps.{naturalAt, integerAt, modesHold, conditionsHold, results, withinBounds, lowerBounds, upperBounds, stepSource, sourceGoalHolds}
+use Rattle.model.specs.Expansion.{priceOfEffects, priceFrom}
 use Rattle.source_step.specs.Step.{state, Kept}
 use Rattle.source_step.specs.Row.{Usable, Stepped}
 use Rattle.source_step.specs.Ready.{marksOf, numbersOf, Standing, RowAt}
@@ -41,7 +42,7 @@ module _ {t : SourceTask} {T : Table} (R : RowsOf t T) where
   price-agrees x k l =
       let r = rowAt k l in
       let v : ℕ → ℤ = integerAt (take (T .variables) (x .values)) in
-      ap (λ (o : Option SourceAction). orZero o (λ a. priceOfEffect (a .effect) v)) (r .found) ∙ ap (λ (e : Effect). priceOfEffect e v) (sym (r .row .effect))
+      ap (λ (o : Option SourceAction). orZero o (λ a. priceOfEffects (a .effects) v)) (r .found) ∙ ap (λ (es : List Effect). priceOfEffects es v) (sym (r .row .effects))
 
   module _ (x : State) (I : Inside R x) where
     abbrev pub stands : Standing (T .count) (T .marks) (T .numbers) (T .variables) (R .lower) (R .upper) (T .modes) (R .sizes) (x .values) (x .modes)
@@ -77,9 +78,9 @@ module _ {t : SourceTask} {T : Table} (R : RowsOf t T) where
         pub kept-after : Kept (T .variables) (T .modes) (x .values) (x .modes) (afterBy T x k .values) (afterBy T x k .modes)
         kept-after = standing.kept l (I .shaped) taken t (R .ready)
 
-      -- an action whose conditions hold and that does not apply has its result out of bounds
+      -- an action whose conditions hold and that does not apply has a result out of bounds
       pub turned-back : heldBy T x k ≡ true → takesBy T x k ≡ false
-          → withinBounds (lowerBounds t) (upperBounds t) (result (R .ready .rowsAre k l .action .effect) (integerAt (take (T .variables) (x .values)))) ≡ false
+          → withinBounds (lowerBounds t) (upperBounds t) (results (R .ready .rowsAre k l .action .effects) (integerAt (take (T .variables) (x .values)))) ≡ false
       turned-back h e = standing.turned-back l (I .shaped) stepped t (R .ready) h e
 
       -- the rows ask just the conditions

@@ -1,27 +1,28 @@
 -- A step by rows is the step of the action that they are the rows of.
 -- Assumes nothing.
 use mathlib.Core.Path.{_≡_, refl, sym, ap, ap₂, _∙_}
-use Prim.Native.Nat.{ℕ, zero, suc, _≤_}
+use Prim.Native.Nat.{ℕ, _≤_}
 use native.Mathlib.Omega.{arith}
 use mathlib.Core.Bool.{Bool, true, false, cond, _&&_, false≢true}
-use mathlib.Core.Option.{Option, none, some}
+use mathlib.Core.Option.{none, some}
 use mathlib.Core.List.{List, [], _∷_, _++_}
-use lib.ListN.{length, length-append, length-drop, length-set, take, drop}
+use lib.ListN.{length, length-append, length-drop, take, drop}
 use lib.Seq.{length-take-le, take-at}
 use lib.IntN.{ℤ}
 use Rattle.integers.specs.All.{All}
+use Rattle.lists.specs.Loops.{every}
 use Rattle.lists.proofs.Loops.{and-left, and-right}
 use Rattle.model.specs.Tasks.{Effect, SourceAction}
-use Rattle.model.specs.Steps.{integerAt, naturalAt, modesHold, conditionsHold, withinBounds, result, putResult, setAll, modesBelowSizes}
+use Rattle.model.specs.Steps.{integerAt, naturalAt, modesHold, conditionsHold, withinBounds, results, setAll, modesBelowSizes}
 use Rattle.model.specs.Judging.{declaredPart}
-use Rattle.source_step.specs.Parts.{effectFits, valuesBetween, modesBelow}
+use Rattle.source_step.specs.Parts.{effectsFit, valuesBetween, modesBelow}
 use Rattle.source_step.specs.Step.{state, stepOf, handedBack, settled, Shaped, Tried}
-use Rattle.source_step.proofs.Sound.{length-setAt, values-sound, modes-sound, settled-is}
+use Rattle.source_step.proofs.Sound.{tabulate-same, length-settled, values-sound, modes-sound, settled-is}
 use Rattle.source_step.proofs.Steps.{after, asked, one-fails, all-pass, step-asks}
 use Rattle.source_step.proofs.Trying.{length-setAll}
 use Rattle.source_step.specs.Sizes.{VARIABLES}
-use Rattle.source_step.specs.Row.{valuesIn, modesIn, modesAfter, kindAt, outcomeAt, staysIn, held, valuesAfter, Usable, Reads, RowOf, Stepped, Finished}
-use Rattle.source_step.proofs.Numbers.{gives, outcome-none}
+use Rattle.source_step.specs.Row.{valuesIn, modesIn, modesAfter, effectCountAt, targetAt, resultAt, outcomesAt, staysIn, held, valuesAfter, Usable, Reads, RowOf, Stepped, Finished}
+use Rattle.source_step.proofs.Results.{within-by-number, outcomes-are}
 
 -- four tests in the order of the rows and in that of the model
 four-fail : {A : Type 0} (v m p c : Bool) (rest : List Bool) (y : A) → ((m && p) && (v && c)) ≡ false → asked (v ∷ m ∷ p ∷ c ∷ rest) y ≡ none
@@ -42,10 +43,10 @@ module _ {n m : ℕ} {marks : List ℕ} {numbers : List ℤ} {values : List ℤ}
   pub not-held : held n m marks numbers values modes ≡ false → Stepped n m marks numbers values modes false values modes
   not-held e = record { is = rw e refl; valuesAre = rw e refl; modesAre = rw e refl }
 
-  pub stays : {values′ : List ℤ} → staysIn numbers (outcomeAt n marks numbers values) ≡ false → values′ ≡ values → Finished n m marks numbers values modes false values′ modes
+  pub stays : {values′ : List ℤ} → staysIn n marks numbers values ≡ false → values′ ≡ values → Finished n m marks numbers values modes false values′ modes
   stays f s = record { is = rw f refl; valuesAre = rw f s; modesAre = rw f refl }
 
-  pub goes : {values′ : List ℤ} {modes′ : List ℕ} → staysIn numbers (outcomeAt n marks numbers values) ≡ true
+  pub goes : {values′ : List ℤ} {modes′ : List ℕ} → staysIn n marks numbers values ≡ true
       → values′ ≡ valuesAfter n marks numbers values → modes′ ≡ modesAfter m marks modes → Finished n m marks numbers values modes true values′ modes′
   goes f s t = record { is = rw f refl; valuesAre = rw f s; modesAre = rw f t }
 
@@ -57,15 +58,12 @@ module _ {n m : ℕ} {marks : List ℕ} {numbers : List ℤ} {values : List ℤ}
 module _ {n m : ℕ} {marks : List ℕ} {numbers : List ℤ} {values : List ℤ} {modes : List ℕ} where
   module _ {lower upper : List ℤ} {sizes : List ℕ} {a : SourceAction} (S : Shaped n m values modes sizes) (R : RowOf n m lower upper sizes marks numbers a) where
     -- the bounds in the row are those of the target
-    pub bounds-are : staysIn numbers (outcomeAt n marks numbers values) ≡ withinBounds (integerAt (take n lower)) (integerAt (take n upper)) (result (a .effect) (integerAt (take n values)))
-    bounds-are = go (kindAt marks) refl ∙ ap (λ (e : Effect). withinBounds (integerAt (take n lower)) (integerAt (take n upper)) (result e (integerAt (take n values)))) (R .effect)
-      where
-        go : (k : ℕ) → kindAt marks ≡ k → staysIn numbers (outcomeAt n marks numbers values) ≡ withinBounds (integerAt (take n lower)) (integerAt (take n upper)) (outcomeAt n marks numbers values)
-        go zero e = rw (outcome-none n marks numbers values e) refl
-        go (suc k) e =
-            let h : 1 ≤ kindAt marks = omega arith in
-            let g = gives n marks numbers values h in
-            rw (g .is, R .lowerAt h, R .upperAt h) refl
+    pub bounds-are : staysIn n marks numbers values ≡ withinBounds (integerAt (take n lower)) (integerAt (take n upper)) (results (a .effects) (integerAt (take n values)))
+    bounds-are =
+        ap (every (λ b. b)) (tabulate-same (effectCountAt marks) _ _ (λ e h. rw (R .lowerAt e h, R .upperAt e h)))
+        ∙ sym (within-by-number (integerAt (take n lower)) (integerAt (take n upper)) (effectCountAt marks) (targetAt marks) (resultAt n marks numbers values))
+        ∙ ap (withinBounds (integerAt (take n lower)) (integerAt (take n upper))) (sym (outcomes-are n marks numbers values))
+        ∙ ap (λ (es : List Effect). withinBounds (integerAt (take n lower)) (integerAt (take n upper)) (results es (integerAt (take n values)))) (R .effects)
 
     length-set-modes : length (setAll (a .modeEffects) (take m modes)) ≡ m
     length-set-modes = length-setAll (a .modeEffects) (take m modes) ∙ length-take-le m modes (omega (arith, S .modesLong, S .modesFew))
@@ -86,9 +84,9 @@ module _ {n m : ℕ} {marks : List ℕ} {numbers : List ℤ} {values : List ℤ}
         ∷ modesBelow m sizes modes
         ∷ modesHold (a .modeConditions) (naturalAt (take m modes))
         ∷ conditionsHold (a .conditions) (integerAt (take n values))
-        ∷ effectFits (a .effect) (integerAt (take n values))
+        ∷ effectsFit (a .effects) (integerAt (take n values))
         ∷ modesBelow m sizes (modesAfter m marks modes)
-        ∷ staysIn numbers (outcomeAt n marks numbers values)
+        ∷ staysIn n marks numbers values
         ∷ []
 
     below-after : modesBelowSizes (take m sizes) (setAll (a .modeEffects) (take m modes)) ≡ modesBelow m sizes (modesAfter m marks modes)
@@ -111,7 +109,7 @@ module _ {n m : ℕ} {marks : List ℕ} {numbers : List ℤ} {values : List ℤ}
     fails-before : (modesIn m marks modes && valuesIn n numbers values) ≡ false → asked made (after (declaredPart n m (state values modes)) a) ≡ none
     fails-before e =
         (four-fail (valuesBetween n lower upper values) (modesBelow m sizes modes) (modesHold (a .modeConditions) (naturalAt (take m modes))) (conditionsHold (a .conditions) (integerAt (take n values)))
-        (effectFits (a .effect) (integerAt (take n values)) ∷ modesBelow m sizes (modesAfter m marks modes) ∷ staysIn numbers (outcomeAt n marks numbers values) ∷ [])
+        (effectsFit (a .effects) (integerAt (take n values)) ∷ modesBelow m sizes (modesAfter m marks modes) ∷ staysIn n marks numbers values ∷ [])
         (after (declaredPart n m (state values modes)) a) (sym rows-are ∙ e))
 
     module _ (h : (modesIn m marks modes && valuesIn n numbers values) ≡ true) where
@@ -126,42 +124,34 @@ module _ {n m : ℕ} {marks : List ℕ} {numbers : List ℤ} {values : List ℤ}
           let q = and-right (mb && mh) (vb && ch) e in
           (and-left vb ch q, (and-left mb mh p, (and-right mb mh p, (and-right vb ch q, tt))))
 
-      passed : staysIn numbers (outcomeAt n marks numbers values) ≡ true → asked made (after (declaredPart n m (state values modes)) a) ≡ some (after (declaredPart n m (state values modes)) a)
+      passed : staysIn n marks numbers values ≡ true → asked made (after (declaredPart n m (state values modes)) a) ≡ some (after (declaredPart n m (state values modes)) a)
       passed w =
           let b = before in
           all-pass made _ (b .0, (b .1 .0, (b .1 .1 .0, (b .1 .1 .1 .0, (R .fits values (b .0), (R .setsBelow modes (omega (arith, S .modesLong, S .modesFew)) (b .1 .0), (w, tt)))))))
 
-    passes : {r : Bool} {values′ : List ℤ} {modes′ : List ℕ} → r ≡ true → (modesIn m marks modes && valuesIn n numbers values) ≡ true → staysIn numbers (outcomeAt n marks numbers values) ≡ true
-        → values′ ≡ settled n (outcomeAt n marks numbers values) values → modes′ ≡ modesAfter m marks modes → Tried n m lower upper sizes values modes a r values′ modes′
+    passes : {r : Bool} {values′ : List ℤ} {modes′ : List ℕ} → r ≡ true → (modesIn m marks modes && valuesIn n numbers values) ≡ true → staysIn n marks numbers values ≡ true
+        → values′ ≡ settled n (outcomesAt n marks numbers values) values → modes′ ≡ modesAfter m marks modes → Tried n m lower upper sizes values modes a r values′ modes′
     passes {r} {values′} {modes′} p h w s t =
-        let o = result (a .effect) (integerAt (take n values)) in
-        let u : values′ ≡ settled n o values = s ∙ ap (λ (e : Effect). settled n (result e (integerAt (take n values))) values) (R .effect) in
+        let o = results (a .effects) (integerAt (take n values)) in
+        let u : values′ ≡ settled n o values = s ∙ ap (λ (es : List Effect). settled n (results es (integerAt (take n values))) values) (R .effects) in
         let v = u ∙ settled-is n o values in
         let y = t ∙ sets in
         let some-is = step-made ∙ passed h w in
         rw p (record {
           meets = ap₂ (λ (vs : List ℤ) (ms : List ℕ). (true, state vs ms)) v y ∙ ap (handedBack n m (state values modes)) (sym some-is);
           declares = some-is ∙ ap₂ (λ (vs : List ℤ) (ms : List ℕ). some (state vs ms)) (sym (ap (take n) v ∙ take-at _ (drop n values) n (front-values o))) (sym (ap (take m) t ∙ front-modes));
-          valuesLong = ap length u ∙ long-settled o;
+          valuesLong = ap length u ∙ length-settled n o values ∙ S .valuesLong;
           modesLong = ap length t ∙ length-modes-after;
         })
       where
-        long-settled : (o : Option (ℕ × ℤ)) → length (settled n o values) ≡ 8
-        long-settled none = S .valuesLong
-        long-settled (some p) = length-setAt n values (p .0) (p .1) ∙ S .valuesLong
-
-        long-put : (o : Option (ℕ × ℤ)) (l : List ℤ) → length (putResult o l) ≡ length l
-        long-put none l = refl
-        long-put (some p) l = length-set l (p .0) (p .1)
-
-        front-values : (o : Option (ℕ × ℤ)) → length (putResult o (take n values)) ≡ n
-        front-values o = long-put o (take n values) ∙ length-take-le n values (omega (arith, S .valuesLong, S .variablesFew))
+        front-values : (ps : List (ℕ × ℤ)) → length (setAll ps (take n values)) ≡ n
+        front-values ps = length-setAll ps (take n values) ∙ length-take-le n values (omega (arith, S .valuesLong, S .variablesFew))
 
     -- THE LAW, in every state
     pub tried : {r : Bool} {values′ : List ℤ} {modes′ : List ℕ} → Stepped n m marks numbers values modes r values′ modes′ → Tried n m lower upper sizes values modes a r values′ modes′
-    tried {r} {values′} {modes′} T = go (modesIn m marks modes && valuesIn n numbers values) (staysIn numbers (outcomeAt n marks numbers values)) refl refl (T .is) (T .valuesAre) (T .modesAre)
+    tried {r} {values′} {modes′} T = go (modesIn m marks modes && valuesIn n numbers values) (staysIn n marks numbers values) refl refl (T .is) (T .valuesAre) (T .modesAre)
       where
-        go : (h w : Bool) → (modesIn m marks modes && valuesIn n numbers values) ≡ h → staysIn numbers (outcomeAt n marks numbers values) ≡ w
+        go : (h w : Bool) → (modesIn m marks modes && valuesIn n numbers values) ≡ h → staysIn n marks numbers values ≡ w
             → r ≡ (h && w) → values′ ≡ cond (h && w) (valuesAfter n marks numbers values) values → modes′ ≡ cond (h && w) (modesAfter m marks modes) modes → Tried n m lower upper sizes values modes a r values′ modes′
         go true true e f p s t = passes p e f s t
         go true false e f p s t = refusal p s t (one-fails made 6 _ f)

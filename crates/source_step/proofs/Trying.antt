@@ -20,7 +20,7 @@ chosen-first b x y e t = e ∙ ap (λ (c : Bool). cond c x y) t
 pub chosen-second : {A : Type 0} {z : A} (b : Bool) (x y : A) → z ≡ cond b x y → b ≡ false → z ≡ y
 chosen-second b x y e t = e ∙ ap (λ (c : Bool). cond c x y) t
 
-pub length-setAll : (es : List (ℕ × ℕ)) (l : List ℕ) → length (setAll es l) ≡ length l
+pub length-setAll : {A : Type 0} (es : List (ℕ × A)) (l : List A) → length (setAll es l) ≡ length l
 length-setAll [] l = refl
 length-setAll (e ∷ es) l = length-setAll es _ ∙ length-set l (e .0) (e .1)
 

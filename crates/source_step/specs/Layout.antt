@@ -1,17 +1,22 @@
 -- Where the numbers of an action's two rows stand. The names are those of the code.
 --     marks     of mode i: its least value at i, its most at TOP + i, 1 at KEEP + i where it stays and 0 where it is set, at PUT + i
---               what it is set to (0 where it stays); of the effect: its kind, its target, its operand, the count of its terms, their variables
---     numbers   of variable i: its least value at i, its most at MOST + i; of the effect: its constant, the weights of its terms (0 where
---               there is none), the bounds of its target
+--               what it is set to (0 where it stays); at MANY how many effects it has; of effect e, each BLOCK further on than of the one
+--               before: its kind, its target, its operand, the count of its terms, their variables
+--     numbers   of variable i: its least value at i, its most at MOST + i; of effect e, each BLOCK further on: its constant, the weights of its
+--               terms (0 where there is none), the bounds of its target
 -- Assumes nothing.
 use Prim.Native.Nat.{ℕ}
 
 -- ---- how long the two rows are
 abbrev pub MARKS : ℕ
-MARKS = 24
+MARKS = 41
 
 abbrev pub NUMBERS : ℕ
-NUMBERS = 24
+NUMBERS = 40
+
+-- how far the numbers of an effect stand behind those of the effect before, in either row
+abbrev pub BLOCK : ℕ
+BLOCK = 8
 
 -- ---- in the marks
 abbrev pub TOP : ℕ
@@ -23,20 +28,23 @@ KEEP = 8
 abbrev pub PUT : ℕ
 PUT = 12
 
+abbrev pub MANY : ℕ
+MANY = 16
+
 abbrev pub KIND : ℕ
-KIND = 16
+KIND = 17
 
 abbrev pub TARGET : ℕ
-TARGET = 17
+TARGET = 18
 
 abbrev pub OPERAND : ℕ
-OPERAND = 18
+OPERAND = 19
 
 abbrev pub COUNT : ℕ
-COUNT = 19
+COUNT = 20
 
 abbrev pub TERM : ℕ
-TERM = 20
+TERM = 21
 
 -- ---- in the numbers
 abbrev pub MOST : ℕ
@@ -55,14 +63,11 @@ abbrev pub UPPER : ℕ
 UPPER = 22
 
 -- ---- the kinds of effect; any number past these is a residue
-abbrev pub NONE : ℕ
-NONE = 0
-
 abbrev pub ADD : ℕ
-ADD = 1
+ADD = 0
 
 abbrev pub LINEAR : ℕ
-LINEAR = 2
+LINEAR = 1
 
 abbrev pub QUOTIENT : ℕ
-QUOTIENT = 3
+QUOTIENT = 2

@@ -8,7 +8,7 @@ use mathlib.Core.List.{List, [], map}
 use lib.ListN.{length, getD, take, getElem?}
 use lib.IntN.{ℤ}
 use Rattle.lists.specs.Answer.{given}
-use Rattle.model.specs.Tasks.{SourceTask, SourceVariable, SourceAction, noEffect}
+use Rattle.model.specs.Tasks.{SourceTask, SourceVariable, SourceAction}
 use Rattle.model.specs.TaskOk.{SourceTaskOk}
 use Rattle.model.specs.Steps.{integerAt, sizesOf, soundSource}
 use Rattle.model.specs.Decoding.{readSource}
@@ -31,7 +31,7 @@ pub record RowAt (acts : List SourceAction) (n m : ℕ) (lower upper : List ℤ)
 
 -- the goal as an action without effects
 abbrev pub goalAction : SourceTask → SourceAction
-goalAction t = record { modeConditions = t .goalModes; conditions = t .goalConditions; modeEffects = []; effect = noEffect }
+goalAction t = record { modeConditions = t .goalModes; conditions = t .goalConditions; modeEffects = []; effects = [] }
 
 -- the arrays and the rows are those of a task that keeps to the rules on source files
 pub record Ready (t : SourceTask) (count : ℕ) (marks : List (List ℕ)) (numbers : List (List ℤ)) (n : ℕ) (lower upper : List ℤ) (m : ℕ)

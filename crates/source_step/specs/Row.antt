@@ -2,9 +2,8 @@
 -- what a step by them does, in every state. Where each number stands is said in Layout.
 -- Assumes nothing.
 use mathlib.Core.Path.{_≡_}
-use Prim.Native.Nat.{ℕ, min, _+_, _*_, _≤_, _<_}
+use Prim.Native.Nat.{ℕ, zero, suc, min, _+_, _*_, _≤_, _<_}
 use mathlib.Core.Bool.{Bool, true, cond, _&&_}
-use mathlib.Core.Option.{Option, some}
 use mathlib.Core.List.{List, _++_}
 use lib.Dec.{eqb, leb}
 use lib.ListN.{length, take, drop}
@@ -12,13 +11,13 @@ use lib.IntN.{ℤ, pos, natAbs}
 use Rattle.integers.specs.Relation.{between}
 use Rattle.lists.specs.Each.{tabulate}
 use Rattle.lists.specs.Loops.{every}
-use Rattle.model.specs.Tasks.{Effect, noEffect, addEffect, linearEffect, quotientEffect, residueEffect, SourceAction}
-use Rattle.model.specs.Steps.{integerAt, naturalAt, modesHold, conditionsHold, setAll, result, withinBounds}
-use Rattle.source_step.specs.Parts.{valuesBetween, modesBelow, effectFits}
-use Rattle.source_step.specs.Sizes.{VARIABLES, MODES}
+use Rattle.model.specs.Tasks.{Effect, addEffect, linearEffect, quotientEffect, residueEffect, SourceAction}
+use Rattle.model.specs.Steps.{integerAt, naturalAt, modesHold, conditionsHold, setAll, result, results}
+use Rattle.source_step.specs.Parts.{valuesBetween, modesBelow, effectsFit}
+use Rattle.source_step.specs.Sizes.{VARIABLES, MODES, EFFECTS}
 use Rattle.source_step.specs.Step.{settled}
-use Rattle.source_step.specs.Layout.{TOP, KEEP, PUT, KIND, TARGET, OPERAND, COUNT, TERM}
-use Rattle.source_step.specs.Layout.{MOST, CONSTANT, WEIGHT, LOWER, UPPER, NONE, ADD, LINEAR, QUOTIENT}
+use Rattle.source_step.specs.Layout.{BLOCK, TOP, KEEP, PUT, MANY, KIND, TARGET, OPERAND, COUNT, TERM}
+use Rattle.source_step.specs.Layout.{MOST, CONSTANT, WEIGHT, LOWER, UPPER, ADD, LINEAR, QUOTIENT}
 
 -- ---- what the rows ask of a state with n variables and m modes
 abbrev pub valuesIn : ℕ → List ℤ → List ℤ → Bool
@@ -31,46 +30,75 @@ modesIn m marks modes = every (λ b. b) (tabulate m (λ i. leb (naturalAt marks 
 abbrev pub modesAfter : ℕ → List ℕ → List ℕ → List ℕ
 modesAfter m marks modes = tabulate m (λ i. naturalAt modes i * naturalAt marks (KEEP + i) + naturalAt marks (PUT + i)) ++ drop m modes
 
--- ---- the effect
-abbrev pub kindAt : List ℕ → ℕ
-kindAt marks = naturalAt marks KIND
+-- ---- the effects: how many, and effect e of them
+abbrev pub effectCountAt : List ℕ → ℕ
+effectCountAt marks = min EFFECTS (naturalAt marks MANY)
 
-abbrev pub targetAt : List ℕ → ℕ
-targetAt marks = naturalAt marks TARGET
+abbrev pub kindAt : List ℕ → ℕ → ℕ
+kindAt marks e = naturalAt marks (KIND + BLOCK * e)
 
-abbrev pub operandAt : List ℕ → ℕ
-operandAt marks = naturalAt marks OPERAND
+abbrev pub targetAt : List ℕ → ℕ → ℕ
+targetAt marks e = naturalAt marks (TARGET + BLOCK * e)
 
-abbrev pub termCountAt : List ℕ → ℕ
-termCountAt marks = min 4 (naturalAt marks COUNT)
+abbrev pub operandAt : List ℕ → ℕ → ℕ
+operandAt marks e = naturalAt marks (OPERAND + BLOCK * e)
 
-abbrev pub constantAt : List ℤ → ℤ
-constantAt numbers = integerAt numbers CONSTANT
+abbrev pub termCountAt : List ℕ → ℕ → ℕ
+termCountAt marks e = min 4 (naturalAt marks (COUNT + BLOCK * e))
 
-abbrev pub termsAt : List ℕ → List ℤ → List (ℕ × ℤ)
-termsAt marks numbers = tabulate (termCountAt marks) (λ i. (naturalAt marks (TERM + i), integerAt numbers (WEIGHT + i)))
+abbrev pub constantAt : List ℤ → ℕ → ℤ
+constantAt numbers e = integerAt numbers (CONSTANT + BLOCK * e)
+
+abbrev pub variableAt : List ℕ → ℕ → ℕ → ℕ
+variableAt marks e i = naturalAt marks (TERM + BLOCK * e + i)
+
+abbrev pub weightAt : List ℤ → ℕ → ℕ → ℤ
+weightAt numbers e i = integerAt numbers (WEIGHT + BLOCK * e + i)
+
+abbrev pub termsAt : List ℕ → List ℤ → ℕ → List (ℕ × ℤ)
+termsAt marks numbers e = tabulate (termCountAt marks e) (λ i. (variableAt marks e i, weightAt numbers e i))
 
 unfoldable pub effectOfKind : ℕ → ℕ → ℕ → ℤ → List (ℕ × ℤ) → Effect
 effectOfKind kind target operand c terms =
-    cond (eqb kind NONE) noEffect
-    (cond (eqb kind ADD) (addEffect target c)
+    cond (eqb kind ADD) (addEffect target c)
     (cond (eqb kind LINEAR) (linearEffect target c terms)
-    (cond (eqb kind QUOTIENT) (quotientEffect target operand c) (residueEffect target operand c))))
+    (cond (eqb kind QUOTIENT) (quotientEffect target operand c) (residueEffect target operand c)))
 
-abbrev pub effectAt : List ℕ → List ℤ → Effect
-effectAt marks numbers = effectOfKind (kindAt marks) (targetAt marks) (operandAt marks) (constantAt numbers) (termsAt marks numbers)
+abbrev pub effectAt : List ℕ → List ℤ → ℕ → Effect
+effectAt marks numbers e = effectOfKind (kindAt marks e) (targetAt marks e) (operandAt marks e) (constantAt numbers e) (termsAt marks numbers e)
 
--- what the effect gives its target
-abbrev pub outcomeAt : ℕ → List ℕ → List ℤ → List ℤ → Option (ℕ × ℤ)
-outcomeAt n marks numbers values = result (effectAt marks numbers) (integerAt (take n values))
+abbrev pub effectsAt : List ℕ → List ℤ → List Effect
+effectsAt marks numbers = tabulate (effectCountAt marks) (effectAt marks numbers)
 
--- what it gives, if it gives anything, is this number
-abbrev pub ResultIs : ℕ → List ℕ → List ℤ → List ℤ → ℤ → Type 0
-ResultIs n marks numbers values z = 1 ≤ kindAt marks → outcomeAt n marks numbers values ≡ some (targetAt marks, z)
+-- what effect e gives its target, and what all give theirs, over the values before
+abbrev pub resultAt : ℕ → List ℕ → List ℤ → List ℤ → ℕ → ℤ
+resultAt n marks numbers values e = result (effectAt marks numbers e) (integerAt (take n values))
 
--- whether that lies within the bounds of the row
-abbrev pub staysIn : List ℤ → Option (ℕ × ℤ) → Bool
-staysIn numbers o = withinBounds (λ i. integerAt numbers LOWER) (λ i. integerAt numbers UPPER) o
+abbrev pub outcomesAt : ℕ → List ℕ → List ℤ → List ℤ → List (ℕ × ℤ)
+outcomesAt n marks numbers values = results (effectsAt marks numbers) (integerAt (take n values))
+
+-- numbers, each with the target of its effect; they are what the effects give
+abbrev pub pairsOf : List ℕ → List ℤ → List (ℕ × ℤ)
+pairsOf marks zs = tabulate (effectCountAt marks) (λ e. (targetAt marks e, integerAt zs e))
+
+abbrev pub ResultsAre : ℕ → List ℕ → List ℤ → List ℤ → List ℤ → Type 0
+ResultsAre n marks numbers values zs = (e : ℕ) → e < effectCountAt marks → integerAt zs e ≡ resultAt n marks numbers values e
+
+-- whether what effect e gives lies within the bounds of the row; how many effects stand before the first that leaves them, all where none does
+abbrev pub staysAt : ℕ → List ℕ → List ℤ → List ℤ → ℕ → Bool
+staysAt n marks numbers values e =
+    between (integerAt numbers (LOWER + BLOCK * e)) (integerAt numbers (UPPER + BLOCK * e)) (resultAt n marks numbers values e)
+
+abbrev pub leading : (ℕ → Bool) → ℕ → ℕ
+leading test zero = zero
+leading test (suc k) = cond (test zero) (suc (leading (λ e. test (suc e)) k)) zero
+
+abbrev pub firstOutside : ℕ → List ℕ → List ℤ → List ℤ → ℕ
+firstOutside n marks numbers values = leading (staysAt n marks numbers values) (effectCountAt marks)
+
+-- whether all do
+abbrev pub staysIn : ℕ → List ℕ → List ℤ → List ℤ → Bool
+staysIn n marks numbers values = every (λ b. b) (tabulate (effectCountAt marks) (staysAt n marks numbers values))
 
 -- ---- a mode stays as it is or is set, and remains a number of 16 bits
 abbrev pub KeepOrSet : List ℕ → Type 0
@@ -80,9 +108,10 @@ KeepOrSet marks = (i : ℕ) → i < MODES → naturalAt marks (KEEP + i) * 65535
 pub record Usable (n : ℕ) (marks : List ℕ) (numbers : List ℤ) : Type 0 where
   pub near : (x : List ℤ) → valuesIn n numbers x ≡ true → (i : ℕ) → natAbs (integerAt (take n x) i) ≤ 10000
   pub keeps : KeepOrSet marks
-  pub factors : (i : ℕ) → i ≤ 4 → natAbs (integerAt numbers (CONSTANT + i)) ≤ 10000
-  pub divides : 3 ≤ kindAt marks → 1 ≤ natAbs (constantAt numbers)
-  pub unweighted : (i : ℕ) → i < 4 → termCountAt marks ≤ i → integerAt numbers (WEIGHT + i) ≡ pos 0
+  pub constants : (e : ℕ) → e < EFFECTS → natAbs (constantAt numbers e) ≤ 10000
+  pub weights : (e i : ℕ) → e < EFFECTS → i < 4 → natAbs (weightAt numbers e i) ≤ 10000
+  pub divides : (e : ℕ) → e < EFFECTS → QUOTIENT ≤ kindAt marks e → 1 ≤ natAbs (constantAt numbers e)
+  pub unweighted : (e i : ℕ) → e < EFFECTS → i < 4 → termCountAt marks e ≤ i → weightAt numbers e i ≡ pos 0
 
 -- n values with which they do not
 pub record Reads (n : ℕ) (values : List ℤ) (marks : List ℕ) (numbers : List ℤ) : Type 0 where
@@ -97,11 +126,11 @@ pub record RowOf (n m : ℕ) (lower upper : List ℤ) (sizes : List ℕ) (marks 
   pub modes : (x : List ℕ) → modesIn m marks x ≡ (modesBelow m sizes x && modesHold (a .modeConditions) (naturalAt (take m x)))
   pub sets : (x : List ℕ) → m ≤ length x → modesAfter m marks x ≡ setAll (a .modeEffects) (take m x) ++ drop m x
   pub setsBelow : (x : List ℕ) → m ≤ length x → modesBelow m sizes x ≡ true → modesBelow m sizes (modesAfter m marks x) ≡ true
-  pub effect : effectAt marks numbers ≡ a .effect
-  pub fits : (x : List ℤ) → valuesBetween n lower upper x ≡ true → effectFits (a .effect) (integerAt (take n x)) ≡ true
-  pub targetDeclared : 1 ≤ kindAt marks → targetAt marks < n
-  pub lowerAt : 1 ≤ kindAt marks → integerAt numbers LOWER ≡ integerAt (take n lower) (targetAt marks)
-  pub upperAt : 1 ≤ kindAt marks → integerAt numbers UPPER ≡ integerAt (take n upper) (targetAt marks)
+  pub effects : effectsAt marks numbers ≡ a .effects
+  pub fits : (x : List ℤ) → valuesBetween n lower upper x ≡ true → effectsFit (a .effects) (integerAt (take n x)) ≡ true
+  pub targetDeclared : (e : ℕ) → e < effectCountAt marks → targetAt marks e < n
+  pub lowerAt : (e : ℕ) → e < effectCountAt marks → integerAt numbers (LOWER + BLOCK * e) ≡ integerAt (take n lower) (targetAt marks e)
+  pub upperAt : (e : ℕ) → e < effectCountAt marks → integerAt numbers (UPPER + BLOCK * e) ≡ integerAt (take n upper) (targetAt marks e)
 
 -- ---- a step by rows, in every state: the test of the rows
 abbrev pub held : ℕ → ℕ → List ℕ → List ℤ → List ℤ → List ℕ → Bool
@@ -109,10 +138,10 @@ held n m marks numbers values modes = modesIn m marks modes && valuesIn n number
 
 -- whether they are taken, and the values after
 abbrev pub takes : ℕ → ℕ → List ℕ → List ℤ → List ℤ → List ℕ → Bool
-takes n m marks numbers values modes = held n m marks numbers values modes && staysIn numbers (outcomeAt n marks numbers values)
+takes n m marks numbers values modes = held n m marks numbers values modes && staysIn n marks numbers values
 
 abbrev pub valuesAfter : ℕ → List ℕ → List ℤ → List ℤ → List ℤ
-valuesAfter n marks numbers values = settled n (outcomeAt n marks numbers values) values
+valuesAfter n marks numbers values = settled n (outcomesAt n marks numbers values) values
 
 -- the answer r, and the arrays after, where the rows are taken if a test holds
 pub record SteppedIf (test : Bool) (n m : ℕ) (marks : List ℕ) (numbers : List ℤ) (values : List ℤ) (modes : List ℕ) (r : Bool) (values′ : List ℤ)
@@ -126,4 +155,4 @@ abbrev pub Stepped : ℕ → ℕ → List ℕ → List ℤ → List ℤ → List
 Stepped n m marks numbers values modes = SteppedIf (takes n m marks numbers values modes) n m marks numbers values modes
 
 abbrev pub Finished : ℕ → ℕ → List ℕ → List ℤ → List ℤ → List ℕ → Bool → List ℤ → List ℕ → Type 0
-Finished n m marks numbers values modes = SteppedIf (staysIn numbers (outcomeAt n marks numbers values)) n m marks numbers values modes
+Finished n m marks numbers values modes = SteppedIf (staysIn n marks numbers values) n m marks numbers values modes

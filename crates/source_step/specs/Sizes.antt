@@ -1,4 +1,5 @@
--- How many variables and modes the arrays of a source state have room for, and how many actions a source task has at most. The names are those of the code.
+-- How many variables and modes the arrays of a source state have room for, how many numeric effects an action has at most, and how many actions a
+-- source task. The names are those of the code.
 -- Assumes nothing.
 use Prim.Native.Nat.{ℕ}
 
@@ -10,3 +11,6 @@ MODES = 4
 
 abbrev pub ACTIONS : ℕ
 ACTIONS = 32
+
+abbrev pub EFFECTS : ℕ
+EFFECTS = 3

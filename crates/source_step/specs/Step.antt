@@ -4,7 +4,7 @@ use mathlib.Core.Path.{_≡_}
 use Prim.Native.Nat.{ℕ, _≤_}
 use mathlib.Core.Bool.{Bool, true, false, cond}
 use mathlib.Core.Option.{Option, none, some}
-use mathlib.Core.List.{List}
+use mathlib.Core.List.{List, [], _∷_}
 use lib.Dec.{ltb}
 use lib.ListN.{length, take, drop, set}
 use lib.IntN.{ℤ}
@@ -12,17 +12,17 @@ use Rattle.model.specs.Tasks.{SourceAction, State}
 use Rattle.model.specs.Systems.{bind, provided}
 use Rattle.model.specs.Steps.{integerAt, trySource, soundSource}
 use Rattle.model.specs.Judging.{declaredPart, withRest}
-use Rattle.source_step.specs.Parts.{effectFits}
+use Rattle.source_step.specs.Parts.{effectsFit}
 
 -- the whole arrays
 abbrev pub state : List ℤ → List ℕ → State
 state values modes = record { values = values; modes = modes }
 
--- A step of a task with these bounds and sizes, by its action: as the model's step by number. An action whose effect could leave 64 bits, which
+-- A step of a task with these bounds and sizes, by its action: as the model's step by number. An action whose effects could leave 64 bits, which
 -- none of an accepted file does in a state within its bounds, doesn't apply
 unfoldable pub stepOf : List ℤ → List ℤ → List ℕ → State → SourceAction → Option State
 stepOf lower upper sizes x a =
-    cond (effectFits (a .effect) (integerAt (x .values)))
+    cond (effectsFit (a .effects) (integerAt (x .values)))
     (bind (trySource (integerAt lower) (integerAt upper) x a)
     (λ y. cond (soundSource (integerAt lower) (integerAt upper) sizes x)
     (cond (soundSource (integerAt lower) (integerAt upper) sizes y) (some y) none) none))
@@ -41,10 +41,10 @@ steppedIn n m lower upper sizes x a = handedBack n m x (stepOf (take n lower) (t
 abbrev pub setAt : {A : Type 0} → ℕ → List A → ℕ → A → List A
 setAt n l i x = cond (ltb i n) (set l i x) l
 
--- likewise what an effect gives its target
-abbrev pub settled : ℕ → Option (ℕ × ℤ) → List ℤ → List ℤ
-settled n none l = l
-settled n (some p) l = setAt n l (p .0) (p .1)
+-- likewise what effects give their targets, one after the other
+abbrev pub settled : ℕ → List (ℕ × ℤ) → List ℤ → List ℤ
+settled n [] l = l
+settled n (p ∷ ps) l = settled n ps (setAt n l (p .0) (p .1))
 
 -- n variables and m modes are declared, and there is an element for each
 pub record Shaped (n m : ℕ) (values : List ℤ) (modes sizes : List ℕ) : Type 0 where

@@ -11,11 +11,11 @@ use lib.IntN.{ℤ}
 use Rattle.model.specs.Tasks.{Effect, SourceTask, State}
 use Rattle.model.specs.Systems.{provided}
 use Rattle.model.specs.Steps.{integerAt, soundSource}
-use Rattle.model.specs.Expansion.{priceOfEffect}
+use Rattle.model.specs.Expansion.{priceOfEffects}
 use Rattle.model.specs.Judging.{declaredPart}
 use Rattle.source_step.specs.Sizes.{VARIABLES, MODES, ACTIONS}
 use Rattle.source_step.specs.Step.{state, Shaped}
-use Rattle.source_step.specs.Row.{effectAt, held, takes, valuesAfter, modesAfter, Usable}
+use Rattle.source_step.specs.Row.{effectsAt, held, takes, valuesAfter, modesAfter, Usable}
 use Rattle.source_step.specs.Ready.{marksOf, numbersOf, Ready}
 
 -- rows for the actions of a task and for its goal
@@ -56,15 +56,15 @@ module _ (T : Table) where
   abbrev pub goalBy : State → Bool
   goalBy x = heldBy x (T .count)
 
-  -- its effect, and its price over the values before
-  abbrev pub effectBy : ℕ → Effect
-  effectBy k = effectAt (marksOf (T .marks) k) (numbersOf (T .numbers) k)
+  -- its effects, and its price over the values before
+  abbrev pub effectsBy : ℕ → List Effect
+  effectsBy k = effectsAt (marksOf (T .marks) k) (numbersOf (T .numbers) k)
 
   abbrev pub valuesBy : State → ℕ → ℤ
   valuesBy x = integerAt (take (T .variables) (x .values))
 
   abbrev pub priceBy : State → ℕ → ℕ
-  priceBy x k = priceOfEffect (effectBy k) (valuesBy x)
+  priceBy x k = priceOfEffects (effectsBy k) (valuesBy x)
 
 -- ---- by the rows of a table a step can be taken from any state
 pub record Usables (T : Table) : Type 0 where

@@ -3,18 +3,20 @@
 // A row says of every variable and of every mode between which values the action applies, so that a step goes through the declared
 // variables and modes once, whatever conditions the action was written with. Rows are lent; what they mean is said in specs/Row.antt.
 // It never reads a file, and never finds an action by its number.
+use file_actions::EFFECTS;
 ghost use mathlib.Core.Path.{_≡_};
-ghost use mathlib.Core.Bool.{cond, _&&_};
-ghost use Prim.Native.Nat.{min, _+_, _*_, _≤_, _<_};
+ghost use mathlib.Core.Bool.{_&&_};
+ghost use mathlib.Core.List.{List};
+ghost use Prim.Native.Nat.{ℕ, min, _+_, _*_, _≤_, _<_};
 ghost use lib.Dec.{leb};
 ghost use lib.ListN.{length, take};
-ghost use lib.IntN.{natAbs, _+ℤ_, _*ℤ_};
+ghost use lib.IntN.{ℤ, natAbs, _+ℤ_, _*ℤ_};
 ghost use Rattle.integers.specs.Parts.{Within};
-ghost use Rattle.model.specs.Steps.{integerAt, naturalAt, linear};
-ghost use Rattle.source_step.specs.Step.{setAt};
-ghost use Rattle.source_step.specs.Row.{valuesIn, modesIn, modesAfter, KeepOrSet, constantAt, termsAt, outcomeAt};
-ghost use Rattle.source_step.specs.Row.{ResultIs, staysIn, Reads, Usable, held, valuesAfter, Stepped, Finished};
-ghost use Rattle.source_step.specs.Sizes.{VARIABLES, MODES};
+ghost use Rattle.model.specs.Steps.{integerAt, linear};
+ghost use Rattle.source_step.specs.Step.{setAt, settled};
+ghost use Rattle.source_step.specs.Row.{valuesIn, modesIn, modesAfter, KeepOrSet, effectCountAt, constantAt, variableAt, weightAt, termsAt};
+ghost use Rattle.source_step.specs.Row.{resultAt, ResultsAre, firstOutside, pairsOf, Reads, Usable, held, Stepped, Finished};
+ghost use Rattle.source_step.specs.Sizes.{VARIABLES, MODES, EFFECTS};
 
 // The most variables and modes that a source task declares.
 pub const VARIABLES: usize = 8;
@@ -22,9 +24,12 @@ pub const VARIABLES: usize = 8;
 pub const MODES: usize = 4;
 
 // How long the rows of an action are.
-pub const MARKS: usize = 24;
+pub const MARKS: usize = 41;
 
-pub const NUMBERS: usize = 24;
+pub const NUMBERS: usize = 40;
+
+// How far the numbers of an effect stand behind those of the effect before, in either row.
+pub const BLOCK: usize = 8;
 
 // Where in the marks, of mode i: the least value is mark i; then the most, whether it is kept, and what it is set to.
 pub const TOP: usize = 4;
@@ -33,21 +38,24 @@ pub const KEEP: usize = 8;
 
 pub const PUT: usize = 12;
 
-// Of the effect: its kind, target, operand and count of terms, and the variable of term i.
-pub const KIND: usize = 16;
+// How many effects the action has.
+pub const MANY: usize = 16;
 
-pub const TARGET: usize = 17;
+// Of the first effect: its kind, target, operand and count of terms, and the variable of term i.
+pub const KIND: usize = 17;
 
-pub const OPERAND: usize = 18;
+pub const TARGET: usize = 18;
 
-pub const COUNT: usize = 19;
+pub const OPERAND: usize = 19;
 
-pub const TERM: usize = 20;
+pub const COUNT: usize = 20;
+
+pub const TERM: usize = 21;
 
 // Where in the numbers, of variable i: the least value is number i; then the most.
 pub const MOST: usize = 8;
 
-// Of the effect: its constant, the weight of term i, and the bounds of its target.
+// Of the first effect: its constant, the weight of term i, and the bounds of its target.
 pub const CONSTANT: usize = 16;
 
 pub const WEIGHT: usize = 17;
@@ -57,15 +65,13 @@ pub const LOWER: usize = 21;
 pub const UPPER: usize = 22;
 
 // The kinds of effect; any number past these is a residue.
-pub const NONE: u16 = 0;
+pub const ADD: u16 = 0;
 
-pub const ADD: u16 = 1;
+pub const LINEAR: u16 = 1;
 
-pub const LINEAR: u16 = 2;
+pub const QUOTIENT: u16 = 2;
 
-pub const QUOTIENT: u16 = 3;
-
-pub const RESIDUE: u16 = 4;
+pub const RESIDUE: u16 = 3;
 
 pub fn lesser(a: usize, b: usize) -> usize
     ensures { λ r. ⌜ r ≡ min a b ⌝ }
@@ -197,62 +203,123 @@ fn plus_product(z: i64, value: i64, weight: i64) -> i64
     z + value * weight
 }
 
-// A sum with one more term. A term that is not there weighs 0.
+// How many effects an action has.
+pub fn effect_count(marks: &[u16; MARKS]) -> usize
+    ensures { λ r. ⌜ r ≡ effectCountAt (now (marks .entry)) ⌝ }
+{
+    lesser(EFFECTS, wide16(marks[MANY]))
+}
+
+// A sum with one more term of effect e. A term that is not there weighs 0.
 fn plus_term(
     z: i64,
     values: &[i64; VARIABLES],
     n: usize,
     marks: &[u16; MARKS],
     numbers: &[i64; NUMBERS],
+    e: usize,
     i: usize,
 ) -> i64
-    requires { ⌜ Reads n (now values) (now marks) (now numbers) × (i < 4) × Within 1000000000 z ⌝ }
-    ensures { λ r. ⌜ (r ≡ z +ℤ integerAt (take n (now (values .entry))) (naturalAt (now (marks .entry)) (20 + i)) *ℤ integerAt (now (numbers .entry))
-        (17 + i)) × (natAbs r ≤ natAbs z + 100000000) ⌝ }
+    requires { ⌜ Reads n (now values) (now marks) (now numbers) × (e < EFFECTS) × (i < 4) × Within 1000000000 z ⌝ }
+    ensures { λ r. ⌜ (r ≡ z +ℤ integerAt (take n (now (values .entry))) (variableAt (now (marks .entry)) e i) *ℤ weightAt (now (numbers .entry)) e i)
+        × (natAbs r ≤ natAbs z + 100000000) ⌝ }
 {
-    let value = value_of(values, n, marks[TERM + i]);
-    plus_product(z, value, numbers[WEIGHT + i])
+    let value = value_of(values, n, marks[TERM + BLOCK * e + i]);
+    plus_product(z, value, numbers[WEIGHT + BLOCK * e + i])
 }
 
-// What an L gives.
+// What effect e gives where it is an L.
 pub fn linear_value(
     values: &[i64; VARIABLES],
     n: usize,
     marks: &[u16; MARKS],
     numbers: &[i64; NUMBERS],
+    e: usize,
 ) -> i64
-    requires { ⌜ Reads n (now values) (now marks) (now numbers) ⌝ }
-    ensures { λ r. ⌜ (r ≡ linear (constantAt (now (numbers .entry))) (termsAt (now (marks .entry)) (now (numbers .entry)))
+    requires { ⌜ Reads n (now values) (now marks) (now numbers) × (e < EFFECTS) ⌝ }
+    ensures { λ r. ⌜ (r ≡ linear (constantAt (now (numbers .entry)) e) (termsAt (now (marks .entry)) (now (numbers .entry)) e)
         (integerAt (take n (now (values .entry))))) × Within 1000000000 r ⌝ }
 {
-    let a = plus_term(numbers[CONSTANT], values, n, marks, numbers, 0);
-    let b = plus_term(a, values, n, marks, numbers, 1);
-    let c = plus_term(b, values, n, marks, numbers, 2);
-    plus_term(c, values, n, marks, numbers, 3)
+    let a = plus_term(
+        numbers[CONSTANT + BLOCK * e],
+        values,
+        n,
+        marks,
+        numbers,
+        e,
+        0,
+    );
+    let b = plus_term(a, values, n, marks, numbers, e, 1);
+    let c = plus_term(b, values, n, marks, numbers, e, 2);
+    plus_term(c, values, n, marks, numbers, e, 3)
 }
 
-// What the effect of an action gives its target; any number where it has none.
+// What effect e gives its target.
 pub fn result_of(
     values: &[i64; VARIABLES],
     n: usize,
     marks: &[u16; MARKS],
     numbers: &[i64; NUMBERS],
+    e: usize,
 ) -> i64
-    requires { ⌜ Reads n (now values) (now marks) (now numbers) ⌝ }
-    ensures { λ r. ⌜ ResultIs n (now (marks .entry)) (now (numbers .entry)) (now (values .entry)) r ⌝ }
+    requires { ⌜ Reads n (now values) (now marks) (now numbers) × (e < EFFECTS) ⌝ }
+    ensures { λ r. ⌜ (r ≡ resultAt n (now (marks .entry)) (now (numbers .entry)) (now (values .entry)) e) × Within 1000000000 r ⌝ }
 {
-    let kind = marks[KIND];
-    if kind <= ADD {
-        return sum(value_of(values, n, marks[TARGET]), numbers[CONSTANT]);
+    let constant = numbers[CONSTANT + BLOCK * e];
+    let kind = marks[KIND + BLOCK * e];
+    if kind == ADD {
+        return sum(value_of(values, n, marks[TARGET + BLOCK * e]), constant);
     }
     if kind == LINEAR {
-        return linear_value(values, n, marks, numbers);
+        return linear_value(values, n, marks, numbers, e);
     }
-    let operand = value_of(values, n, marks[OPERAND]);
+    let operand = value_of(values, n, marks[OPERAND + BLOCK * e]);
     if kind == QUOTIENT {
-        return integers::quotient(operand, numbers[CONSTANT]);
+        return integers::quotient(operand, constant);
     }
-    integers::residue(operand, numbers[CONSTANT])
+    integers::residue(operand, constant)
+}
+
+// What each effect of an action gives its target, all from the values before.
+pub fn put_results(
+    results: &mut [i64; EFFECTS],
+    values: &[i64; VARIABLES],
+    n: usize,
+    marks: &[u16; MARKS],
+    numbers: &[i64; NUMBERS],
+)
+    requires { ⌜ (length (now results) ≡ EFFECTS) × Reads n (now values) (now marks) (now numbers) ⌝ }
+    ensures { λ _. ⌜ (length (now (results .exit)) ≡ EFFECTS)
+        × ResultsAre n (now (marks .entry)) (now (numbers .entry)) (now (values .entry)) (now (results .exit)) ⌝ }
+{
+    let count = effect_count(marks);
+    let mut e: usize = 0;
+    while e < count {
+        results[e] = result_of(values, n, marks, numbers, e);
+        e += 1;
+    }
+}
+
+// How many effects stand before the first whose result leaves the bounds of its target; all where none does.
+pub fn first_outside(
+    marks: &[u16; MARKS],
+    numbers: &[i64; NUMBERS],
+    results: &[i64; EFFECTS],
+) -> usize
+    ensures { λ r. ⌜ ((n : ℕ) (values : List ℤ) → ResultsAre n (now (marks .entry)) (now (numbers .entry)) values (now (results .entry))
+        → r ≡ firstOutside n (now (marks .entry)) (now (numbers .entry)) values) ⌝ }
+{
+    let count = effect_count(marks);
+    let mut e: usize = 0;
+    while e < count {
+        let least = numbers[LOWER + BLOCK * e];
+        let most = numbers[UPPER + BLOCK * e];
+        if !integers::is_between(least, results[e], most) {
+            return e;
+        }
+        e += 1;
+    }
+    count
 }
 
 // Sets a variable, of n; nothing where it is not declared.
@@ -267,31 +334,26 @@ fn set_value(values: &mut [i64; VARIABLES], n: usize, variable: u16, value: i64)
     }
 }
 
-// Gives the target of an action's effect what the effect gives, where that lies within the target's bounds. Whether it does.
-fn settle(
+// Gives each target, one after the other, what is given.
+fn store_results(
     values: &mut [i64; VARIABLES],
     n: usize,
     marks: &[u16; MARKS],
-    numbers: &[i64; NUMBERS],
-    result: i64,
-) -> bool
-    requires { ⌜ (n ≤ VARIABLES) × ResultIs n (now marks) (now numbers) (now values) result ⌝ }
-    ensures { λ r. ⌜ r ≡ staysIn (now (numbers .entry)) (outcomeAt n (now (marks .entry)) (now (numbers .entry)) (now (values .entry))) ⌝ }
-    ensures { λ r. ⌜ now (values .exit) ≡ cond (staysIn (now (numbers .entry)) (outcomeAt n (now (marks .entry)) (now (numbers .entry)) (now (values .entry))))
-        (valuesAfter n (now (marks .entry)) (now (numbers .entry)) (now (values .entry))) (now (values .entry)) ⌝ }
+    results: &[i64; EFFECTS],
+)
+    requires { ⌜ n ≤ VARIABLES ⌝ }
+    ensures { λ _. ⌜ now (values .exit) ≡ settled n (pairsOf (now (marks .entry)) (now (results .entry))) (now (values .entry)) ⌝ }
 {
-    if marks[KIND] == NONE {
-        return true;
+    let count = effect_count(marks);
+    let mut e: usize = 0;
+    while e < count {
+        set_value(values, n, marks[TARGET + BLOCK * e], results[e]);
+        e += 1;
     }
-    if !integers::is_between(numbers[LOWER], result, numbers[UPPER]) {
-        return false;
-    }
-    set_value(values, n, marks[TARGET], result);
-    true
 }
 
-// The rest of a step behind the test of its rows, from what the effect gives: where that lies within the target's bounds, the target has it
-// and the modes are set; else the state stays. Whether it does.
+// The rest of a step behind the test of its rows, from what the effects give: where each result lies within its target's bounds, the targets
+// have them and the modes are set; else the state stays. Whether they do.
 pub fn finish(
     values: &mut [i64; VARIABLES],
     modes: &mut [u16; MODES],
@@ -299,21 +361,23 @@ pub fn finish(
     m: usize,
     marks: &[u16; MARKS],
     numbers: &[i64; NUMBERS],
-    result: i64,
+    results: &[i64; EFFECTS],
 ) -> bool
     requires { ⌜ (n ≤ VARIABLES) × (m ≤ MODES) × (length (now modes) ≡ MODES) × KeepOrSet (now marks)
-        × ResultIs n (now marks) (now numbers) (now values) result ⌝ }
+        × ResultsAre n (now marks) (now numbers) (now values) (now results) ⌝ }
     ensures { λ r. ⌜ Finished n m (now (marks .entry)) (now (numbers .entry)) (now (values .entry)) (now (modes .entry)) r
         (now (values .exit)) (now (modes .exit)) ⌝ }
 {
-    if !settle(values, n, marks, numbers, result) {
+    if first_outside(marks, numbers, results) < effect_count(marks) {
         return false;
     }
+    store_results(values, n, marks, results);
     set_modes(modes, m, marks);
     true
 }
 
-// Takes the action of two rows in a lent state where it applies, and else leaves the state as it was. Whether it applies.
+// Takes the action of two rows in a lent state where it applies, and else leaves the state as it was. Whether it applies. The results are all
+// worked out from the values before, then tested, then stored.
 pub fn take(
     values: &mut [i64; VARIABLES],
     modes: &mut [u16; MODES],
@@ -329,6 +393,7 @@ pub fn take(
     if !holds(values, modes, n, m, marks, numbers) {
         return false;
     }
-    let result = result_of(values, n, marks, numbers);
-    finish(values, modes, n, m, marks, numbers, result)
+    let mut results = [0i64; EFFECTS];
+    put_results(&mut results, values, n, marks, numbers);
+    finish(values, modes, n, m, marks, numbers, &results)
 }

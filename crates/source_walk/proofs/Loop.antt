@@ -35,7 +35,7 @@ module _ (T : Table) (priced : Bool) (p : List ℕ) (x₀ : State) where
   pub record Going (values : List ℤ) (modes : List ℕ) (i price passing : ℕ) : Type 0 where
     pub same : walkFrom T priced 0 0 0 p x₀ ≡ walkFrom T priced i price passing (drop i p) (state values modes)
     pub bound : i ≤ length p
-    pub few : price ≤ i * 20_000_000_000
+    pub few : price ≤ i * 40_000_000_000
     pub long : length modes ≡ 4
 
 pub begins : (T : Table) (priced : Bool) (p : List ℕ) (values : List ℤ) (modes : List ℕ) → length modes ≡ 4 → Going T priced p (state values modes) values modes 0 0 0

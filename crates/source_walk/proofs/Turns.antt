@@ -7,7 +7,7 @@ use mathlib.Core.Bool.{Bool, true, false}
 use mathlib.Core.List.{List}
 use lib.IntN.{ℤ}
 use Rattle.lists.proofs.Loops.{and-left}
-use Rattle.source_step.specs.Row.{outcomeAt, staysIn, held, Stepped}
+use Rattle.source_step.specs.Row.{staysIn, held, Stepped}
 use Rattle.plan_strokes.specs.declared.Turn.{Turn}
 use Rattle.plan_strokes.specs.Made.{Turned}
 use Rattle.source_walk.specs.Walk.{TurnOf}
@@ -16,7 +16,7 @@ module _ {n m : ℕ} {marks : List ℕ} {numbers : List ℤ} {values : List ℤ}
   pub at-its-price : {r : Turn} → Turned n m marks numbers values modes r values′ modes′ → TurnOf true n m marks numbers values modes r values′ modes′
   at-its-price t = record {
     stepped = t .stepped;
-    price = λ e. t .price ∙ rw (and-left (held n m marks numbers values modes) (staysIn numbers (outcomeAt n marks numbers values)) (sym (t .stepped .is) ∙ e)) refl;
+    price = λ e. t .price ∙ rw (and-left (held n m marks numbers values modes) (staysIn n marks numbers values) (sym (t .stepped .is) ∙ e)) refl;
     few = t .few;
   }
 

@@ -9,10 +9,10 @@ use lib.ListN.{length, take}
 use lib.IntN.{ℤ}
 use Rattle.model.specs.Tasks.{State}
 use Rattle.model.specs.Steps.{integerAt}
-use Rattle.model.specs.Expansion.{priceOfEffect}
+use Rattle.model.specs.Expansion.{priceOfEffects}
 use Rattle.source_walk.specs.declared.Progress.{Progress}
 use Rattle.source_walk.specs.declared.Progress.the-variants.{Through, Stopped}
-use Rattle.source_step.specs.Row.{effectAt, Stepped}
+use Rattle.source_step.specs.Row.{effectsAt, Stepped}
 use Rattle.source_step.specs.Table.{Table, takesBy, afterBy, goalBy, priceBy}
 use Rattle.plan_strokes.specs.declared.Turn.{Turn}
 use Rattle.source_walk.specs.declared.Walked.{Walked}
@@ -61,8 +61,8 @@ stoppedAt number place price passing r = (x : State) → walkIs r x ≡ record {
 pub record TurnOf (priced : Bool) (n m : ℕ) (marks : List ℕ) (numbers : List ℤ) (values : List ℤ) (modes : List ℕ) (r : Turn) (values′ : List ℤ)
     (modes′ : List ℕ) : Type 0 where
   pub stepped : Stepped n m marks numbers values modes (r .applied) values′ modes′
-  pub price : r .applied ≡ true → r .price ≡ cond priced (priceOfEffect (effectAt marks numbers) (integerAt (take n values))) 0
-  pub few : r .price ≤ 20_000_000_000
+  pub price : r .applied ≡ true → r .price ≡ cond priced (priceOfEffects (effectsAt marks numbers) (integerAt (take n values))) 0
+  pub few : r .price ≤ 40_000_000_000
 
 -- ---- the plan judged: the verdict, what its steps cost, and the state at its end or where the refused step stood
 pub record Judging : Type 0 where

@@ -2,7 +2,7 @@
 use mathlib.Core.Path.{_∙_}
 use native.Mathlib.Omega.{arith}
 use denote.Ref.{now}
-use Rattle.file_actions.proofs.Gathering.{no-body, body-behind}
+use Rattle.file_actions.proofs.Walking.{no-body, body-behind}
 use borrow.Author.Needs.{needs}
 use Rattle.file_actions.proofs.body_start.Statement.{statement}
 use Rattle.file_actions.proofs.body_start.Tie as tie

@@ -1,49 +1,23 @@
--- `file_actions::with_effect` meets its contract, case by case of the effect that is there. Assumes nothing.
+-- `file_actions::with_effect` meets its contract. Assumes nothing.
 use borrow.Author.Needs.{needs}
+use borrow.Author.Tests.{lt-ltb, le-ltb}
 use Rattle.file_actions.proofs.with_effect.Statement.{statement}
 use Rattle.file_actions.proofs.with_effect.Tie as tie
 
-enum-told : tie.Need-enum-told
-enum-told c = search needs
+mul-t9 : tie.Need-mul-t9
+mul-t9 c = search needs
 
-enum-told-2 : tie.Need-enum-told-2
-enum-told-2 c = search needs
+element-set-from-more : tie.Need-element-set-from-more
+element-set-from-more c = search needs
 
-enum-told-3 : tie.Need-enum-told-3
-enum-told-3 c = search needs
-
-enum-told-4 : tie.Need-enum-told-4
-enum-told-4 c = search needs
-
-enum-told-5 : tie.Need-enum-told-5
-enum-told-5 c = search needs
+add-more : tie.Need-add-more
+add-more c = search needs
 
 returns : tie.Need-returns
-returns c = rw (c .before .enum-told .given .1)
+returns c = rw (lt-ltb _ _ (c .before .if1 .taken))
 
 returns-2 : tie.Need-returns-2
-returns-2 c = search needs
-
-returns-3 : tie.Need-returns-3
-returns-3 c = search needs
-
-returns-4 : tie.Need-returns-4
-returns-4 c = search needs
-
-returns-5 : tie.Need-returns-5
-returns-5 c = search needs
+returns-2 c = rw (le-ltb _ _ (c .if1 .left))
 
 pub with-effect-spec : {M : Type 1} → statement M
-with-effect-spec =
-    tie.close
-    (tie.spec
-    enum-told
-    enum-told-2
-    enum-told-3
-    enum-told-4
-    enum-told-5
-    returns
-    returns-2
-    returns-3
-    returns-4
-    returns-5)
+with-effect-spec = tie.close (tie.spec mul-t9 element-set-from-more add-more returns returns-2)

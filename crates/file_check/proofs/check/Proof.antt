@@ -15,29 +15,29 @@ use Rattle.file_check.proofs.check.Statement.{statement}
 use Rattle.file_check.proofs.check.Tie as tie
 
 abbrev Inv-loop : tie.InvT-loop
-Inv-loop l file p₀ sizes₀ modes-set₀ variables-seen₀ at₀ p sizes modes-set variables-seen at = Runs (limitsOf l) file (stateOf p sizes modes-set variables-seen) at
+Inv-loop l file p₀ sizes₀ modes-set₀ targets-seen₀ terms-seen₀ at₀ p sizes modes-set targets-seen terms-seen at = Runs (limitsOf l) file (stateOf p sizes modes-set targets-seen terms-seen) at
 
 abbrev μ-loop : tie.MeasureT-loop
-μ-loop l file p₀ sizes₀ modes-set₀ variables-seen₀ at₀ p sizes modes-set variables-seen at = length file - at
+μ-loop l file p₀ sizes₀ modes-set₀ targets-seen₀ terms-seen₀ at₀ p sizes modes-set targets-seen terms-seen at = length file - at
 
 -- a turn of the loop, once its command is taken
 abbrev After : Type 0
 After = tie.After-take Inv-loop μ-loop
 
 abbrev limits : After → Limits
-limits t = limitsOf (t .before .before .before .before .before .before .before .before .before .args .l)
+limits t = limitsOf (t .before .before .before .before .before .before .before .before .before .before .args .l)
 
 abbrev file : After → List ℕ
-file t = now (t .before .before .before .before .before .before .before .before .before .args .file)
+file t = now (t .before .before .before .before .before .before .before .before .before .before .args .file)
 
 abbrev at : After → ℕ
-at t = t .before .before .before .before .before .before .loop .at
+at t = t .before .before .before .before .before .before .before .loop .at
 
 abbrev state : After → ReadingState
-state t = let lp = t .before .before .before .before .before .before .loop in stateOf (lp .p) (lp .sizes) (lp .modes-set) (lp .variables-seen)
+state t = let lp = t .before .before .before .before .before .before .before .loop in stateOf (lp .p) (lp .sizes) (lp .modes-set) (lp .targets-seen) (lp .terms-seen)
 
 abbrev taken : After → Taken
-taken t = let last = t .take .last .1 .1 .1 in takenOf (t .take .result) (last .0) (last .1 .0) (last .1 .1 .0)
+taken t = let last = t .take .last .1 .1 .1 in takenOf (t .take .result) (last .0) (last .1 .0) (last .1 .1 .0) (last .1 .1 .1 .0)
 
 begun-requires : tie.Need-begun-requires Inv-loop μ-loop
 begun-requires c κs = search needs
@@ -69,7 +69,7 @@ returns : tie.Need-returns Inv-loop μ-loop
 returns c =
     let t = c .before .before .before .before .before in
     c .refused-at .ensures
-    ∙ runs-stopped (limits t) (file t) (state t) (at t) (t .before .before .before .before .before .loop-test .taken) (tail (file t) (at t)) (taken t) (t .take .ensures) _ (ap progressOf (c .before .before .progress .given .1)) (t .before .before .before .before .before .before .loop .inv)
+    ∙ runs-stopped (limits t) (file t) (state t) (at t) (t .before .before .before .before .before .before .loop-test .taken) (tail (file t) (at t)) (taken t) (t .take .ensures) _ (ap progressOf (c .before .before .progress .given .1)) (t .before .before .before .before .before .before .before .loop .inv)
 
 enum-told : tie.Need-enum-told Inv-loop μ-loop
 enum-told c = search needs
@@ -81,8 +81,8 @@ returns-2 : tie.Need-returns-2 Inv-loop μ-loop
 returns-2 c =
     let t = c .before .before .before .before in
     let last = t .take .last .1 .1 .1 in
-    c .ended-at .ensures (last .0) (last .1 .0) (last .1 .1 .0)
-    ∙ runs-ended (limits t) (file t) (state t) (at t) (t .before .before .before .before .before .loop-test .taken) (tail (file t) (at t)) (taken t) (t .take .ensures) (ap progressOf (c .before .enum-told .given .1)) (t .before .before .before .before .before .before .loop .inv)
+    c .ended-at .ensures (last .0) (last .1 .0) (last .1 .1 .0) (last .1 .1 .1 .0)
+    ∙ runs-ended (limits t) (file t) (state t) (at t) (t .before .before .before .before .before .before .loop-test .taken) (tail (file t) (at t)) (taken t) (t .take .ensures) (ap progressOf (c .before .enum-told .given .1)) (t .before .before .before .before .before .before .before .loop .inv)
 
 enum-told-2 : tie.Need-enum-told-2 Inv-loop μ-loop
 enum-told-2 c = search needs
@@ -102,7 +102,7 @@ loop-less c = search needs
 loop-again : tie.Need-loop-again Inv-loop μ-loop
 loop-again c =
     let t = c .before .before .before .before .before in
-    runs-next (limits t) (file t) (state t) (at t) (t .before .before .before .before .before .loop-test .taken) (tail (file t) (at t)) (taken t) (t .take .ensures) (c .size-of .result) (c .size-of .ensures .0) (c .size-of .ensures .1) (ap progressOf (c .before .before .enum-told2 .given .1)) (t .before .before .before .before .before .before .loop .inv)
+    runs-next (limits t) (file t) (state t) (at t) (t .before .before .before .before .before .before .loop-test .taken) (tail (file t) (at t)) (taken t) (t .take .ensures) (c .size-of .result) (c .size-of .ensures .0) (c .size-of .ensures .1) (ap progressOf (c .before .before .enum-told2 .given .1)) (t .before .before .before .before .before .before .before .loop .inv)
 
 refused-at-requires-2 : tie.Need-refused-at-requires-2 Inv-loop μ-loop
 refused-at-requires-2 c κs = search needs
@@ -111,7 +111,7 @@ returns-3 : tie.Need-returns-3 Inv-loop μ-loop
 returns-3 c =
     let lp = c .before .before .loop in
     let s = c .before .before .before .before .before in
-    c .refused-at2 .ensures ∙ runs-out (limitsOf (s .args .l)) (now (s .args .file)) (stateOf (lp .p) (lp .sizes) (lp .modes-set) (lp .variables-seen)) (lp .at) (c .before .loop-test .left) (lp .inv)
+    c .refused-at2 .ensures ∙ runs-out (limitsOf (s .args .l)) (now (s .args .file)) (stateOf (lp .p) (lp .sizes) (lp .modes-set) (lp .targets-seen) (lp .terms-seen)) (lp .at) (c .before .loop-test .left) (lp .inv)
 
 pub check-spec : {M : Type 1} → statement M
 check-spec =

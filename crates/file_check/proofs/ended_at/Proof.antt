@@ -8,10 +8,10 @@ add-t7 : tie.Need-add-t7
 add-t7 c = search needs
 
 returns : tie.Need-returns
-returns c sizes set seen = rw (eq-eqb _ 1 (c .if1 .taken))
+returns c sizes set targets terms = rw (eq-eqb _ 1 (c .if1 .taken))
 
 returns-2 : tie.Need-returns-2
-returns-2 c sizes set seen = rw (ne-eqb _ 1 (c .if1 .left))
+returns-2 c sizes set targets terms = rw (ne-eqb _ 1 (c .if1 .left))
 
 pub ended-at-spec : {M : Type 1} → statement M
 ended-at-spec = tie.close (tie.spec add-t7 returns returns-2)

@@ -6,53 +6,53 @@ use Rattle.file_check.proofs.is_allowed.Statement.{statement}
 use Rattle.file_check.proofs.is_allowed.Tie as tie
 
 returns : tie.Need-returns
-returns c sizes set seen = rw (c .before .before .before .match .keys1, not-true (c .before .before .before .before .args .l .restricted) (c .before .if1 .taken))
+returns c sizes set targets terms = rw (c .before .before .before .match .keys1, not-true (c .before .before .before .before .args .l .restricted) (c .before .if1 .taken))
 
 returns-2 : tie.Need-returns-2
-returns-2 c sizes set seen = rw (c .before .before .match .keys1, not-false (c .before .before .before .args .l .restricted) (c .if1 .left))
+returns-2 c sizes set targets terms = rw (c .before .before .match .keys1, not-false (c .before .before .before .args .l .restricted) (c .if1 .left))
 
 returns-3 : tie.Need-returns-3
-returns-3 c sizes set seen = rw (c .before .before .match .keys2, c .before .if2 .taken)
+returns-3 c sizes set targets terms = rw (c .before .before .match .keys2, c .before .if2 .taken)
 
 returns-4 : tie.Need-returns-4
-returns-4 c sizes set seen = rw (c .before .match .keys2, c .if2 .left)
+returns-4 c sizes set targets terms = rw (c .before .match .keys2, c .if2 .left)
 
 returns-5 : tie.Need-returns-5
-returns-5 c sizes set seen = rw (c .before .match .keys3)
+returns-5 c sizes set targets terms = rw (c .before .match .keys3)
 
 returns-6 : tie.Need-returns-6
-returns-6 c sizes set seen = ⊎-elim (λ e. rw e) (λ e. rw e) (c .before .match .keys4)
+returns-6 c sizes set targets terms = ⊎-elim (λ e. rw e) (λ e. rw e) (c .before .match .keys4)
 
 returns-7 : tie.Need-returns-7
-returns-7 c sizes set seen = ⊎-elim (λ e. rw e) (λ e. rw e) (c .before .match .keys5)
+returns-7 c sizes set targets terms = ⊎-elim (λ e. rw e) (λ e. rw e) (c .before .match .keys5)
 
 returns-8 : tie.Need-returns-8
-returns-8 c sizes set seen = ⊎-elim (λ e. rw e) (λ e. rw e) (c .before .match .keys6)
+returns-8 c sizes set targets terms = ⊎-elim (λ e. rw e) (λ e. rw e) (c .before .match .keys6)
 
 returns-9 : tie.Need-returns-9
-returns-9 c sizes set seen =
+returns-9 c sizes set targets terms =
     let n = not-true (c .before .before .before .before .args .l .restricted) (c .before .if3 .taken) in
     ⊎-elim (λ e. rw e (rw n)) (λ e. rw e (rw n)) (c .before .before .before .match .keys7)
 
 returns-10 : tie.Need-returns-10
-returns-10 c sizes set seen =
+returns-10 c sizes set targets terms =
     let n = not-false (c .before .before .before .args .l .restricted) (c .if3 .left) in
     ⊎-elim (λ e. rw e (rw n)) (λ e. rw e (rw n)) (c .before .before .match .keys7)
 
 returns-11 : tie.Need-returns-11
-returns-11 c sizes set seen = rw (c .before .before .before .match .keys8, not-true (c .before .before .before .before .args .l .restricted) (c .before .if4 .taken))
+returns-11 c sizes set targets terms = rw (c .before .before .before .match .keys8, not-true (c .before .before .before .before .args .l .restricted) (c .before .if4 .taken))
 
 returns-12 : tie.Need-returns-12
-returns-12 c sizes set seen = rw (c .before .before .match .keys8, not-false (c .before .before .before .args .l .restricted) (c .if4 .left))
+returns-12 c sizes set targets terms = rw (c .before .before .match .keys8, not-false (c .before .before .before .args .l .restricted) (c .if4 .left))
 
 returns-13 : tie.Need-returns-13
-returns-13 c sizes set seen = rw (c .before .match .keys9)
+returns-13 c sizes set targets terms = rw (c .before .match .keys9)
 
 returns-14 : tie.Need-returns-14
-returns-14 c sizes set seen = rw (c .before .match .keys10)
+returns-14 c sizes set targets terms = rw (c .before .match .keys10)
 
 returns-15 : tie.Need-returns-15
-returns-15 c sizes set seen =
+returns-15 c sizes set targets terms =
     let r = c .match .rest in
     rw (
       ne-eqb _ letterV (r .0 .0 .0 .0 .0 .0 .0 .0 .0 .1),

@@ -23,7 +23,7 @@ abbrev limits : tie.Start → Limits
 limits s = limitsOf (s .args .l)
 
 abbrev state : tie.Start → ReadingState
-state s = stateOf (s .args .p) (now (s .args .sizes)) (now (s .args .modes-set)) (now (s .args .variables-seen))
+state s = stateOf (s .args .p) (now (s .args .sizes)) (now (s .args .modes-set)) (now (s .args .targets-seen)) (now (s .args .terms-seen))
 
 abbrev rest : tie.Start → List ℕ
 rest s = now (s .args .rest)
@@ -35,7 +35,7 @@ start i = i .before .before .before .before .before
 by-rule : (i : tie.Else2) {t : Taken} → t ≡ ruleOf (limits (start i)) (state (start i)) (commandAt (rest (start i))) → t ≡ takeOf (limits (start i)) (state (start i)) (rest (start i))
 by-rule i h =
     let s = start i in
-    h ∙ admitted (limits s) (state s) (rest s) (i .before .before .before .if1 .left) (i .before .is-allowed .ensures (now (s .args .sizes)) (now (s .args .modes-set)) (now (s .args .variables-seen))) (i .if2 .left)
+    h ∙ admitted (limits s) (state s) (rest s) (i .before .before .before .if1 .left) (i .before .is-allowed .ensures (now (s .args .sizes)) (now (s .args .modes-set)) (now (s .args .targets-seen)) (now (s .args .terms-seen))) (i .if2 .left)
 
 -- a command of one byte, that of row k
 alone : (i : tie.Else2) (k : ℕ) → k < rows → sizeOfRow k ≡ 1 → getD (rest (start i)) 0 0 ≡ rowAt k .byte
@@ -51,7 +51,7 @@ refuse-requires c κs = search needs
 returns : tie.Need-returns
 returns c =
     let s = c .before .before .before in
-    c .refuse .ensures (now (s .args .sizes)) (now (s .args .modes-set)) (now (s .args .variables-seen)) ∙ nothing-left (limits s) (state s) (rest s) (c .before .if1 .taken)
+    c .refuse .ensures (now (s .args .sizes)) (now (s .args .modes-set)) (now (s .args .targets-seen)) (now (s .args .terms-seen)) ∙ nothing-left (limits s) (state s) (rest s) (c .before .if1 .taken)
 
 shared-slice-read-byte : tie.Need-shared-slice-read-byte
 shared-slice-read-byte c = search needs
@@ -66,8 +66,8 @@ returns-2 : tie.Need-returns-2
 returns-2 c =
     let t2 = c .before in
     let s = t2 .before .before .before .before .before in
-    c .refuse2 .ensures (now (s .args .sizes)) (now (s .args .modes-set)) (now (s .args .variables-seen))
-    ∙ barred (limits s) (state s) (rest s) (t2 .before .before .before .if1 .left) (t2 .before .is-allowed .ensures (now (s .args .sizes)) (now (s .args .modes-set)) (now (s .args .variables-seen))) (t2 .if2 .taken)
+    c .refuse2 .ensures (now (s .args .sizes)) (now (s .args .modes-set)) (now (s .args .targets-seen)) (now (s .args .terms-seen))
+    ∙ barred (limits s) (state s) (rest s) (t2 .before .before .before .if1 .left) (t2 .before .is-allowed .ensures (now (s .args .sizes)) (now (s .args .modes-set)) (now (s .args .targets-seen)) (now (s .args .terms-seen))) (t2 .if2 .taken)
 
 take-variable-requires : tie.Need-take-variable-requires
 take-variable-requires c κs = search needs
@@ -118,85 +118,85 @@ returns-3 : tie.Need-returns-3
 returns-3 c =
     let i = c .before .before in
     let s = start i in
-    by-rule i (c .take-variable .ensures (now (s .args .sizes)) (now (s .args .modes-set)) (now (s .args .variables-seen)))
+    by-rule i (c .take-variable .ensures (now (s .args .sizes)) (now (s .args .modes-set)) (now (s .args .targets-seen)) (now (s .args .terms-seen)))
 
 returns-4 : tie.Need-returns-4
 returns-4 c =
     let i = c .before .before in
     let s = start i in
-    by-rule i (c .take-start .ensures (now (s .args .sizes)) (now (s .args .modes-set)) (now (s .args .variables-seen)))
+    by-rule i (c .take-start .ensures (now (s .args .sizes)) (now (s .args .modes-set)) (now (s .args .targets-seen)) (now (s .args .terms-seen)))
 
 returns-5 : tie.Need-returns-5
 returns-5 c =
     let i = c .before .before .before in
     let s = start i in
-    by-rule i (c .take-mode .ensures (now (s .args .modes-set)) (now (s .args .variables-seen)))
+    by-rule i (c .take-mode .ensures (now (s .args .modes-set)) (now (s .args .targets-seen)) (now (s .args .terms-seen)))
 
 returns-6 : tie.Need-returns-6
 returns-6 c =
-    let i = c .before .before .before .before in
+    let i = c .before .before .before .before .before in
     let s = start i in
-    alone i 3 (lit< tt) refl (c .before .before .before .match .keys4) (c .take-action .ensures (now (s .args .sizes)))
+    alone i 3 (lit< tt) refl (c .before .before .before .before .match .keys4) (c .take-action .ensures (now (s .args .sizes)))
 
 returns-7 : tie.Need-returns-7
 returns-7 c =
     let i = c .before .before in
     let s = start i in
-    by-rule i (c .take-condition .ensures (now (s .args .sizes)) (now (s .args .modes-set)) (now (s .args .variables-seen)))
+    by-rule i (c .take-condition .ensures (now (s .args .sizes)) (now (s .args .modes-set)) (now (s .args .targets-seen)) (now (s .args .terms-seen)))
 
 returns-8 : tie.Need-returns-8
 returns-8 c =
     let i = c .before .before .before in
     let s = start i in
-    by-rule i (c .take-mode-condition .ensures (now (s .args .modes-set)) (now (s .args .variables-seen)))
+    by-rule i (c .take-mode-condition .ensures (now (s .args .modes-set)) (now (s .args .targets-seen)) (now (s .args .terms-seen)))
 
 returns-9 : tie.Need-returns-9
 returns-9 c =
     let i = c .before .before .before .before in
     let s = start i in
-    by-rule i (c .take-mode-effect .ensures (now (s .args .variables-seen)))
+    by-rule i (c .take-mode-effect .ensures (now (s .args .targets-seen)) (now (s .args .terms-seen)))
 
 returns-10 : tie.Need-returns-10
 returns-10 c =
-    let i = c .before .before .before in
+    let i = c .before .before .before .before in
     let s = start i in
     by-rule i (c .take-add .ensures (now (s .args .sizes)) (now (s .args .modes-set)))
 
 returns-11 : tie.Need-returns-11
 returns-11 c =
-    let i = c .before .before in
+    let i = c .before .before .before .before in
     let s = start i in
-    by-rule i (c .take-linear .ensures (now (s .args .sizes)) (now (s .args .modes-set)) (now (s .args .variables-seen)))
+    by-rule i (c .take-linear .ensures (now (s .args .sizes)) (now (s .args .modes-set)))
 
 returns-12 : tie.Need-returns-12
 returns-12 c =
     let i = c .before .before .before in
     let s = start i in
-    by-rule i (c .take-term .ensures (now (s .args .sizes)) (now (s .args .modes-set)))
+    by-rule i (c .take-term .ensures (now (s .args .sizes)) (now (s .args .modes-set)) (now (s .args .targets-seen)))
 
 returns-13 : tie.Need-returns-13
 returns-13 c =
-    let i = c .before .before in
+    let i = c .before .before .before .before in
     let s = start i in
-    by-rule i (c .take-quotient .ensures (now (s .args .sizes)) (now (s .args .modes-set)) (now (s .args .variables-seen)))
+    by-rule i (c .take-quotient .ensures (now (s .args .sizes)) (now (s .args .modes-set)))
 
 returns-14 : tie.Need-returns-14
 returns-14 c =
-    let i = c .before .before in
+    let i = c .before .before .before .before in
     let s = start i in
-    by-rule i (c .take-residue .ensures (now (s .args .sizes)) (now (s .args .modes-set)) (now (s .args .variables-seen)))
+    by-rule i (c .take-residue .ensures (now (s .args .sizes)) (now (s .args .modes-set)))
 
 returns-15 : tie.Need-returns-15
 returns-15 c =
-    let i = c .before .before .before .before in
+    let i = c .before .before .before .before .before in
     let s = start i in
-    alone i 12 (lit< tt) refl (c .before .before .before .match .keys13) (c .take-goal .ensures (now (s .args .sizes)))
+    alone i 12 (lit< tt) refl (c .before .before .before .before .match .keys13) (c .take-goal .ensures (now (s .args .sizes)))
 
 returns-16 : tie.Need-returns-16
 returns-16 c =
     let i = c .before .before in
     let s = start i in
-    alone i 13 (lit< tt) refl (c .before .match .keys14) (c .take-end .ensures (now (s .args .sizes)) (now (s .args .modes-set)) (now (s .args .variables-seen)))
+    alone i 13 (lit< tt) refl (c .before .match .keys14) (c .take-end .ensures (now (s .args .sizes)) (now (s .args .modes-set)) (now (s .args .targets-seen)) (now (s .args .terms-seen)))
 
 returns-17 : tie.Need-returns-17
 unfolding testsOf
@@ -204,7 +204,7 @@ returns-17 c =
     let i = c .before .before in
     let s = start i in
     by-rule i
-    (c .refuse3 .ensures (now (s .args .sizes)) (now (s .args .modes-set)) (now (s .args .variables-seen))
+    (c .refuse3 .ensures (now (s .args .sizes)) (now (s .args .modes-set)) (now (s .args .targets-seen)) (now (s .args .terms-seen))
     ∙ stops (limits s) (state s) (unknown (rest s) (omega (arith, i .before .before .before .if1 .left)) (c .before .match .rest)) 0 refl)
 
 pub take-spec : {M : Type 1} → statement M

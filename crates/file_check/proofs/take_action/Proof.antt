@@ -19,8 +19,8 @@ unfolding testsOf
 returns c sizes =
     let t1 = c .before in
     let s = t1 .before .before .before in
-    c .refuse .ensures sizes (now (s .args .modes-set)) (now (s .args .variables-seen))
-    ∙ stops (limitsOf (s .args .l)) (stateOf (s .args .p) sizes (now (s .args .modes-set)) (now (s .args .variables-seen))) (refl {a = Action}) 0
+    c .refuse .ensures sizes (now (s .args .modes-set)) (now (s .args .targets-seen)) (now (s .args .terms-seen))
+    ∙ stops (limitsOf (s .args .l)) (stateOf (s .args .p) sizes (now (s .args .modes-set)) (now (s .args .targets-seen)) (now (s .args .terms-seen))) (refl {a = Action}) 0
     (le-leb _ _ (t1 .if1 .taken))
 
 add-open : tie.Need-add-open
@@ -35,11 +35,11 @@ go-on-requires c κs = search needs
 returns-2 : tie.Need-returns-2
 unfolding testsOf nextOf
 returns-2 c sizes =
-    let t1 = c .before .before .before .before .before in
+    let t1 = c .before .before .before .before .before .before in
     let s = t1 .before .before .before in
-    c .go-on .ensures sizes noModes noVariables
-    ∙ ap goOn (c .before .«open» .ensures sizes (now (s .args .modes-set)) (now (s .args .variables-seen)))
-    ∙ goes (limitsOf (s .args .l)) (stateOf (s .args .p) sizes (now (s .args .modes-set)) (now (s .args .variables-seen))) (refl {a = Action})
+    c .go-on .ensures sizes noModes noVariables noVariables
+    ∙ ap goOn (c .before .«open» .ensures sizes (now (s .args .modes-set)) (now (s .args .targets-seen)) (now (s .args .terms-seen)))
+    ∙ goes (limitsOf (s .args .l)) (stateOf (s .args .p) sizes (now (s .args .modes-set)) (now (s .args .targets-seen)) (now (s .args .terms-seen))) (refl {a = Action})
     (lt-leb _ _ (t1 .if1 .left), tt)
 
 pub take-action-spec : {M : Type 1} → statement M

@@ -8,7 +8,7 @@ use lib.Dec.{lit<}
 use Rattle.commands.proofs.Known.{cut-short}
 use Rattle.model.specs.Rules.{testsOf, nextOf}
 use Rattle.file_check.specs.Views.{limitsOf, stateOf}
-use Rattle.file_check.proofs.Tests.{told, add-counted}
+use Rattle.file_check.proofs.Tests.{told, counted}
 use Rattle.file_check.proofs.Taking.{stops, goes}
 use Rattle.file_check.proofs.take_add.Statement.{statement}
 use Rattle.file_check.proofs.take_add.Tie as tie
@@ -27,11 +27,11 @@ unfolding testsOf
 returns c sizes set =
     let r = c .before .before in
     let s = r .before .before in
-    c .refuse .ensures sizes set (now (s .args .variables-seen))
-    ∙ stops (limitsOf (s .args .l)) (stateOf (s .args .p) sizes set (now (s .args .variables-seen))) (cut-short (now (s .args .rest)) 7 (lit< tt) (s .pre .0) (s .pre .1) (r .read-add .result) (r .read-add .ensures) (c .before .match .keys2)) 0 refl
+    c .refuse .ensures sizes set (now (s .args .targets-seen)) (now (s .args .terms-seen))
+    ∙ stops (limitsOf (s .args .l)) (stateOf (s .args .p) sizes set (now (s .args .targets-seen)) (now (s .args .terms-seen))) (cut-short (now (s .args .rest)) 7 (lit< tt) (s .pre .0) (s .pre .1) (r .read-add .result) (r .read-add .ensures) (c .before .match .keys2)) 0 refl
 
-is-over-requires : tie.Need-is-over-requires
-is-over-requires c κs = search needs
+has-no-room-requires : tie.Need-has-no-room-requires
+has-no-room-requires c κs = search needs
 
 refuse-requires-2 : tie.Need-refuse-requires-2
 refuse-requires-2 c κs = search needs
@@ -42,9 +42,9 @@ returns-2 c sizes set =
     let t1 = c .before in
     let v = t1 .before .before .before in
     let s = v .before .before .before .before in
-    c .refuse2 .ensures sizes set (now (s .args .variables-seen))
-    ∙ stops (limitsOf (s .args .l)) (stateOf (s .args .p) sizes set (now (s .args .variables-seen))) (sym (v .before .before .read-add .ensures) ∙ v .variable .given .1) 0
-    (told (t1 .before .is-over .ensures) (t1 .if1 .taken))
+    c .refuse2 .ensures sizes set (now (s .args .targets-seen)) (now (s .args .terms-seen))
+    ∙ stops (limitsOf (s .args .l)) (stateOf (s .args .p) sizes set (now (s .args .targets-seen)) (now (s .args .terms-seen))) (sym (v .before .before .read-add .ensures) ∙ v .variable .given .1) 0
+    (told (t1 .before .has-no-room .ensures) (t1 .if1 .taken))
 
 cast-if2 : tie.Need-cast-if2
 cast-if2 c = search needs
@@ -59,9 +59,9 @@ returns-3 c sizes set =
     let t1 = t2 .before .before in
     let v = t1 .before .before .before in
     let s = v .before .before .before .before in
-    c .refuse3 .ensures sizes set (now (s .args .variables-seen))
-    ∙ stops (limitsOf (s .args .l)) (stateOf (s .args .p) sizes set (now (s .args .variables-seen))) (sym (v .before .before .read-add .ensures) ∙ v .variable .given .1) 1
-    (told (t1 .before .is-over .ensures) (t1 .if1 .left), le-leb _ _ (t2 .if2 .taken))
+    c .refuse3 .ensures sizes set (now (s .args .targets-seen)) (now (s .args .terms-seen))
+    ∙ stops (limitsOf (s .args .l)) (stateOf (s .args .p) sizes set (now (s .args .targets-seen)) (now (s .args .terms-seen))) (sym (v .before .before .read-add .ensures) ∙ v .variable .given .1) 1
+    (told (t1 .before .has-no-room .ensures) (t1 .if1 .left), le-leb _ _ (t2 .if2 .taken))
 
 is-zero-requires : tie.Need-is-zero-requires
 is-zero-requires c κs = search needs
@@ -77,9 +77,9 @@ returns-4 c sizes set =
     let t1 = t2 .before .before in
     let v = t1 .before .before .before in
     let s = v .before .before .before .before in
-    c .refuse4 .ensures sizes set (now (s .args .variables-seen))
-    ∙ stops (limitsOf (s .args .l)) (stateOf (s .args .p) sizes set (now (s .args .variables-seen))) (sym (v .before .before .read-add .ensures) ∙ v .variable .given .1) 2
-    (told (t1 .before .is-over .ensures) (t1 .if1 .left), (lt-leb _ _ (t2 .if2 .left), told (t3 .before .is-zero .ensures) (t3 .if3 .taken)))
+    c .refuse4 .ensures sizes set (now (s .args .targets-seen)) (now (s .args .terms-seen))
+    ∙ stops (limitsOf (s .args .l)) (stateOf (s .args .p) sizes set (now (s .args .targets-seen)) (now (s .args .terms-seen))) (sym (v .before .before .read-add .ensures) ∙ v .variable .given .1) 2
+    (told (t1 .before .has-no-room .ensures) (t1 .if1 .left), (lt-leb _ _ (t2 .if2 .left), told (t3 .before .is-zero .ensures) (t3 .if3 .taken)))
 
 is-outside-requires : tie.Need-is-outside-requires
 is-outside-requires c κs = search needs
@@ -96,15 +96,15 @@ returns-5 c sizes set =
     let t1 = t2 .before .before in
     let v = t1 .before .before .before in
     let s = v .before .before .before .before in
-    c .refuse5 .ensures sizes set (now (s .args .variables-seen))
-    ∙ stops (limitsOf (s .args .l)) (stateOf (s .args .p) sizes set (now (s .args .variables-seen))) (sym (v .before .before .read-add .ensures) ∙ v .variable .given .1) 3
-    (told (t1 .before .is-over .ensures) (t1 .if1 .left), (lt-leb _ _ (t2 .if2 .left), (told (t3 .before .is-zero .ensures) (t3 .if3 .left), told (t4 .before .is-outside .ensures) (t4 .if4 .taken))))
+    c .refuse5 .ensures sizes set (now (s .args .targets-seen)) (now (s .args .terms-seen))
+    ∙ stops (limitsOf (s .args .l)) (stateOf (s .args .p) sizes set (now (s .args .targets-seen)) (now (s .args .terms-seen))) (sym (v .before .before .read-add .ensures) ∙ v .variable .given .1) 3
+    (told (t1 .before .has-no-room .ensures) (t1 .if1 .left), (lt-leb _ _ (t2 .if2 .left), (told (t3 .before .is-zero .ensures) (t3 .if3 .left), told (t4 .before .is-outside .ensures) (t4 .if4 .taken))))
 
-cast-is-repeated : tie.Need-cast-is-repeated
-cast-is-repeated c = search needs
+cast-is-marked : tie.Need-cast-is-marked
+cast-is-marked c = search needs
 
-is-repeated-requires : tie.Need-is-repeated-requires
-is-repeated-requires c κs = search needs
+is-marked-requires : tie.Need-is-marked-requires
+is-marked-requires c κs = search needs
 
 refuse-requires-6 : tie.Need-refuse-requires-6
 refuse-requires-6 c κs = search needs
@@ -113,52 +113,47 @@ returns-6 : tie.Need-returns-6
 unfolding testsOf
 returns-6 c sizes set =
     let t5 = c .before in
-    let t4 = t5 .before .before .before in
+    let t4 = t5 .before .before .before .before in
     let t3 = t4 .before .before in
     let t2 = t3 .before .before in
     let t1 = t2 .before .before in
     let v = t1 .before .before .before in
     let s = v .before .before .before .before in
-    c .refuse6 .ensures sizes set (now (s .args .variables-seen))
-    ∙ stops (limitsOf (s .args .l)) (stateOf (s .args .p) sizes set (now (s .args .variables-seen))) (sym (v .before .before .read-add .ensures) ∙ v .variable .given .1) 4
-    (told (t1 .before .is-over .ensures) (t1 .if1 .left), (lt-leb _ _ (t2 .if2 .left), (told (t3 .before .is-zero .ensures) (t3 .if3 .left), (told (t4 .before .is-outside .ensures) (t4 .if4 .left), told (t5 .before .is-repeated .ensures) (t5 .if5 .taken)))))
+    c .refuse6 .ensures sizes set (now (s .args .targets-seen)) (now (s .args .terms-seen))
+    ∙ stops (limitsOf (s .args .l)) (stateOf (s .args .p) sizes set (now (s .args .targets-seen)) (now (s .args .terms-seen))) (sym (v .before .before .read-add .ensures) ∙ v .variable .given .1) 4
+    (told (t1 .before .has-no-room .ensures) (t1 .if1 .left), (lt-leb _ _ (t2 .if2 .left), (told (t3 .before .is-zero .ensures) (t3 .if3 .left), (told (t4 .before .is-outside .ensures) (t4 .if4 .left), told (t5 .before .is-marked .ensures) (t5 .if5 .taken)))))
 
-cast-put-mark : tie.Need-cast-put-mark
-cast-put-mark c = search needs
-
-put-mark-requires : tie.Need-put-mark-requires
-put-mark-requires c κs = search needs
+cast-go-on-with-effect : tie.Need-cast-go-on-with-effect
+cast-go-on-with-effect c = search needs
 
 -- a limit is a number of 32 bits
-additions-fit : (s : tie.Start) → s .args .l .additions < 2 ^ 32
-additions-fit s = search needs
+limit-fits : (s : tie.Start) → s .args .l .«numeric_effects» < 2 ^ 32
+limit-fits s = search needs
 
-add-q : tie.Need-add-q
-add-q c =
-    let t5 = c .before .before .before in
-    let t1 = t5 .before .before .before .before .before .before .before .before .before in
-    let s = t1 .before .before .before .before .before .before .before in
-    record {
-      fits =
-          add-counted (s .args .l .restricted) _ (s .args .l .additions) (s .args .p .«numeric_effects») (told (t1 .before .is-over .ensures) (t1 .if1 .left)) (told (t5 .before .is-repeated .ensures) (t5 .if5 .left)) (additions-fit s);
-    }
-
-go-on-requires : tie.Need-go-on-requires
-go-on-requires c κs = search needs
+go-on-with-effect-requires : tie.Need-go-on-with-effect-requires
+go-on-with-effect-requires c κs =
+    let t5 = c .before .before in
+    let t4 = t5 .before .before .before .before in
+    let t3 = t4 .before .before in
+    let t2 = t3 .before .before in
+    let t1 = t2 .before .before in
+    let v = t1 .before .before .before in
+    let s = v .before .before .before .before in
+    counted _ _ (t1 .before .has-no-room .ensures) (t1 .if1 .left) (limit-fits s)
 
 returns-7 : tie.Need-returns-7
 unfolding testsOf nextOf
 returns-7 c sizes set =
-    let t5 = c .before .before .before .before in
-    let t4 = t5 .before .before .before in
+    let t5 = c .before .before .before in
+    let t4 = t5 .before .before .before .before in
     let t3 = t4 .before .before in
     let t2 = t3 .before .before in
     let t1 = t2 .before .before in
     let v = t1 .before .before .before in
     let s = v .before .before .before .before in
-    rw (c .before .before .put-mark .ensures) (c .go-on .ensures sizes set _
-    ∙ goes (limitsOf (s .args .l)) (stateOf (s .args .p) sizes set (now (s .args .variables-seen))) (sym (v .before .before .read-add .ensures) ∙ v .variable .given .1)
-    (told (t1 .before .is-over .ensures) (t1 .if1 .left), (lt-leb _ _ (t2 .if2 .left), (told (t3 .before .is-zero .ensures) (t3 .if3 .left), (told (t4 .before .is-outside .ensures) (t4 .if4 .left), (told (t5 .before .is-repeated .ensures) (t5 .if5 .left), tt))))))
+    c .go-on-with-effect .ensures sizes set
+    ∙ goes (limitsOf (s .args .l)) (stateOf (s .args .p) sizes set (now (s .args .targets-seen)) (now (s .args .terms-seen))) (sym (v .before .before .read-add .ensures) ∙ v .variable .given .1)
+    (told (t1 .before .has-no-room .ensures) (t1 .if1 .left), (lt-leb _ _ (t2 .if2 .left), (told (t3 .before .is-zero .ensures) (t3 .if3 .left), (told (t4 .before .is-outside .ensures) (t4 .if4 .left), (told (t5 .before .is-marked .ensures) (t5 .if5 .left), tt)))))
 
 pub take-add-spec : {M : Type 1} → statement M
 take-add-spec =
@@ -168,7 +163,7 @@ take-add-spec =
     enum-known-variable
     refuse-requires
     returns
-    is-over-requires
+    has-no-room-requires
     refuse-requires-2
     returns-2
     cast-if2
@@ -180,12 +175,10 @@ take-add-spec =
     is-outside-requires
     refuse-requires-5
     returns-5
-    cast-is-repeated
-    is-repeated-requires
+    cast-is-marked
+    is-marked-requires
     refuse-requires-6
     returns-6
-    cast-put-mark
-    put-mark-requires
-    add-q
-    go-on-requires
+    cast-go-on-with-effect
+    go-on-with-effect-requires
     returns-7)

@@ -23,23 +23,23 @@ refuse-requires c κs = search needs
 
 returns : tie.Need-returns
 unfolding testsOf
-returns c sizes set seen =
+returns c sizes set targets terms =
     let r = c .before .before in
     let s = r .before .before in
-    c .refuse .ensures sizes set seen
-    ∙ stops (limitsOf (s .args .l)) (stateOf (s .args .p) sizes set seen) (cut-short (now (s .args .rest)) 4 (lit< tt) (s .pre .0) (s .pre .1) (r .read-condition .result) (r .read-condition .ensures) (c .before .match .keys2)) 0 refl
+    c .refuse .ensures sizes set targets terms
+    ∙ stops (limitsOf (s .args .l)) (stateOf (s .args .p) sizes set targets terms) (cut-short (now (s .args .rest)) 4 (lit< tt) (s .pre .0) (s .pre .1) (r .read-condition .result) (r .read-condition .ensures) (c .before .match .keys2)) 0 refl
 
 refuse-requires-2 : tie.Need-refuse-requires-2
 refuse-requires-2 c κs = search needs
 
 returns-2 : tie.Need-returns-2
 unfolding testsOf
-returns-2 c sizes set seen =
+returns-2 c sizes set targets terms =
     let t1 = c .before in
     let v = t1 .before .before .before .before in
     let s = v .before .before .before .before in
-    c .refuse2 .ensures sizes set seen
-    ∙ stops (limitsOf (s .args .l)) (stateOf (s .args .p) sizes set seen) (sym (v .before .before .read-condition .ensures) ∙ v .variable .given .1) 0
+    c .refuse2 .ensures sizes set targets terms
+    ∙ stops (limitsOf (s .args .l)) (stateOf (s .args .p) sizes set targets terms) (sym (v .before .before .read-condition .ensures) ∙ v .variable .given .1) 0
     (le-leb _ _ (t1 .if1 .taken))
 
 cast-if2 : tie.Need-cast-if2
@@ -50,13 +50,13 @@ refuse-requires-3 c κs = search needs
 
 returns-3 : tie.Need-returns-3
 unfolding testsOf
-returns-3 c sizes set seen =
+returns-3 c sizes set targets terms =
     let t2 = c .before in
     let t1 = t2 .before .before in
     let v = t1 .before .before .before .before in
     let s = v .before .before .before .before in
-    c .refuse3 .ensures sizes set seen
-    ∙ stops (limitsOf (s .args .l)) (stateOf (s .args .p) sizes set seen) (sym (v .before .before .read-condition .ensures) ∙ v .variable .given .1) 1
+    c .refuse3 .ensures sizes set targets terms
+    ∙ stops (limitsOf (s .args .l)) (stateOf (s .args .p) sizes set targets terms) (sym (v .before .before .read-condition .ensures) ∙ v .variable .given .1) 1
     (lt-leb _ _ (t1 .if1 .left), le-leb _ _ (t2 .if2 .taken))
 
 cast-if3 : tie.Need-cast-if3
@@ -67,14 +67,14 @@ refuse-requires-4 c κs = search needs
 
 returns-4 : tie.Need-returns-4
 unfolding testsOf
-returns-4 c sizes set seen =
+returns-4 c sizes set targets terms =
     let t3 = c .before in
     let t2 = t3 .before .before in
     let t1 = t2 .before .before in
     let v = t1 .before .before .before .before in
     let s = v .before .before .before .before in
-    c .refuse4 .ensures sizes set seen
-    ∙ stops (limitsOf (s .args .l)) (stateOf (s .args .p) sizes set seen) (sym (v .before .before .read-condition .ensures) ∙ v .variable .given .1) 2
+    c .refuse4 .ensures sizes set targets terms
+    ∙ stops (limitsOf (s .args .l)) (stateOf (s .args .p) sizes set targets terms) (sym (v .before .before .read-condition .ensures) ∙ v .variable .given .1) 2
     (lt-leb _ _ (t1 .if1 .left), (lt-leb _ _ (t2 .if2 .left), lt-ltb _ _ (t3 .if3 .taken)))
 
 is-outside-requires : tie.Need-is-outside-requires
@@ -85,15 +85,15 @@ refuse-requires-5 c κs = search needs
 
 returns-5 : tie.Need-returns-5
 unfolding testsOf
-returns-5 c sizes set seen =
+returns-5 c sizes set targets terms =
     let t4 = c .before in
     let t3 = t4 .before .before in
     let t2 = t3 .before .before in
     let t1 = t2 .before .before in
     let v = t1 .before .before .before .before in
     let s = v .before .before .before .before in
-    c .refuse5 .ensures sizes set seen
-    ∙ stops (limitsOf (s .args .l)) (stateOf (s .args .p) sizes set seen) (sym (v .before .before .read-condition .ensures) ∙ v .variable .given .1) 3
+    c .refuse5 .ensures sizes set targets terms
+    ∙ stops (limitsOf (s .args .l)) (stateOf (s .args .p) sizes set targets terms) (sym (v .before .before .read-condition .ensures) ∙ v .variable .given .1) 3
     (lt-leb _ _ (t1 .if1 .left), (lt-leb _ _ (t2 .if2 .left), (le-ltb _ _ (t3 .if3 .left), told (t4 .before .is-outside .ensures) (t4 .if4 .taken))))
 
 add-q : tie.Need-add-q
@@ -104,15 +104,15 @@ go-on-requires c κs = search needs
 
 returns-6 : tie.Need-returns-6
 unfolding testsOf nextOf
-returns-6 c sizes set seen =
+returns-6 c sizes set targets terms =
     let t4 = c .before .before in
     let t3 = t4 .before .before in
     let t2 = t3 .before .before in
     let t1 = t2 .before .before in
     let v = t1 .before .before .before .before in
     let s = v .before .before .before .before in
-    c .go-on .ensures sizes set seen
-    ∙ goes (limitsOf (s .args .l)) (stateOf (s .args .p) sizes set seen) (sym (v .before .before .read-condition .ensures) ∙ v .variable .given .1)
+    c .go-on .ensures sizes set targets terms
+    ∙ goes (limitsOf (s .args .l)) (stateOf (s .args .p) sizes set targets terms) (sym (v .before .before .read-condition .ensures) ∙ v .variable .given .1)
     (lt-leb _ _ (t1 .if1 .left), (lt-leb _ _ (t2 .if2 .left), (le-ltb _ _ (t3 .if3 .left), (told (t4 .before .is-outside .ensures) (t4 .if4 .left), tt))))
 
 pub take-condition-spec : {M : Type 1} → statement M

@@ -6,7 +6,7 @@ use Rattle.file_check.proofs.take_end.Tie as tie
 
 returns : tie.Need-returns
 unfolding testsOf nextOf
-returns c sizes set seen = refl
+returns c sizes set targets terms = refl
 
 pub take-end-spec : {M : Type 1} → statement M
 take-end-spec = tie.close (tie.spec returns)

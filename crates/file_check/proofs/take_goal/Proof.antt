@@ -16,8 +16,8 @@ go-on-requires c κs = search needs
 returns : tie.Need-returns
 unfolding testsOf nextOf
 returns c sizes =
-    let s = c .before .before .before .before in
-    c .go-on .ensures sizes noModes noVariables ∙ ap goOn (c .before .«open» .ensures sizes (now (s .args .modes-set)) (now (s .args .variables-seen)))
+    let s = c .before .before .before .before .before in
+    c .go-on .ensures sizes noModes noVariables noVariables ∙ ap goOn (c .before .«open» .ensures sizes (now (s .args .modes-set)) (now (s .args .targets-seen)) (now (s .args .terms-seen)))
 
 pub take-goal-spec : {M : Type 1} → statement M
 take-goal-spec = tie.close (tie.spec open-requires go-on-requires returns)

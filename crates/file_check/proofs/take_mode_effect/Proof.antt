@@ -23,11 +23,11 @@ refuse-requires c κs = search needs
 
 returns : tie.Need-returns
 unfolding testsOf
-returns c seen =
+returns c targets terms =
     let r = c .before .before in
     let s = r .before .before in
-    c .refuse .ensures (now (s .args .sizes)) (now (s .args .modes-set)) seen
-    ∙ stops (limitsOf (s .args .l)) (stateOf (s .args .p) (now (s .args .sizes)) (now (s .args .modes-set)) seen) (cut-short (now (s .args .rest)) 6 (lit< tt) (s .pre .0) (s .pre .1) (r .read-mode-effect .result) (r .read-mode-effect .ensures) (c .before .match .keys2)) 0 refl
+    c .refuse .ensures (now (s .args .sizes)) (now (s .args .modes-set)) targets terms
+    ∙ stops (limitsOf (s .args .l)) (stateOf (s .args .p) (now (s .args .sizes)) (now (s .args .modes-set)) targets terms) (cut-short (now (s .args .rest)) 6 (lit< tt) (s .pre .0) (s .pre .1) (r .read-mode-effect .result) (r .read-mode-effect .ensures) (c .before .match .keys2)) 0 refl
 
 cast-if1 : tie.Need-cast-if1
 cast-if1 c = search needs
@@ -37,12 +37,12 @@ refuse-requires-2 c κs = search needs
 
 returns-2 : tie.Need-returns-2
 unfolding testsOf
-returns-2 c seen =
+returns-2 c targets terms =
     let t1 = c .before in
     let v = t1 .before .before .before in
     let s = v .before .before .before .before in
-    c .refuse2 .ensures (now (s .args .sizes)) (now (s .args .modes-set)) seen
-    ∙ stops (limitsOf (s .args .l)) (stateOf (s .args .p) (now (s .args .sizes)) (now (s .args .modes-set)) seen) (sym (v .before .before .read-mode-effect .ensures) ∙ v .mode .given .1) 0
+    c .refuse2 .ensures (now (s .args .sizes)) (now (s .args .modes-set)) targets terms
+    ∙ stops (limitsOf (s .args .l)) (stateOf (s .args .p) (now (s .args .sizes)) (now (s .args .modes-set)) targets terms) (sym (v .before .before .read-mode-effect .ensures) ∙ v .mode .given .1) 0
     (le-leb _ _ (t1 .if1 .taken))
 
 cast-not-below-size : tie.Need-cast-not-below-size
@@ -56,13 +56,13 @@ refuse-requires-3 c κs = search needs
 
 returns-3 : tie.Need-returns-3
 unfolding testsOf
-returns-3 c seen =
+returns-3 c targets terms =
     let t2 = c .before in
     let t1 = t2 .before .before .before in
     let v = t1 .before .before .before in
     let s = v .before .before .before .before in
-    c .refuse3 .ensures (now (s .args .sizes)) (now (s .args .modes-set)) seen
-    ∙ stops (limitsOf (s .args .l)) (stateOf (s .args .p) (now (s .args .sizes)) (now (s .args .modes-set)) seen) (sym (v .before .before .read-mode-effect .ensures) ∙ v .mode .given .1) 1
+    c .refuse3 .ensures (now (s .args .sizes)) (now (s .args .modes-set)) targets terms
+    ∙ stops (limitsOf (s .args .l)) (stateOf (s .args .p) (now (s .args .sizes)) (now (s .args .modes-set)) targets terms) (sym (v .before .before .read-mode-effect .ensures) ∙ v .mode .given .1) 1
     (lt-leb _ _ (t1 .if1 .left), told (t2 .before .not-below-size .ensures) (t2 .if2 .taken))
 
 cast-is-marked : tie.Need-cast-is-marked
@@ -76,14 +76,14 @@ refuse-requires-4 c κs = search needs
 
 returns-4 : tie.Need-returns-4
 unfolding testsOf
-returns-4 c seen =
+returns-4 c targets terms =
     let t3 = c .before in
     let t2 = t3 .before .before .before .before in
     let t1 = t2 .before .before .before in
     let v = t1 .before .before .before in
     let s = v .before .before .before .before in
-    c .refuse4 .ensures (now (s .args .sizes)) (now (s .args .modes-set)) seen
-    ∙ stops (limitsOf (s .args .l)) (stateOf (s .args .p) (now (s .args .sizes)) (now (s .args .modes-set)) seen) (sym (v .before .before .read-mode-effect .ensures) ∙ v .mode .given .1) 2
+    c .refuse4 .ensures (now (s .args .sizes)) (now (s .args .modes-set)) targets terms
+    ∙ stops (limitsOf (s .args .l)) (stateOf (s .args .p) (now (s .args .sizes)) (now (s .args .modes-set)) targets terms) (sym (v .before .before .read-mode-effect .ensures) ∙ v .mode .given .1) 2
     (lt-leb _ _ (t1 .if1 .left), (told (t2 .before .not-below-size .ensures) (t2 .if2 .left), told (t3 .before .is-marked .ensures) (t3 .if3 .taken)))
 
 cast-put-mark : tie.Need-cast-put-mark
@@ -97,14 +97,14 @@ go-on-requires c κs = search needs
 
 returns-5 : tie.Need-returns-5
 unfolding testsOf nextOf
-returns-5 c seen =
+returns-5 c targets terms =
     let t3 = c .before .before .before in
     let t2 = t3 .before .before .before .before in
     let t1 = t2 .before .before .before in
     let v = t1 .before .before .before in
     let s = v .before .before .before .before in
-    rw (c .before .put-mark .ensures) (c .go-on .ensures (now (s .args .sizes)) _ seen
-    ∙ goes (limitsOf (s .args .l)) (stateOf (s .args .p) (now (s .args .sizes)) (now (s .args .modes-set)) seen) (sym (v .before .before .read-mode-effect .ensures) ∙ v .mode .given .1)
+    rw (c .before .put-mark .ensures) (c .go-on .ensures (now (s .args .sizes)) _ targets terms
+    ∙ goes (limitsOf (s .args .l)) (stateOf (s .args .p) (now (s .args .sizes)) (now (s .args .modes-set)) targets terms) (sym (v .before .before .read-mode-effect .ensures) ∙ v .mode .given .1)
     (lt-leb _ _ (t1 .if1 .left), (told (t2 .before .not-below-size .ensures) (t2 .if2 .left), (told (t3 .before .is-marked .ensures) (t3 .if3 .left), tt))))
 
 pub take-mode-effect-spec : {M : Type 1} → statement M

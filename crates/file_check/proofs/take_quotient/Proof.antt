@@ -21,21 +21,21 @@ refuse-requires c κs = search needs
 
 returns : tie.Need-returns
 unfolding testsOf
-returns c sizes set seen =
+returns c sizes set =
     let r = c .before .before in
     let s = r .before .before in
-    c .refuse .ensures sizes set seen
-    ∙ stops (limitsOf (s .args .l)) (stateOf (s .args .p) sizes set seen) (cut-short (now (s .args .rest)) 10 (lit< tt) (s .pre .0) (s .pre .1) (r .read-quotient .result) (r .read-quotient .ensures) (c .before .match .keys2)) 0 refl
+    c .refuse .ensures sizes set (now (s .args .targets-seen)) (now (s .args .terms-seen))
+    ∙ stops (limitsOf (s .args .l)) (stateOf (s .args .p) sizes set (now (s .args .targets-seen)) (now (s .args .terms-seen))) (cut-short (now (s .args .rest)) 10 (lit< tt) (s .pre .0) (s .pre .1) (r .read-quotient .result) (r .read-quotient .ensures) (c .before .match .keys2)) 0 refl
 
 take-division-requires : tie.Need-take-division-requires
 take-division-requires c κs = search needs
 
 returns-2 : tie.Need-returns-2
 unfolding testsOf nextOf
-returns-2 c sizes set seen =
-    let v = c .before .before in
+returns-2 c sizes set =
+    let v = c .before .before .before .before in
     let s = v .before .before .before .before in
-    reads (limitsOf (s .args .l)) (stateOf (s .args .p) sizes set seen) (sym (v .before .before .read-quotient .ensures) ∙ v .target .given .1) (c .take-division .ensures sizes set seen)
+    reads (limitsOf (s .args .l)) (stateOf (s .args .p) sizes set (now (s .args .targets-seen)) (now (s .args .terms-seen))) (sym (v .before .before .read-quotient .ensures) ∙ v .target .given .1) (c .take-division .ensures sizes set)
 
 pub take-quotient-spec : {M : Type 1} → statement M
 take-quotient-spec =

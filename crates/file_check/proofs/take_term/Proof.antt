@@ -25,11 +25,11 @@ refuse-requires c κs = search needs
 
 returns : tie.Need-returns
 unfolding testsOf
-returns c sizes set =
+returns c sizes set targets =
     let r = c .before .before in
     let s = r .before .before in
-    c .refuse .ensures sizes set (now (s .args .variables-seen))
-    ∙ stops (limitsOf (s .args .l)) (stateOf (s .args .p) sizes set (now (s .args .variables-seen))) (cut-short (now (s .args .rest)) 9 (lit< tt) (s .pre .0) (s .pre .1) (r .read-term .result) (r .read-term .ensures) (c .before .match .keys2)) 0 refl
+    c .refuse .ensures sizes set targets (now (s .args .terms-seen))
+    ∙ stops (limitsOf (s .args .l)) (stateOf (s .args .p) sizes set targets (now (s .args .terms-seen))) (cut-short (now (s .args .rest)) 9 (lit< tt) (s .pre .0) (s .pre .1) (r .read-term .result) (r .read-term .ensures) (c .before .match .keys2)) 0 refl
 
 cast-if1 : tie.Need-cast-if1
 cast-if1 c = search needs
@@ -39,12 +39,12 @@ refuse-requires-2 c κs = search needs
 
 returns-2 : tie.Need-returns-2
 unfolding testsOf
-returns-2 c sizes set =
+returns-2 c sizes set targets =
     let t1 = c .before in
     let v = t1 .before .before .before .before in
     let s = v .before .before .before .before in
-    c .refuse2 .ensures sizes set (now (s .args .variables-seen))
-    ∙ stops (limitsOf (s .args .l)) (stateOf (s .args .p) sizes set (now (s .args .variables-seen))) (sym (v .before .before .read-term .ensures) ∙ v .variable .given .1) 0
+    c .refuse2 .ensures sizes set targets (now (s .args .terms-seen))
+    ∙ stops (limitsOf (s .args .l)) (stateOf (s .args .p) sizes set targets (now (s .args .terms-seen))) (sym (v .before .before .read-term .ensures) ∙ v .variable .given .1) 0
     (lt-ltb _ _ (t1 .if1 .taken))
 
 cast-if2 : tie.Need-cast-if2
@@ -55,13 +55,13 @@ refuse-requires-3 c κs = search needs
 
 returns-3 : tie.Need-returns-3
 unfolding testsOf
-returns-3 c sizes set =
+returns-3 c sizes set targets =
     let t2 = c .before in
     let t1 = t2 .before .before in
     let v = t1 .before .before .before .before in
     let s = v .before .before .before .before in
-    c .refuse3 .ensures sizes set (now (s .args .variables-seen))
-    ∙ stops (limitsOf (s .args .l)) (stateOf (s .args .p) sizes set (now (s .args .variables-seen))) (sym (v .before .before .read-term .ensures) ∙ v .variable .given .1) 1
+    c .refuse3 .ensures sizes set targets (now (s .args .terms-seen))
+    ∙ stops (limitsOf (s .args .l)) (stateOf (s .args .p) sizes set targets (now (s .args .terms-seen))) (sym (v .before .before .read-term .ensures) ∙ v .variable .given .1) 1
     (le-ltb _ _ (t1 .if1 .left), le-leb _ _ (t2 .if2 .taken))
 
 is-zero-requires : tie.Need-is-zero-requires
@@ -72,14 +72,14 @@ refuse-requires-4 c κs = search needs
 
 returns-4 : tie.Need-returns-4
 unfolding testsOf
-returns-4 c sizes set =
+returns-4 c sizes set targets =
     let t3 = c .before in
     let t2 = t3 .before .before in
     let t1 = t2 .before .before in
     let v = t1 .before .before .before .before in
     let s = v .before .before .before .before in
-    c .refuse4 .ensures sizes set (now (s .args .variables-seen))
-    ∙ stops (limitsOf (s .args .l)) (stateOf (s .args .p) sizes set (now (s .args .variables-seen))) (sym (v .before .before .read-term .ensures) ∙ v .variable .given .1) 2
+    c .refuse4 .ensures sizes set targets (now (s .args .terms-seen))
+    ∙ stops (limitsOf (s .args .l)) (stateOf (s .args .p) sizes set targets (now (s .args .terms-seen))) (sym (v .before .before .read-term .ensures) ∙ v .variable .given .1) 2
     (le-ltb _ _ (t1 .if1 .left), (lt-leb _ _ (t2 .if2 .left), told (t3 .before .is-zero .ensures) (t3 .if3 .taken)))
 
 is-outside-requires : tie.Need-is-outside-requires
@@ -90,15 +90,15 @@ refuse-requires-5 c κs = search needs
 
 returns-5 : tie.Need-returns-5
 unfolding testsOf
-returns-5 c sizes set =
+returns-5 c sizes set targets =
     let t4 = c .before in
     let t3 = t4 .before .before in
     let t2 = t3 .before .before in
     let t1 = t2 .before .before in
     let v = t1 .before .before .before .before in
     let s = v .before .before .before .before in
-    c .refuse5 .ensures sizes set (now (s .args .variables-seen))
-    ∙ stops (limitsOf (s .args .l)) (stateOf (s .args .p) sizes set (now (s .args .variables-seen))) (sym (v .before .before .read-term .ensures) ∙ v .variable .given .1) 3
+    c .refuse5 .ensures sizes set targets (now (s .args .terms-seen))
+    ∙ stops (limitsOf (s .args .l)) (stateOf (s .args .p) sizes set targets (now (s .args .terms-seen))) (sym (v .before .before .read-term .ensures) ∙ v .variable .given .1) 3
     (le-ltb _ _ (t1 .if1 .left), (lt-leb _ _ (t2 .if2 .left), (told (t3 .before .is-zero .ensures) (t3 .if3 .left), told (t4 .before .is-outside .ensures) (t4 .if4 .taken))))
 
 cast-is-marked : tie.Need-cast-is-marked
@@ -112,7 +112,7 @@ refuse-requires-6 c κs = search needs
 
 returns-6 : tie.Need-returns-6
 unfolding testsOf
-returns-6 c sizes set =
+returns-6 c sizes set targets =
     let t5 = c .before in
     let t4 = t5 .before .before .before .before in
     let t3 = t4 .before .before in
@@ -120,8 +120,8 @@ returns-6 c sizes set =
     let t1 = t2 .before .before in
     let v = t1 .before .before .before .before in
     let s = v .before .before .before .before in
-    c .refuse6 .ensures sizes set (now (s .args .variables-seen))
-    ∙ stops (limitsOf (s .args .l)) (stateOf (s .args .p) sizes set (now (s .args .variables-seen))) (sym (v .before .before .read-term .ensures) ∙ v .variable .given .1) 4
+    c .refuse6 .ensures sizes set targets (now (s .args .terms-seen))
+    ∙ stops (limitsOf (s .args .l)) (stateOf (s .args .p) sizes set targets (now (s .args .terms-seen))) (sym (v .before .before .read-term .ensures) ∙ v .variable .given .1) 4
     (le-ltb _ _ (t1 .if1 .left), (lt-leb _ _ (t2 .if2 .left), (told (t3 .before .is-zero .ensures) (t3 .if3 .left), (told (t4 .before .is-outside .ensures) (t4 .if4 .left), told (t5 .before .is-marked .ensures) (t5 .if5 .taken)))))
 
 cast-put-mark : tie.Need-cast-put-mark
@@ -146,7 +146,7 @@ go-on-requires c κs = search needs
 
 returns-7 : tie.Need-returns-7
 unfolding testsOf nextOf
-returns-7 c sizes set =
+returns-7 c sizes set targets =
     let t5 = c .before .before .before .before in
     let t4 = t5 .before .before .before .before in
     let t3 = t4 .before .before in
@@ -154,8 +154,8 @@ returns-7 c sizes set =
     let t1 = t2 .before .before in
     let v = t1 .before .before .before .before in
     let s = v .before .before .before .before in
-    rw (c .before .before .put-mark .ensures) (c .go-on .ensures sizes set _
-    ∙ goes (limitsOf (s .args .l)) (stateOf (s .args .p) sizes set (now (s .args .variables-seen))) (sym (v .before .before .read-term .ensures) ∙ v .variable .given .1)
+    rw (c .before .before .put-mark .ensures) (c .go-on .ensures sizes set targets _
+    ∙ goes (limitsOf (s .args .l)) (stateOf (s .args .p) sizes set targets (now (s .args .terms-seen))) (sym (v .before .before .read-term .ensures) ∙ v .variable .given .1)
     (le-ltb _ _ (t1 .if1 .left), (lt-leb _ _ (t2 .if2 .left), (told (t3 .before .is-zero .ensures) (t3 .if3 .left), (told (t4 .before .is-outside .ensures) (t4 .if4 .left), (told (t5 .before .is-marked .ensures) (t5 .if5 .left), tt))))))
 
 pub take-term-spec : {M : Type 1} → statement M

@@ -17,7 +17,7 @@ use Rattle.listing.proofs.put_lines.Tie as tie
 
 abbrev Inv-loop : tie.InvT-loop
 Inv-loop out₀ at plan from until count marks numbers n m values₀ modes₀ times₀ place₀ i₀ out values modes times place i =
-    lining.Writing (table count marks numbers n m) (planNumbers plan) from until (state values₀ modes₀) out₀ at values modes i out place × (length times ≡ 10)
+    lining.Writing (table count marks numbers n m) (planNumbers plan) from until (state values₀ modes₀) out₀ at values modes i out place × (length times ≡ 33)
 
 abbrev μ-loop : tie.MeasureT-loop
 μ-loop out₀ at plan from until count marks numbers n m values₀ modes₀ times₀ place₀ i₀ out values modes times place i = until - i

@@ -29,7 +29,11 @@ decode-source-requires c κs = search needs
 
 returns : tie.Need-returns
 returns c =
-    rw (c .before .part .ensures, c .before .before .before .before .before .pre .0 (c .before .before .before .before .before .args .k) (omega (arith, c .before .before .before .before .before .pre .1)), c .before .before .before .before .before .pre .0 (c .before .before .before .before .before .args .k + 1) (omega (arith, c .before .before .before .before .before .pre .1)), add-one) at (c .decode-source .ensures)
+    let s = c .before .before .before .before .before .before .before in
+    let k = s .args .k in
+    let from = s .pre .0 .0 k (omega (arith, s .pre .0 .1)) in
+    let to = s .pre .0 .0 (k + 1) (omega (arith, s .pre .0 .1)) in
+    rw (c .before .before .before .part .ensures, from, to, add-one) at (c .decode-source .ensures)
 
 pub decode-action-spec : {M : Type 1} → statement M
 decode-action-spec =

@@ -1,92 +1,79 @@
 -- `lowering_file::lower_accepted` meets its contract: the file is counted, and refused or written. Assumes nothing.
-use mathlib.Core.Path.{refl, sym, ap, _∙_}
-use Prim.Native.Nat.{suc}
+use mathlib.Core.Path.{refl, sym}
 use native.Mathlib.Omega.{arith}
 use denote.Ref.{now}
-use lib.ListN.{length}
-use Rattle.lists.proofs.Writing.{room-count, room-as, wrote-as}
-use Rattle.lowering_file.specs.Held.{stagesOfTask}
-use Rattle.lists.proofs.Lent.{counted-short, counted-room, counted-written}
-use Rattle.lowering_file.proofs.File.{task-is, same-long, task-short, accepted-lowers}
 use borrow.Author.Needs.{needs}
+use Rattle.lists.proofs.Writing.{room-count, room-as, wrote-as}
+use Rattle.lists.proofs.Lent.{counted-short, counted-room, counted-written}
+use Rattle.lowering_file.proofs.File.{file-is, same-long, task-short, accepted-lowers}
 use Rattle.lowering_file.proofs.lower_accepted.Statement.{statement}
 use Rattle.lowering_file.proofs.lower_accepted.Tie as tie
 
 read-declarations-requires : tie.Need-read-declarations-requires
-read-declarations-requires c κs = c .before .before .pre
-
-read-goal-requires : tie.Need-read-goal-requires
-read-goal-requires c κs = c .before .before .before .pre
+read-declarations-requires c κs = search needs
 
 find-places-requires : tie.Need-find-places-requires
-find-places-requires c κs = c .before .before .before .before .pre
+find-places-requires c κs = search needs
 
-slice-relend-prefix-put-task : tie.Need-slice-relend-prefix-put-task
-slice-relend-prefix-put-task c = search needs
+slice-relend-prefix-count-task : tie.Need-slice-relend-prefix-count-task
+slice-relend-prefix-count-task c = search needs
 
-slice-aggregate-put-task : tie.Need-slice-aggregate-put-task
-slice-aggregate-put-task c = search needs
+slice-aggregate-count-task : tie.Need-slice-aggregate-count-task
+slice-aggregate-count-task c = search needs
 
-put-task-requires : tie.Need-put-task-requires
-put-task-requires c κs =
-    let s = c .before .before .before .before .before .before .before in
+count-task-requires : tie.Need-count-task-requires
+count-task-requires c κs =
+    let s = c .before .before .before .before .before .before .before .before in
     let file = now (s .args .file) in
-    let d = c .before .before .before .before .read-declarations in
-    let g = c .before .before .before .read-goal in
-    let size = suc (stagesOfTask file) in
-    let same = same-long file (d .result) (g .result) 0 size ∙ ap length (task-is file (s .args .count) (d .result) (g .result) size (d .ensures) (g .ensures) refl) in
-    ((d .ensures, g .ensures, c .before .before .find-places .ensures), room-count refl (omega (arith, same, task-short file (d .ensures .held .is))))
+    let d = c .before .before .before .before .before .read-declarations .ensures in (
+      (s .pre, d, c .before .before .before .before .find-places .ensures),
+      ((refl, refl), room-count refl (omega (arith, same-long file, task-short file (d .held .is)))),
+    )
 
 same-length : tie.Need-same-length
 same-length c = search needs
 
 returns : tie.Need-returns
 returns c =
-    let s = c .before .before .before .before .before .before .before .before .before .before .before in
-    let file = now (s .args .file) in
-    let d = c .before .before .before .before .before .before .before .before .read-declarations in
-    let g = c .before .before .before .before .before .before .before .read-goal in
-    let size = suc (stagesOfTask file) in
-    let same = same-long file (d .result) (g .result) 0 size ∙ ap length (task-is file (s .args .count) (d .result) (g .result) size (d .ensures) (g .ensures) refl) in
-    counted-short _ (accepted-lowers file (d .ensures .held .is)) same (c .before .before .before .put-task .ensures .0) (c .if1 .taken)
+    let file = now (c .before .before .before .before .before .before .before .before .before .before .before .before .args .file) in
+    let is = c .before .before .before .before .before .before .before .before .before .read-declarations .ensures .held .is in
+    counted-short _ (accepted-lowers file is) (same-long file) (c .before .before .before .count-task .ensures .rows .wrote) (c .if1 .taken)
 
-put-task-requires-2 : tie.Need-put-task-requires-2
-put-task-requires-2 c κs =
-    let s = c .before .before .before .before .before .before .before .before .before .before .before .before .before in
+put-task-requires : tie.Need-put-task-requires
+put-task-requires c κs =
+    let counted = c .before .before .before .before .before .before .before in
+    let s = counted .before .before .before .before .before .before .before .before .before in
     let file = now (s .args .file) in
-    let d = c .before .before .before .before .before .before .before .before .before .before .read-declarations in
-    let g = c .before .before .before .before .before .before .before .before .before .read-goal in
-    let size = suc (stagesOfTask file) in
-    let same = same-long file (d .result) (g .result) 0 size ∙ ap length (task-is file (s .args .count) (d .result) (g .result) size (d .ensures) (g .ensures) refl) in
-    let whole = task-is file (s .args .count) (d .result) (g .result) _ (d .ensures) (g .ensures) (c .before .before .before .before .before .put-task .ensures .1) in
-    ((d .ensures, g .ensures, c .before .before .before .before .before .before .before .before .find-places .ensures), room-as (sym whole) (counted-room _ (accepted-lowers file (d .ensures .held .is)) same (c .before .before .before .before .before .put-task .ensures .0) (c .before .before .if1 .left)))
+    let d = counted .before .before .before .before .before .before .read-declarations .ensures in
+    let rows = counted .count-task .ensures .rows in
+    let fits = counted-room _ (accepted-lowers file (d .held .is)) (same-long file) (rows .wrote) (c .before .before .before .before .if1 .left) in (
+      (s .pre, d, counted .before .before .before .before .before .find-places .ensures),
+      ((rows .marksLong, rows .numbersLong, counted .count-task .ensures .told), room-as (sym (file-is file)) fits),
+    )
 
 same-length-2 : tie.Need-same-length-2
 same-length-2 c = search needs
 
 returns-2 : tie.Need-returns-2
 returns-2 c =
-    let s = c .before .before .before .before .before .before .before .before .before .before .before .before .before .before .before .before in
-    let file = now (s .args .file) in
-    let d = c .before .before .before .before .before .before .before .before .before .before .before .before .before .read-declarations in
-    let g = c .before .before .before .before .before .before .before .before .before .before .before .before .read-goal in
-    let size = suc (stagesOfTask file) in
-    let same = same-long file (d .result) (g .result) 0 size ∙ ap length (task-is file (s .args .count) (d .result) (g .result) size (d .ensures) (g .ensures) refl) in
-    let whole = task-is file (s .args .count) (d .result) (g .result) _ (d .ensures) (g .ensures) (c .before .before .before .before .before .before .before .before .put-task .ensures .1) in
-    counted-written _ (accepted-lowers file (d .ensures .held .is)) same (c .before .before .before .before .before .before .before .before .put-task .ensures .0) (c .before .before .before .before .before .if1 .left) (wrote-as whole (c .before .before .put-task2 .ensures .0))
+    let counted = c .before .before .before .before .before .before .before .before .before .before in
+    let file = now (counted .before .before .before .before .before .before .before .before .before .args .file) in
+    let is = counted .before .before .before .before .before .before .read-declarations .ensures .held .is in
+    counted-written _ (accepted-lowers file is) (same-long file) (counted .count-task .ensures .rows .wrote)
+    (c .before .before .before .before .before .before .before .if1 .left)
+    (wrote-as (file-is file) (c .before .before .put-task .ensures))
 
 pub lower-accepted-spec : {M : Type 1} → statement M
 lower-accepted-spec =
     tie.close
     (tie.spec
     read-declarations-requires
-    read-goal-requires
     find-places-requires
-    slice-relend-prefix-put-task
-    slice-aggregate-put-task
-    put-task-requires
+    slice-relend-prefix-count-task
+    slice-aggregate-count-task
+    count-task-requires
     same-length
     returns
-    put-task-requires-2
+    put-task-requires
     same-length-2
     returns-2)

@@ -1,78 +1,79 @@
--- `lowering_rows::put_macro` meets its contract: what its rows and the bounds of its target become is its macro. Assumes nothing.
-use mathlib.Core.Path.{_≡_, refl, sym, ap, _∙_, subst}
-use mathlib.Core.List.{flatMap}
-use Prim.Native.Nat.{_≤_}
+-- `lowering_rows::put_macro` meets its contract: the opening or single action, then the stages; together they are its macro. Assumes nothing.
+use mathlib.Core.Path.{_≡_, sym, ap, _∙_, subst}
+use mathlib.Core.List.{List, flatMap}
+use Prim.Native.Nat.{ℕ}
 use native.Mathlib.Omega.{arith}
+use denote.Ref.{now}
 use lib.ListN.{length}
-use lib.IntN.{ℤ, natAbs}
-use mir.Syntax.{w64}
-use mir.Val.{SFits, toZ, ofZ}
-use mir.Facts.{toZ-ofZ}
-use Rattle.lists.proofs.Loops.{length-mapped}
-use Rattle.lists.proofs.Writing.{room-as, wrote-as}
-use Rattle.model.specs.Tasks.{RestrictedAction}
-use Rattle.file_actions.specs.Views.{effectIs, termsIs, sourceActionIs}
+use borrow.Author.Needs.{needs}
+use Rattle.lists.specs.Writing.{Room}
+use Rattle.lists.proofs.Writing.{step, done, room, room-as, wrote-as}
+use Rattle.commands.specs.Table.{letterA}
+use Rattle.model.specs.Tasks.{Effect, RestrictedAction}
+use Rattle.model.specs.Stages.{firstStage}
 use Rattle.file_parts.specs.Row.{rowIs}
 use Rattle.file_parts.proofs.Pushing.{parts-fit}
+use Rattle.file_actions.specs.Views.{effectsIs, sourceActionIs}
 use Rattle.lowering_stages.specs.Shapes.{lowerOf, upperOf}
-use Rattle.lowering_stages.specs.Stages.{targetIs}
-use Rattle.lowering_stages.proofs.Effects.{moderate, stages-small}
-use Rattle.lowering_rows.specs.Bytes.{restrictedActionBytes}
-use Rattle.lowering_rows.specs.Macros.{MacroFit, macroWith, macroIn}
-use Rattle.lowering_rows.proofs.Macros.{macro-is, macro-fit}
-use borrow.Author.Needs.{needs}
+use Rattle.lowering_rows.specs.Bytes.{restrictedActionBytes, inFour, rowBytes}
+use Rattle.lowering_rows.specs.Macros.{Fit, openingIn, MacroFit, macroWith, stagesIn, macroIn}
+use Rattle.lowering_rows.proofs.Macros.{macro-is, macro-fit, fit-of-four, first-is, macro-begun}
+use Rattle.lowering_rows.proofs.Writing.{action-row}
 use Rattle.lowering_rows.proofs.put_macro.Statement.{statement}
 use Rattle.lowering_rows.proofs.put_macro.Tie as tie
 
--- the array of terms
-long : (s : tie.Start) → length (s .args .action .terms) ≡ 4
-long s = search (needs, length-mapped)
+-- its rows, as an action, and its effects
+abbrev row : tie.Start → RestrictedAction
+row s = rowIs (now (s .args .marks)) (now (s .args .numbers))
 
--- the bounds of its target, as they are handed on
-lower-is : (c : tie.After-lower-of) → toZ w64 (ofZ w64 (c .lower-of .result)) ≡ lowerOf (c .before .before .before .before .before .before .args .shape) (targetIs (c .before .before .before .before .before .before .args .action .effect))
-lower-is c =
-    let k : SFits w64 (c .lower-of .result) = search needs in
-    toZ-ofZ k ∙ c .lower-of .ensures ∙ ap (lowerOf (c .before .before .before .before .before .before .args .shape)) (c .before .target-of .ensures)
+abbrev es : tie.Start → List Effect
+es s = effectsIs (s .args .effects)
 
-upper-is : (c : tie.After-upper-of) → toZ w64 (ofZ w64 (c .upper-of .result)) ≡ upperOf (c .before .before .before .before .before .before .before .args .shape) (targetIs (c .before .before .before .before .before .before .before .args .action .effect))
-upper-is c =
-    let k : SFits w64 (c .upper-of .result) = search needs in
-    toZ-ofZ k ∙ c .upper-of .ensures ∙ ap (upperOf (c .before .before .before .before .before .before .before .args .shape)) (c .before .before .target-of .ensures)
+-- the opening, with the next control, and all that is written
+abbrev opened : tie.Start → ℕ → RestrictedAction
+opened s next = openingIn (s .args .shape) next (es s) (row s)
 
--- what is written
-whole : (c : tie.After-upper-of) → let s = c .before .before .before .before .before .before .before in
-    macroWith (s .args .shape .variables) (s .args .shape .modes) (s .args .from) (rowIs (s .args .action .marks) (s .args .action .numbers)) (effectIs (s .args .action .effect) (termsIs (s .args .action .«term_count») (s .args .action .terms)))
-    (toZ w64 (ofZ w64 (c .before .lower-of .result))) (toZ w64 (ofZ w64 (c .upper-of .result)))
-    ≡ macroIn (s .args .shape) (s .args .from) (s .args .action)
-whole c =
-    let s = c .before .before .before .before .before .before .before in
-    let a = s .args .action in
-    let h = s .args .shape in
-    let ts = termsIs (a .«term_count») (a .terms) in
-    ap (λ (x : RestrictedAction). macroWith (h .variables) (h .modes) (s .args .from) x (effectIs (a .effect) ts) (toZ w64 (ofZ w64 (c .before .lower-of .result))) (toZ w64 (ofZ w64 (c .upper-of .result)))) (s .pre .0 .0 .parts .is)
-    ∙ macro-is (lowerOf h) (upperOf h) (h .variables) (h .modes) (s .args .from) (sourceActionIs a) (a .effect) ts refl _ _ (lower-is (c .before)) (upper-is c)
+abbrev written : tie.Start → List RestrictedAction
+written s = macroWith (s .args .shape) (s .args .from) (es s) (row s)
 
-target-of-requires : tie.Need-target-of-requires
-target-of-requires c κs = search needs
+whole : (s : tie.Start) → written s ≡ macroIn (s .args .shape) (s .args .from)
+    (sourceActionIs (now (s .args .marks)) (now (s .args .numbers)) (s .args .effects))
+whole s =
+    macro-is (s .args .shape) (s .args .from) (sourceActionIs (now (s .args .marks)) (now (s .args .numbers)) (s .args .effects)) (row s)
+    (s .pre .0 .0 .parts .is)
 
-lower-of-requires : tie.Need-lower-of-requires
-lower-of-requires c κs = c .before .before .before .before .before .pre .0 .0 .bounded .variablesFew
+-- an action as its row is written
+abbrev bytes : RestrictedAction → List ℕ
+bytes x = rowBytes letterA (inFour x)
 
-upper-of-requires : tie.Need-upper-of-requires
-upper-of-requires c κs = c .before .before .before .before .before .before .pre .0 .0 .bounded .variablesFew
+-- as many stages as it has, and the opening that is written is that of the macro
+counted : (c : tie.After-stage-count) → let s = c .before .before in c .stage-count .result ≡ length (stagesIn (s .args .shape) (s .args .effects))
+counted c = c .stage-count .ensures .0 (lowerOf (c .before .before .args .shape)) (upperOf (c .before .before .args .shape))
 
-cast-put-effect : tie.Need-cast-put-effect
-cast-put-effect c = search needs
+opening : (c : tie.After-first-stage) → let s = c .before .before .before in opened s (c .first-stage .result)
+    ≡ opened s (firstStage (s .args .from) (stagesIn (s .args .shape) (s .args .effects)))
+opening c =
+    let s = c .before .before .before in
+    ap (opened s) (c .first-stage .ensures ∙ first-is (s .args .from) (c .before .stage-count .result) (stagesIn (s .args .shape) (s .args .effects))
+    (counted (c .before)))
 
-cast-put-effect-2 : tie.Need-cast-put-effect-2
-cast-put-effect-2 c = search needs
+fit : (s : tie.Start) → MacroFit (written s)
+fit s = subst MacroFit (sym (whole s)) (macro-fit _ (s .pre .0 .3))
 
-put-effect-requires : tie.Need-put-effect-requires
-put-effect-requires c κs =
-    let s = c .before .before .before .before .before .before .before .before .before .before .before .before in
+room-for : (s : tie.Start) → Room (now (s .args .out)) (s .args .at) (flatMap restrictedActionBytes (written s))
+room-for s = room-as (ap (flatMap restrictedActionBytes) (sym (whole s))) (s .pre .1)
+
+stage-count-requires : tie.Need-stage-count-requires
+stage-count-requires c κs = search needs
+
+first-stage-requires : tie.Need-first-stage-requires
+first-stage-requires c κs = search needs
+
+put-opening-requires : tie.Need-put-opening-requires
+put-opening-requires c κs =
+    let s = c .before .before .before .before .before .before in
     let h = s .pre .0 .0 in
-    let e = s .args .action .effect in
-    let t = whole (c .before .before .before .before .before) in (
+    let same = opening (c .before .before .before) in (
       (
         parts-fit (h .parts) (record {
           conditions = omega (arith, h .conditionsFew);
@@ -81,19 +82,28 @@ put-effect-requires c κs =
           additions = omega arith;
         }),
         h .parts .numbersLong,
-        (subst (λ (z : ℤ). natAbs z ≤ 10000) (sym (lower-is (c .before .before .before .before .before .before))) (h .bounded .lowerIn (targetIs e)), subst (λ (z : ℤ). natAbs z ≤ 10000) (sym (upper-is (c .before .before .before .before .before))) (h .bounded .upperIn (targetIs e))),
-        moderate (s .args .shape .variables) e _ (h .effectOk),
+        h .bounded,
+        h .effects,
       ),
+      (subst Fit (sym same) (fit-of-four (fit s)), room-as (sym (ap bytes same ∙ action-row _)) (room (room-for s) (macro-begun _ _ _ _))),
+    )
+
+put-stages-requires : tie.Need-put-stages-requires
+put-stages-requires c κs =
+    let s = c .before .before .before .before .before .before .before .before .before .before in
+    let h = s .pre .0 .0 in
+    let wrote = c .before .before .before .put-opening .ensures in
+    let one = step (macro-begun _ _ _ _)
+    (wrote-as (ap bytes (opening (c .before .before .before .before .before .before .before)) ∙ action-row _) (wrote .wrote)) in (
+      (h .bounded, h .effects),
       (
         (
-          h .termsFew,
-          stages-small (s .args .shape .variables) e (s .args .action .«term_count») (s .args .action .terms) (omega (arith, h .termsFew, long s)) (h .effectOk),
-          h .bounded .variablesFew,
+          counted (c .before .before .before .before .before .before .before .before),
+          c .before .before .before .before .before .before .before .before .stage-count .ensures .1,
           s .pre .0 .1,
           s .pre .0 .2,
-          subst MacroFit (sym t) (macro-fit (macroIn (s .args .shape) (s .args .from) (s .args .action)) (s .pre .0 .3)),
         ),
-        room-as (ap (flatMap restrictedActionBytes) (sym t)) (s .pre .1),
+        room (room-for s) one,
       ),
     )
 
@@ -101,17 +111,24 @@ same-length : tie.Need-same-length
 same-length c = search needs
 
 returns : tie.Need-returns
-returns c = wrote-as (ap (flatMap restrictedActionBytes) (whole (c .before .before .before .before .before .before .before .before))) (c .before .before .put-effect .ensures)
+returns c =
+    let s = c .before .before .before .before .before .before .before .before .before .before .before .before .before in
+    let opens = c .before .before .before .before .before .before .put-opening .ensures in
+    let one = step (macro-begun _ _ _ _)
+    (wrote-as (ap bytes (opening (c .before .before .before .before .before .before .before .before .before .before)) ∙ action-row _) (opens .wrote)) in
+    record {
+      wrote = wrote-as (ap (flatMap restrictedActionBytes) (whole s)) (done (step one (c .before .before .put-stages .ensures)));
+      marksLong = opens .marksLong;
+      numbersLong = opens .numbersLong;
+    }
 
 pub put-macro-spec : {M : Type 1} → statement M
 put-macro-spec =
     tie.close
     (tie.spec
-    target-of-requires
-    lower-of-requires
-    upper-of-requires
-    cast-put-effect
-    cast-put-effect-2
-    put-effect-requires
+    stage-count-requires
+    first-stage-requires
+    put-opening-requires
+    put-stages-requires
     same-length
     returns)

@@ -1,105 +1,123 @@
 -- `lowering_rows::put_stages` meets its contract: the loop writes each stage. Assumes nothing.
-use Rattle.lowering_rows.proofs.Stages.{there, same-below, stage-is}
-use Rattle.lowering_rows.proofs.Staging.{stagesBytes, Staging, staging-start, staging-room, staging-next, staging-end}
-use Rattle.lowering_stages.proofs.Effects.{turns-on}
-use Rattle.lowering_stages.specs.Stages.{stagesWith}
-use Rattle.lowering_stages.specs.Shapes.{nextNumber}
-use Rattle.model.specs.Stages.{clear}
-use Rattle.lists.proofs.Writing.{long, room-as, wrote-as}
-use mir.Val.{toZ, ofZ}
-use mir.Syntax.{w64}
-use mir.Facts.{toZ-ofZ}
-use lib.IntN.{ℤ}
-use lib.ListN.{length, getD, getElem?}
-use lib.Dec.{eqb}
-use native.Mathlib.Omega.{arith}
-use Prim.Native.Nat.{ℕ, _+_, _-_, _<_}
-use mathlib.Core.Option.{some}
+use mathlib.Core.Path.{_≡_, refl, sym, ap, _∙_, subst}
 use mathlib.Core.Bool.{false}
-use mathlib.Core.Path.{_≡_, sym, ap, _∙_, subst}
+use mathlib.Core.Option.{some}
+use Prim.Native.Nat.{ℕ, _+_, _-_, _<_}
+use native.Mathlib.Omega.{arith}
+use lib.Dec.{eqb}
+use lib.ListN.{length, getD, getElem?}
+use borrow.Author.Needs.{needs}
+use Rattle.lists.proofs.Writing.{long, room-as, wrote-as}
+use Rattle.model.specs.Stages.{clear}
 use Rattle.file_parts.specs.Layout.{MARKS, NUMBERS}
+use Rattle.lowering_stages.specs.Shapes.{nextNumber}
+use Rattle.lowering_stages.proofs.Effects.{turns-on}
+use Rattle.lowering_rows.specs.Macros.{stagesIn}
+use Rattle.lowering_rows.proofs.Stages.{there, stage-is}
+use Rattle.lowering_rows.proofs.Staging.{Staging, staging-start, staging-room, staging-next, staging-end}
 use Rattle.lowering_rows.proofs.put_stages.Statement.{statement}
 use Rattle.lowering_rows.proofs.put_stages.Tie as tie
 
 abbrev Inv-loop : tie.InvT-loop
-Inv-loop out₀ at marks₀ numbers₀ effect k terms lower upper count a control from place₀ number₀ j₀ out marks numbers place number j =
-    Staging a control from (stagesWith effect k terms (toZ w64 lower) (toZ w64 upper)) out₀ at out place number j × (length marks ≡ MARKS) × (length numbers ≡ NUMBERS)
+Inv-loop out₀ at effects shape count from a control marks₀ numbers₀ place₀ number₀ j₀ out marks numbers place number j =
+    Staging a control from (stagesIn shape effects) out₀ at out place number j × (length marks ≡ MARKS) × (length numbers ≡ NUMBERS)
 
 abbrev μ-loop : tie.MeasureT-loop
-μ-loop out₀ at marks₀ numbers₀ effect k terms lower upper count a control from place₀ number₀ j₀ out marks numbers place number j =
+μ-loop out₀ at effects shape count from a control marks₀ numbers₀ place₀ number₀ j₀ out marks numbers place number j =
     count - j
 
+cast-a : tie.Need-cast-a Inv-loop μ-loop
+cast-a c = search needs
+
+cast-control : tie.Need-cast-control Inv-loop μ-loop
+cast-control c = search needs
+
 loop-holds : tie.Need-loop-holds Inv-loop μ-loop
-loop-holds c = (staging-start, c .before .pre .0 .0, c .before .pre .0 .1)
+loop-holds c = (staging-start, refl, refl)
 
 stage-at-requires : tie.Need-stage-at-requires Inv-loop μ-loop
 stage-at-requires c κs =
-    let s = c .before .before .before .args in
-    let e = toZ-ofZ (c .before .before .before .fits .lower) in
-    let f = toZ-ofZ (c .before .before .before .fits .upper) in
-    (c .before .before .before .pre .1 .0 .2, c .before .before .before .pre .0 .2, c .before .before .before .pre .0 .3, rw (e, f) (c .before .before .before .pre .0 .4), same-below (λ (lower upper : ℤ). stagesWith (s .effect) (s .k) (s .terms) lower upper) e f (omega (arith, c .loop-test .taken, c .before .before .before .pre .1 .0 .0)))
+    let p = c .before .before .before .before .before .pre in
+    (p .0 .0 .variablesFew, p .0 .1, p .0 .0, omega (arith, c .loop-test .taken, p .1 .0 .0))
 
 add-j : tie.Need-add-j Inv-loop μ-loop
-add-j c = omega (arith, c .before .loop-test .taken, c .before .before .before .before .pre .1 .0 .1)
+add-j c = omega (arith, c .before .loop-test .taken, c .before .before .before .before .before .before .pre .1 .0 .1)
 
 sub-next-stage : tie.Need-sub-next-stage Inv-loop μ-loop
 sub-next-stage c = omega (arith, c .before .loop-test .taken)
 
 next-stage-requires : tie.Need-next-stage-requires Inv-loop μ-loop
-next-stage-requires c κs = omega (arith, c .before .before .loop .inv .0 .numberIs, c .before .loop-test .taken, c .before .before .before .before .pre .1 .0 .1, c .before .before .before .before .pre .1 .0 .4)
+next-stage-requires c κs = omega (
+  arith,
+  c .before .before .loop .inv .0 .numberIs,
+  c .before .loop-test .taken,
+  c .before .before .before .before .before .before .pre .1 .0 .1,
+  c .before .before .before .before .before .before .pre .1 .0 .3,
+)
 
 put-stage-requires : tie.Need-put-stage-requires Inv-loop μ-loop
 put-stage-requires c κs =
-    let s = c .before .before .before .before .before .before .before .before .args in
-    let ds = stagesWith (s .effect) (s .k) (s .terms) (toZ w64 (ofZ w64 (s .lower))) (toZ w64 (ofZ w64 (s .upper))) in
-    let same : ds ≡ stagesWith (s .effect) (s .k) (s .terms) (s .lower) (s .upper) = rw (toZ-ofZ (c .before .before .before .before .before .before .before .before .fits .lower), toZ-ofZ (c .before .before .before .before .before .before .before .before .fits .upper)) in
-    let size : s .count ≡ length ds = c .before .before .before .before .before .before .before .before .pre .1 .0 .0 ∙ ap length (sym same) in
-    let j = c .before .before .before .before .before .before .loop .j in
-    let n = c .before .before .before .before .before .before .loop .number in
+    let s = c .before .before .before .before .before .before .before .before .before .before in
+    let loop = c .before .before .before .before .before .before .loop in
+    let h = s .args .shape in
+    let ds = stagesIn h (s .args .effects) in
+    let size = s .pre .1 .0 .0 in
+    let j = loop .j in
+    let n = loop .number in
     let d = getD ds j (clear 0) in
     let below : j < length ds = omega (arith, c .before .before .before .before .before .loop-test .taken, size) in
     let is : getElem? ds j ≡ some d = there ds j (clear 0) below in
     let stands = c .before .before .before .before .stage-at .ensures d is in
-    let on : c .before .before .before .next-stage .result ≡ nextNumber n (length ds - (j + 1)) = c .before .before .before .next-stage .ensures ∙ ap (λ (z : ℕ). nextNumber n (z - (j + 1))) size in
-    let turns = subst (λ (z : ℕ). eqb n z ≡ false) (sym (c .before .before .before .next-stage .ensures)) (turns-on n (s .count - (j + 1)) (omega (arith, c .before .before .before .before .before .before .loop .inv .0 .numberIs, c .before .before .before .before .before .before .before .before .pre .1 .0 .3))) in
-    let bytes = stage-is (s .a) (s .control) n (c .before .before .before .next-stage .result) stands turns in (
-      (c .before .before .before .before .before .before .loop .inv .1, c .before .before .before .before .before .before .loop .inv .2, stands .small),
-      room-as (sym bytes) (staging-room (c .before .before .before .before .before .before .loop .inv .0) d is below (c .before .before .before .next-stage .result) on (room-as (ap (stagesBytes (s .a) (s .control) (s .from)) (sym same)) (c .before .before .before .before .before .before .before .before .pre .1 .1))),
+    let next = c .before .before .before .next-stage .result in
+    let on : next ≡ nextNumber n (length ds - (j + 1)) = c .before .before .before .next-stage .ensures ∙ ap (λ (z : ℕ). nextNumber n (z - (j + 1))) size in
+    let high : 0 < n = omega (arith, loop .inv .0 .numberIs, s .pre .1 .0 .2) in
+    let turns = subst (λ (z : ℕ). eqb n z ≡ false) (sym (c .before .before .before .next-stage .ensures)) (turns-on n (s .args .count - (j + 1)) high) in (
+      (loop .inv .1, loop .inv .2, stands .small),
+      room-as (sym (stage-is (h .variables) (h .modes) n next stands turns)) (staging-room (loop .inv .0) d is below next on (s .pre .1 .1)),
     )
 
 add-number : tie.Need-add-number Inv-loop μ-loop
-add-number c = omega (arith, c .before .before .before .before .before .before .before .before .before .loop .inv .0 .numberIs, c .before .before .before .before .before .before .before .before .loop-test .taken, c .before .before .before .before .before .before .before .before .before .before .before .pre .1 .0 .1, c .before .before .before .before .before .before .before .before .before .before .before .pre .1 .0 .4)
+add-number c = omega (
+  arith,
+  c .before .before .before .before .before .before .before .before .before .loop .inv .0 .numberIs,
+  c .before .before .before .before .before .before .before .before .loop-test .taken,
+  c .before .before .before .before .before .before .before .before .before .before .before .before .before .pre .1 .0 .1,
+  c .before .before .before .before .before .before .before .before .before .before .before .before .before .pre .1 .0 .3,
+)
 
 loop-less : tie.Need-loop-less Inv-loop μ-loop
 loop-less c = omega (arith, c .before .before .before .before .before .before .before .before .loop-test .taken)
 
 loop-again : tie.Need-loop-again Inv-loop μ-loop
 loop-again c =
-    let s = c .before .before .before .before .before .before .before .before .before .before .before .args in
-    let ds = stagesWith (s .effect) (s .k) (s .terms) (toZ w64 (ofZ w64 (s .lower))) (toZ w64 (ofZ w64 (s .upper))) in
-    let same : ds ≡ stagesWith (s .effect) (s .k) (s .terms) (s .lower) (s .upper) = rw (toZ-ofZ (c .before .before .before .before .before .before .before .before .before .before .before .fits .lower), toZ-ofZ (c .before .before .before .before .before .before .before .before .before .before .before .fits .upper)) in
-    let size : s .count ≡ length ds = c .before .before .before .before .before .before .before .before .before .before .before .pre .1 .0 .0 ∙ ap length (sym same) in
-    let j = c .before .before .before .before .before .before .before .before .before .loop .j in
-    let n = c .before .before .before .before .before .before .before .before .before .loop .number in
+    let s = c .before .before .before .before .before .before .before .before .before .before .before .before .before in
+    let loop = c .before .before .before .before .before .before .before .before .before .loop in
+    let h = s .args .shape in
+    let ds = stagesIn h (s .args .effects) in
+    let size = s .pre .1 .0 .0 in
+    let j = loop .j in
+    let n = loop .number in
     let d = getD ds j (clear 0) in
     let below : j < length ds = omega (arith, c .before .before .before .before .before .before .before .before .loop-test .taken, size) in
     let is : getElem? ds j ≡ some d = there ds j (clear 0) below in
     let stands = c .before .before .before .before .before .before .before .stage-at .ensures d is in
-    let on : c .before .before .before .before .before .before .next-stage .result ≡ nextNumber n (length ds - (j + 1)) = c .before .before .before .before .before .before .next-stage .ensures ∙ ap (λ (z : ℕ). nextNumber n (z - (j + 1))) size in
-    let turns = subst (λ (z : ℕ). eqb n z ≡ false) (sym (c .before .before .before .before .before .before .next-stage .ensures)) (turns-on n (s .count - (j + 1)) (omega (arith, c .before .before .before .before .before .before .before .before .before .loop .inv .0 .numberIs, c .before .before .before .before .before .before .before .before .before .before .before .pre .1 .0 .3))) in
-    let bytes = stage-is (s .a) (s .control) n (c .before .before .before .before .before .before .next-stage .result) stands turns in
-    (staging-next (c .before .before .before .before .before .before .before .before .before .loop .inv .0) d is below (c .before .before .before .before .before .before .next-stage .result) on (wrote-as bytes (c .before .before .put-stage .ensures .wrote)), c .before .before .put-stage .ensures .marksLong, c .before .before .put-stage .ensures .numbersLong)
+    let next = c .before .before .before .before .before .before .next-stage .result in
+    let on : next ≡ nextNumber n (length ds - (j + 1)) = c .before .before .before .before .before .before .next-stage .ensures
+    ∙ ap (λ (z : ℕ). nextNumber n (z - (j + 1))) size in
+    let high : 0 < n = omega (arith, loop .inv .0 .numberIs, s .pre .1 .0 .2) in
+    let turns = subst (λ (z : ℕ). eqb n z ≡ false) (sym (c .before .before .before .before .before .before .next-stage .ensures))
+    (turns-on n (s .args .count - (j + 1)) high) in
+    let wrote = wrote-as (stage-is (h .variables) (h .modes) n next stands turns) (c .before .before .put-stage .ensures .wrote) in
+    (staging-next (loop .inv .0) d is below next on wrote, c .before .before .put-stage .ensures .marksLong, c .before .before .put-stage .ensures .numbersLong)
 
 same-length : tie.Need-same-length Inv-loop μ-loop
 same-length c = long (c .before .loop .inv .0 .left)
 
 returns : tie.Need-returns Inv-loop μ-loop
 returns c =
-    let s = c .before .before .before .args in
-    let ds = stagesWith (s .effect) (s .k) (s .terms) (toZ w64 (ofZ w64 (s .lower))) (toZ w64 (ofZ w64 (s .upper))) in
-    let same : ds ≡ stagesWith (s .effect) (s .k) (s .terms) (s .lower) (s .upper) = rw (toZ-ofZ (c .before .before .before .fits .lower), toZ-ofZ (c .before .before .before .fits .upper)) in
-    let size : s .count ≡ length ds = c .before .before .before .pre .1 .0 .0 ∙ ap length (sym same) in
-    wrote-as (ap (stagesBytes (s .a) (s .control) (s .from)) same) (staging-end (c .before .loop .inv .0) (omega (arith, c .loop-test .left, size)))
+    let s = c .before .before .before .before .before in
+    let inv = c .before .loop .inv in
+    staging-end (inv .0) (omega (arith, c .loop-test .left, s .pre .1 .0 .0))
 
 pub put-stages-spec : {M : Type 1} → statement M
 put-stages-spec =
@@ -107,6 +125,8 @@ put-stages-spec =
     (tie.spec
     Inv-loop
     μ-loop
+    cast-a
+    cast-control
     loop-holds
     stage-at-requires
     add-j

@@ -1,18 +1,14 @@
--- `lowering_stages::division_stage` meets its contract: one arm a stage. Assumes nothing.
-use Rattle.model.specs.Stages.{source}
-use mathlib.Core.Path.{_≡_, refl}
+-- `lowering_stages::division_stage` meets its contract: one arm a stage, and Drain and Refill in front. Assumes nothing.
+use mathlib.Core.Path.{sym, _∙_}
 use native.Mathlib.Omega.{arith}
+use lib.IntN.{pos}
 use mir.Facts.{toZ-ofZ}
-use Rattle.lowering_stages.proofs.Rows.{given}
 use borrow.Author.Needs.{needs}
+use Rattle.model.specs.Stages.{drain, refill, divide, empty}
+use Rattle.lowering_stages.proofs.Rows.{given}
+use Rattle.lowering_stages.proofs.Effects.{first-two}
 use Rattle.lowering_stages.proofs.division_stage.Statement.{statement}
 use Rattle.lowering_stages.proofs.division_stage.Tie as tie
-
-drain-of-requires : tie.Need-drain-of-requires
-drain-of-requires c κs = search needs
-
-refill-of-requires : tie.Need-refill-of-requires
-refill-of-requires c κs = search needs
 
 divide-of-requires : tie.Need-divide-of-requires
 divide-of-requires c κs = search needs
@@ -20,46 +16,22 @@ divide-of-requires c κs = search needs
 empty-of-requires : tie.Need-empty-of-requires
 empty-of-requires c κs = search needs
 
-empty-of-requires-2 : tie.Need-empty-of-requires-2
-empty-of-requires-2 c κs = search needs
-
-move-of-requires : tie.Need-move-of-requires
-move-of-requires c κs = search needs
+term-stage-requires : tie.Need-term-stage-requires
+term-stage-requires c κs = search needs
 
 returns : tie.Need-returns
-returns c e m p q = rw (c .before .match .keys1) (given (c .drain-of .ensures))
+returns c name p = rw (c .before .match .keys1) (given (rw (toZ-ofZ (c .before .before .fits .c)) at (c .divide-of .ensures)))
 
 returns-2 : tie.Need-returns-2
-returns-2 c e m p q = rw (c .before .match .keys2) (given (c .refill-of .ensures))
+returns-2 c name p = rw (c .before .match .keys2) (given (c .empty-of .ensures _ name p))
 
 returns-3 : tie.Need-returns-3
-returns-3 c e m p q = rw (c .before .match .keys3) (given (rw (toZ-ofZ (c .before .before .fits .c)) at (c .divide-of .ensures)))
-
-returns-4 : tie.Need-returns-4
-returns-4 c e m p q = rw (c .before .match .keys4) (given (c .empty-of .ensures _ e p))
-
-returns-5 : tie.Need-returns-5
-returns-5 c e m p q = rw (c .before .match .keys5) (given (c .empty-of2 .ensures (c .before .before .args .a) (source (c .before .before .args .t)) refl))
-
-returns-6 : tie.Need-returns-6
-returns-6 c e m p q =
-    let s = c .before .before in
-    let k : s .args .j ≡ 5 = omega (arith, s .pre .1) in
-    rw k (given (rw (toZ-ofZ (s .fits .lower), toZ-ofZ (s .fits .upper)) at (c .move-of .ensures _ m q)))
+returns-3 c name p d e =
+    let s = c .before .before .args in
+    c .term-stage .ensures d
+    (sym (first-two (drain (s .y) (pos 1)) (refill (s .y)) (divide (s .c)) (empty name) (s .j) (λ q. omega arith) (λ q. omega arith)) ∙ e)
 
 pub division-stage-spec : {M : Type 1} → statement M
 division-stage-spec =
     tie.close
-    (tie.spec
-    drain-of-requires
-    refill-of-requires
-    divide-of-requires
-    empty-of-requires
-    empty-of-requires-2
-    move-of-requires
-    returns
-    returns-2
-    returns-3
-    returns-4
-    returns-5
-    returns-6)
+    (tie.spec divide-of-requires empty-of-requires term-stage-requires returns returns-2 returns-3)

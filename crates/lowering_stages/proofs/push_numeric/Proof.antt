@@ -1,101 +1,89 @@
--- `lowering_stages::push_numeric` meets its contract: effect by effect. Assumes nothing.
+-- `lowering_stages::push_numeric` meets its contract: by how many effects there are. Assumes nothing.
+use mathlib.Core.Path.{_≡_, sym, ap, _∙_}
+use mathlib.Core.List.{List}
+use Prim.Native.Nat.{_≤_}
+use native.Mathlib.Omega.{arith}
 use denote.Ref.{now}
-use lib.Dec.{lit≤}
+use lib.ListN.{getD, drop, length}
 use mir.Syntax.{w64}
 use mir.Val.{SFits}
 use mir.Facts.{toZ-ofZ}
-use Rattle.file_parts.specs.Row.{rowIs}
-use Rattle.file_parts.specs.With.{withAddition}
-use Rattle.file_parts.proofs.Pushing.{pushed}
-use Rattle.lowering_stages.proofs.Rows.{own, said}
-use Rattle.lowering_stages.proofs.Openings.{nothing-more, add-more, linear-more, room-less}
-use Rattle.lowering_stages.proofs.Openings.{bound-room}
-use mathlib.Core.List.{[]}
-use Rattle.file_actions.specs.Views.{effectIs}
 use borrow.Author.Needs.{needs}
+use Rattle.lists.proofs.Loops.{length-mapped}
+use Rattle.model.specs.Tasks.{Effect, RestrictedAction}
+use Rattle.file_parts.specs.Row.{rowIs}
+use Rattle.file_actions.specs.Views.{numericIs, effectsIs}
+use Rattle.lowering_stages.specs.Openings.{withNumeric}
+use Rattle.lowering_stages.specs.Shapes.{lowerOf, upperOf}
+use Rattle.lowering_stages.proofs.Effects.{noPlace, effects-length, effects-from, place-ok, no-effects}
+use Rattle.lowering_stages.proofs.Holds.{one-alone}
+use Rattle.lowering_stages.proofs.Rows.{own, said}
+use Rattle.lowering_stages.proofs.Openings.{nothing-more, several-more}
 use Rattle.lowering_stages.proofs.push_numeric.Statement.{statement}
 use Rattle.lowering_stages.proofs.push_numeric.Tie as tie
 
-enum-told : tie.Need-enum-told
-enum-told c = search needs
+-- there are as many places as there is room for
+long : (s : tie.Start) → length (s .args .t3 .places) ≡ 3
+long s = search (needs, length-mapped)
 
-enum-known-effect : tie.Need-enum-known-effect
-enum-known-effect c = search needs
-
-push-bound-requires : tie.Need-push-bound-requires
-push-bound-requires c κs =
-    let s = c .before .before .before .before .before in
-    let e = c .before .before .before .effect .given in
-    let k : SFits w64 (e .0 .1 .0) = search needs in
-    rw (toZ-ofZ k, toZ-ofZ (s .fits .lower), toZ-ofZ (s .fits .upper))
-    (room-less (s .pre .0) (lit≤ tt) (lit≤ tt) (lit≤ tt) (lit≤ tt), s .pre .1, s .pre .2, (rw (e .1) at (s .pre .3)) .1)
-
-push-addition-requires : tie.Need-push-addition-requires
-push-addition-requires c κs =
-    let s = c .before .before .before .before .before .before .before .before in
-    (bound-room (s .args .numbers .now) _ (s .pre .0) (c .before .before .push-bound .ensures), c .before .before .push-bound .ensures .numbersLong)
-
-enum-known-effect-2 : tie.Need-enum-known-effect-2
-enum-known-effect-2 c = search needs
-
-push-given-requires : tie.Need-push-given-requires
-push-given-requires c κs =
-    let s = c .before .before .before .before .before in
-    (room-less (s .pre .0) (lit≤ tt) (lit≤ tt) (lit≤ tt) (lit≤ tt), s .pre .1)
-
-enum-told-2 : tie.Need-enum-told-2
-enum-told-2 c = search needs
-
-enum-told-3 : tie.Need-enum-told-3
-enum-told-3 c = search needs
+abbrev row : tie.Start → RestrictedAction
+row s = rowIs (now (s .args .marks)) (now (s .args .numbers))
 
 returns : tie.Need-returns
 returns c =
-    let s = c .before .before in
-    said (nothing-more (s .args .a) (s .args .lower) (s .args .upper) (effectIs (s .args .effect) []) (rowIs (now (s .args .marks)) (now (s .args .numbers))) (rw (c .enum-told .given .1)) (rw (c .enum-told .given .1)))
+    let s = c .before in
+    let none = no-effects (s .args .t3) (c .if1 .taken) in
+    said (nothing-more (s .args .a) (lowerOf (s .args .shape)) (upperOf (s .args .shape)) (effectsIs (s .args .t3)) (row s) (rw none) (rw none))
     (own (s .pre .0 .long) (s .pre .1))
+
+element-copy-out-first : tie.Need-element-copy-out-first
+element-copy-out-first c = search needs
+
+push-single-requires : tie.Need-push-single-requires
+push-single-requires c κs =
+    let s = c .before .before .before .before .before in
+    (s .pre .0, s .pre .1, s .pre .2, place-ok (s .args .t3) 0 (omega (arith, long s)) (s .args .a) (s .pre .3) (omega arith) .effectOk)
 
 returns-2 : tie.Need-returns-2
 returns-2 c =
-    let s = c .before .before .before .before .before .before .before .before .before in
-    let e = c .before .before .before .before .before .before .before .effect .given in
-    let k : SFits w64 (e .0 .1 .0) = search needs in
-    let one = rw (toZ-ofZ k, toZ-ofZ (s .fits .lower), toZ-ofZ (s .fits .upper)) at (c .before .before .before .push-bound .ensures) in
-    rw (e .1) (said (add-more (s .args .a) (s .args .lower) (s .args .upper) (e .0 .0) (e .0 .1 .0) (rowIs (now (s .args .marks)) (now (s .args .numbers)))) (pushed one withAddition (rw (toZ-ofZ k) at (c .push-addition .ensures))))
+    let s = c .before .before .before .before .before .before in
+    let one = one-alone (s .args .t3) (omega (arith, long s)) (c .before .before .before .if2 .taken) in
+    said (ap (λ (es : List Effect). withNumeric (s .args .a) (lowerOf (s .args .shape)) (upperOf (s .args .shape)) es (row s)) (sym one))
+    (c .push-single .ensures)
+
+entering-amount-requires : tie.Need-entering-amount-requires
+entering-amount-requires c κs = search needs
+
+push-given-requires : tie.Need-push-given-requires
+push-given-requires c κs = search needs
 
 returns-3 : tie.Need-returns-3
 returns-3 c =
-    let s = c .before .before .before .before .before .before in
-    let e = c .before .before .before .before .effect2 .given in
-    let k : SFits w64 (e .0 .1 .0) = search needs in
-    rw (e .1) (said (linear-more (s .args .a) (s .args .lower) (s .args .upper) (e .0 .0) (e .0 .1 .0) (rowIs (now (s .args .marks)) (now (s .args .numbers)))) (rw (toZ-ofZ k) at (c .push-given .ensures)))
-
-returns-4 : tie.Need-returns-4
-returns-4 c =
-    let s = c .before .before in
-    said (nothing-more (s .args .a) (s .args .lower) (s .args .upper) (effectIs (s .args .effect) []) (rowIs (now (s .args .marks)) (now (s .args .numbers))) (rw (c .enum-told2 .given .1)) (rw (c .enum-told2 .given .1)))
-    (own (s .pre .0 .long) (s .pre .1))
-
-returns-5 : tie.Need-returns-5
-returns-5 c =
-    let s = c .before .before in
-    said (nothing-more (s .args .a) (s .args .lower) (s .args .upper) (effectIs (s .args .effect) []) (rowIs (now (s .args .marks)) (now (s .args .numbers))) (rw (c .enum-told3 .given .1)) (rw (c .enum-told3 .given .1)))
-    (own (s .pre .0 .long) (s .pre .1))
+    let s = c .before .before .before .before .before .before .before in
+    let r = s .args .t3 in
+    let k : SFits w64 (c .before .before .before .entering-amount .result) = search needs in
+    let from = effects-from r 0 (omega (arith, long s)) (omega (arith, c .before .before .before .before .before .before .if1 .left)) in
+    let rest = drop 1 (effectsIs r) in
+    let many : 1 ≤ length rest = omega (
+      arith,
+      ap length from,
+      effects-length r,
+      long s,
+      c .before .before .before .before .before .before .if1 .left,
+      c .before .before .before .before .if2 .left,
+    ) in
+    let more = several-more (s .args .a) (lowerOf (s .args .shape)) (upperOf (s .args .shape)) (numericIs (getD (r .places) 0 noPlace)) rest (row s) many in
+    said (more ∙ ap (λ (es : List Effect). withNumeric (s .args .a) (lowerOf (s .args .shape)) (upperOf (s .args .shape)) es (row s)) (sym from))
+    (rw (toZ-ofZ k, c .before .before .before .entering-amount .ensures) at (c .push-given .ensures))
 
 pub push-numeric-spec : {M : Type 1} → statement M
 push-numeric-spec =
     tie.close
     (tie.spec
-    enum-told
-    enum-known-effect
-    push-bound-requires
-    push-addition-requires
-    enum-known-effect-2
-    push-given-requires
-    enum-told-2
-    enum-told-3
     returns
+    element-copy-out-first
+    push-single-requires
     returns-2
-    returns-3
-    returns-4
-    returns-5)
+    entering-amount-requires
+    push-given-requires
+    returns-3)

@@ -1,112 +1,101 @@
--- `lowering_stages::stage_at` meets its contract: effect by effect. Assumes nothing.
-use mathlib.Core.Option.{some}
-use mathlib.Core.Path.{_≡_, refl, sym}
-use Rattle.lowering_stages.specs.Stages.{divisionStages}
-use Rattle.lowering_stages.proofs.Effects.{drained-length, terms-length, same-stages}
-use Rattle.file_actions.specs.Views.{termsIs}
-use Rattle.model.specs.Stages.{helperA, helperB, clear, move}
-use Rattle.lists.proofs.Loops.{length-mapped}
-use mathlib.Core.List.{[], _∷_}
-use lib.ListN.{length}
-use lib.IntN.{ℤ}
-use native.Mathlib.Numerals.{add-one}
+-- `lowering_stages::stage_at` meets its contract: by how many effects there are, and of several by where the stage is found. Assumes nothing.
+use mathlib.Core.Path.{_≡_, refl, sym, ap, _∙_, subst}
+use mathlib.Core.List.{List, [], _∷_}
+use Prim.Native.Nat.{ℕ, zero, suc, _≤_, _<_}
 use native.Mathlib.Omega.{arith}
-use mir.Syntax.{w64}
-use mir.Val.{SFits}
-use mir.Facts.{toZ-ofZ}
+use lib.ListN.{length, getD, getElem?}
 use borrow.Author.Needs.{needs}
+use Rattle.lists.proofs.Loops.{length-mapped}
+use Rattle.model.specs.Tasks.{Effect}
+use Rattle.model.specs.Stages.{stagesOf}
+use Rattle.file_actions.specs.Views.{numericIs, effectsIs}
+use Rattle.lowering_stages.specs.Shapes.{lowerOf, upperOf}
+use Rattle.lowering_stages.proofs.Effects.{noPlace, effects-length, place-ok}
+use Rattle.lowering_stages.proofs.Holds.{no-stages, one-alone, found-held, found-unloaded, found-below}
 use Rattle.lowering_stages.proofs.stage_at.Statement.{statement}
 use Rattle.lowering_stages.proofs.stage_at.Tie as tie
 
-add-b : tie.Need-add-b
-add-b c = search needs
+-- there are as many places as there is room for
+long : (s : tie.Start) → length (s .args .t1 .places) ≡ 3
+long s = search (needs, length-mapped)
 
-enum-told : tie.Need-enum-told
-enum-told c = search needs
+-- an action that has stages has an effect
+counted : (s : tie.Start) → s .args .t1 .count < 2 → s .args .t1 .count ≡ 1
+counted s few = by (s .args .t1 .count) refl
+  where
+    by : (n : ℕ) → n ≡ s .args .t1 .count → s .args .t1 .count ≡ 1
+    by zero e =
+        let none = no-stages (lowerOf (s .args .shape)) (upperOf (s .args .shape)) (effectsIs (s .args .t1)) (omega (arith, effects-length (s .args .t1), e)) in
+        absurd (omega (arith, s .pre .3, ap length none))
+    by (suc n) e = omega arith
 
-empty-of-requires : tie.Need-empty-of-requires
-empty-of-requires c κs = search needs
+single : (s : tie.Start) → s .args .t1 .count < 2 → effectsIs (s .args .t1) ≡ numericIs (getD (s .args .t1 .places) 0 noPlace) ∷ []
+single s few = one-alone (s .args .t1) (omega (arith, long s)) (counted s few)
 
-enum-told-2 : tie.Need-enum-told-2
-enum-told-2 c = search needs
+many : (s : tie.Start) → 2 ≤ s .args .t1 .count → 2 ≤ length (effectsIs (s .args .t1))
+many s h = omega (arith, effects-length (s .args .t1), long s)
 
-empty-of-requires-2 : tie.Need-empty-of-requires-2
-empty-of-requires-2 c κs = search needs
+element-copy-out-place : tie.Need-element-copy-out-place
+element-copy-out-place c = search needs
 
-enum-known-effect : tie.Need-enum-known-effect
-enum-known-effect c = search needs
-
-linear-stage-requires : tie.Need-linear-stage-requires
-linear-stage-requires c κs =
-    let e = c .before .effect .given in
-    let s = c .before .before .before .args in
-    let l : length (s .terms) ≡ 4 = search (needs, length-mapped) in
-    let h = rw (e .1) at (c .before .before .before .pre .4) in
-    rw (toZ-ofZ (c .before .before .before .fits .lower), toZ-ofZ (c .before .before .before .fits .upper))
-    (c .before .before .before .pre .0, c .before .before .before .pre .1, omega (arith, h, c .before .before .before .pre .1, terms-length (s .k) (s .terms), drained-length (clear (e .0 .0) ∷ move (e .0 .0) helperA (s .lower) (s .upper) ∷ []) (termsIs (s .k) (s .terms))), rw (e .1) at (c .before .before .before .pre .2), c .before .before .before .pre .3)
-
-enum-known-effect-2 : tie.Need-enum-known-effect-2
-enum-known-effect-2 c = search needs
-
-division-stage-requires : tie.Need-division-stage-requires
-division-stage-requires c κs =
-    let e = c .before .effect2 .given in
-    let k : SFits w64 (e .0 .1 .1 .0) = search needs in
-    rw (toZ-ofZ k, toZ-ofZ (c .before .before .before .fits .lower), toZ-ofZ (c .before .before .before .fits .upper)) (c .before .before .before .pre .0, rw (e .1) at (c .before .before .before .pre .4), rw (e .1) at (c .before .before .before .pre .2), c .before .before .before .pre .3)
-
-enum-known-effect-3 : tie.Need-enum-known-effect-3
-enum-known-effect-3 c = search needs
-
-division-stage-requires-2 : tie.Need-division-stage-requires-2
-division-stage-requires-2 c κs =
-    let e = c .before .effect3 .given in
-    let k : SFits w64 (e .0 .1 .1 .0) = search needs in
-    rw (toZ-ofZ k, toZ-ofZ (c .before .before .before .fits .lower), toZ-ofZ (c .before .before .before .fits .upper)) (c .before .before .before .pre .0, rw (e .1) at (c .before .before .before .pre .4), rw (e .1) at (c .before .before .before .pre .2), c .before .before .before .pre .3)
+single-stage-requires : tie.Need-single-stage-requires
+single-stage-requires c κs =
+    let s = c .before .before in
+    let few = c .before .if1 .taken in
+    let h = s .args .shape in (
+      s .pre .0,
+      place-ok (s .args .t1) 0 (omega (arith, long s)) (s .args .a) (s .pre .1) (omega (arith, counted s few)),
+      s .pre .2,
+      subst (λ (es : List Effect). s .args .j < length (stagesOf (lowerOf h) (upperOf h) es)) (single s few) (s .pre .3),
+    )
 
 returns : tie.Need-returns
-returns c = let h = rw (c .before .enum-told .given .1) at (c .before .before .before .pre .4) in absurd (omega (arith, h))
+returns c =
+    let s = c .before .before .before in
+    let h = s .args .shape in
+    λ d g. c .single-stage .ensures d
+    (sym (ap (λ (es : List Effect). getElem? (stagesOf (lowerOf h) (upperOf h) es) (s .args .j)) (single s (c .before .before .if1 .taken))) ∙ g)
+
+find-stage-requires : tie.Need-find-stage-requires
+find-stage-requires c κs = search needs
+
+held-stage-requires : tie.Need-held-stage-requires
+held-stage-requires c κs = search needs
 
 returns-2 : tie.Need-returns-2
-returns-2 c = let h = rw (c .before .enum-told2 .given .1) at (c .before .before .before .pre .4) in absurd (omega (arith, h))
+returns-2 c =
+    let s = c .before .before .before .before in
+    let h = s .args .shape in
+    λ d g. c .held-stage .ensures _ d
+    (found-held (lowerOf h) (upperOf h) (c .before .before .find-stage .ensures) (many s (c .before .before .before .if1 .left)) d g)
+
+unload-stage-requires : tie.Need-unload-stage-requires
+unload-stage-requires c κs =
+    let s = c .before .before .before in
+    let h = s .args .shape in
+    let n = effects-length (s .args .t1) in
+    let below = found-below (lowerOf h) (upperOf h) (c .before .find-stage .ensures) (many s (c .before .before .if1 .left)) (omega (arith, n, c .if2 .left))
+    (s .pre .3) in
+    (s .pre .0, s .pre .1 .few .few, s .pre .2, omega (arith, below, n))
 
 returns-3 : tie.Need-returns-3
 returns-3 c =
-    let e = c .before .before .effect .given in
-    rw (e .1) (rw (toZ-ofZ (c .before .before .before .before .fits .lower), toZ-ofZ (c .before .before .before .before .fits .upper)) at (c .linear-stage .ensures))
-
-returns-4 : tie.Need-returns-4
-returns-4 c =
-    let e = c .before .before .effect2 .given in
-    let k : SFits w64 (e .0 .1 .1 .0) = search needs in
-    rw (e .1)
-    (λ d f. c .division-stage .ensures helperA helperB refl (add-one (c .before .before .before .before .args .a)) d
-    (same-stages (λ (x lower upper : ℤ). divisionStages (e .0 .0) (e .0 .1 .0) x helperA helperB lower upper) (c .before .before .before .before .args .j) (some d) (sym (toZ-ofZ k)) (sym (toZ-ofZ (c .before .before .before .before .fits .lower))) (sym (toZ-ofZ (c .before .before .before .before .fits .upper))) f))
-
-returns-5 : tie.Need-returns-5
-returns-5 c =
-    let e = c .before .before .effect3 .given in
-    let k : SFits w64 (e .0 .1 .1 .0) = search needs in
-    rw (e .1)
-    (λ d f. c .division-stage2 .ensures helperB helperA (add-one (c .before .before .before .before .args .a)) refl d
-    (same-stages (λ (x lower upper : ℤ). divisionStages (e .0 .0) (e .0 .1 .0) x helperB helperA lower upper) (c .before .before .before .before .args .j) (some d) (sym (toZ-ofZ k)) (sym (toZ-ofZ (c .before .before .before .before .fits .lower))) (sym (toZ-ofZ (c .before .before .before .before .fits .upper))) f))
+    let s = c .before .before .before .before in
+    let h = s .args .shape in
+    let past : length (effectsIs (s .args .t1)) ≤ c .before .before .find-stage .result .effect = omega
+    (arith, effects-length (s .args .t1), c .before .if2 .left) in
+    λ d g. c .unload-stage .ensures d
+    (found-unloaded (lowerOf h) (upperOf h) (c .before .before .find-stage .ensures) (many s (c .before .before .before .if1 .left)) past d g)
 
 pub stage-at-spec : {M : Type 1} → statement M
 stage-at-spec =
     tie.close
     (tie.spec
-    add-b
-    enum-told
-    empty-of-requires
-    enum-told-2
-    empty-of-requires-2
-    enum-known-effect
-    linear-stage-requires
-    enum-known-effect-2
-    division-stage-requires
-    enum-known-effect-3
-    division-stage-requires-2
+    element-copy-out-place
+    single-stage-requires
     returns
+    find-stage-requires
+    held-stage-requires
     returns-2
-    returns-3
-    returns-4
-    returns-5)
+    unload-stage-requires
+    returns-3)

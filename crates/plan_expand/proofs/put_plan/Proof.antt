@@ -16,7 +16,7 @@ use Rattle.plan_expand.proofs.put_plan.Tie as tie
 
 abbrev Inv-loop : tie.InvT-loop
 Inv-loop out₀ plan steps openings count marks numbers n m values₀ modes₀ times₀ place₀ i₀ out values modes times place i =
-    Going (table count marks numbers n m) openings (planNumbers plan) (state values₀ modes₀) out₀ values modes out place i × (length times ≡ 10)
+    Going (table count marks numbers n m) openings (planNumbers plan) (state values₀ modes₀) out₀ values modes out place i × (length times ≡ 33)
 
 abbrev μ-loop : tie.MeasureT-loop
 μ-loop out₀ plan steps openings count marks numbers n m values₀ modes₀ times₀ place₀ i₀ out values modes times place i =

@@ -1,11 +1,9 @@
 -- `plan_expand::put_turn` meets its contract: the strokes of the step, its numbers written, and the rest of the step. Assumes nothing.
-use mathlib.Core.Path.{sym, ap}
+use mathlib.Core.Path.{refl, sym, ap}
+use native.Mathlib.Omega.{arith}
 use mathlib.Core.List.{List}
 use lib.IntN.{ℤ}
 use denote.Ref.{now}
-use mir.Facts.{toZ-ofZ}
-use mir.Syntax.{w64}
-use mir.Val.{SFits}
 use Rattle.lists.proofs.Writing.{wrote-as, room-as}
 use Rattle.model.specs.Plans.{planBytes}
 use Rattle.source_step.specs.Row.{Reads}
@@ -20,39 +18,35 @@ reads : (s : tie.Start) → Reads (s .args .n) (now (s .args .values)) (now (s .
 reads s = read-when-held (s .args .m) (now (s .args .values)) (now (s .args .modes)) (s .pre .0 .1) (s .pre .0 .5) (s .pre .1 .0)
 
 put-strokes-requires : tie.Need-put-strokes-requires
-put-strokes-requires c κs = let s = c .before .before .before in (s .pre .0 .4, reads s)
+put-strokes-requires c κs = let s = c .before .before .before .before in (s .pre .0 .4, refl, reads s)
+
+abbrev start : tie.After-put-strokes → tie.Start
+start p = p .before .before .before .before .before
 
 put-step-requires : tie.Need-put-step-requires
 put-step-requires c κs =
-    let s = c .before .before .before .before .before .before in
-    let l = c .before .before .put-strokes .ensures in
+    let p = c .before .before in
+    let s = start p in
+    let l = p .put-strokes .ensures .listed in
     ((s .pre .0 .0, l .few, l .long), room-as (ap (λ (zs : List ℤ). planBytes (stepNumbers (s .args .opening) zs)) (sym (l .is))) (s .pre .1 .1))
-
-result-from-requires : tie.Need-result-from-requires
-result-from-requires c κs = (reads (c .before .before .before .before .before .before .before .before .before .before .before), c .before .before .before .before .before .before .before .put-strokes .ensures)
 
 finish-requires : tie.Need-finish-requires
 finish-requires c κs =
-    let s = c .before .before .before .before .before .before .before .before .before .before .before .before .before .before in
-    let r : SFits w64 (c .before .before .result-from .result) = search needs in
-    (s .pre .0 .1, s .pre .0 .2, s .pre .0 .3, s .pre .0 .5 .keeps, rw (toZ-ofZ r) (c .before .before .result-from .ensures))
+    let p = c .before .before .before .before .before .before .before .before in
+    let s = start p in
+    (omega (arith, s .pre .0 .1), s .pre .0 .2, s .pre .0 .3, s .pre .0 .5 .keeps, p .put-strokes .ensures .resultsAre)
 
 same-length : tie.Need-same-length
 same-length c = search needs
 
 returns : tie.Need-returns
 returns c =
-    let s = c .before .before .before .before .before .before .before .before .before .before .before .before .before .before .before in
-    let l = c .before .before .before .before .before .before .before .before .before .before .before .put-strokes .ensures in
-    (wrote-as (ap (λ (zs : List ℤ). planBytes (stepNumbers (s .args .opening) zs)) (l .is)) (c .before .before .before .before .before .before .before .before .put-step .ensures), (turn-taken (c .finish .ensures), l .long))
+    let w = c .before .before .before .before .before .before in
+    let p = w .before .before .before in
+    let s = start p in
+    let l = p .put-strokes .ensures .listed in
+    (wrote-as (ap (λ (zs : List ℤ). planBytes (stepNumbers (s .args .opening) zs)) (l .is)) (w .put-step .ensures), (turn-taken (c .finish .ensures), l .long))
 
 pub put-turn-spec : {M : Type 1} → statement M
 put-turn-spec =
-    tie.close
-    (tie.spec
-    put-strokes-requires
-    put-step-requires
-    result-from-requires
-    finish-requires
-    same-length
-    returns)
+    tie.close (tie.spec put-strokes-requires put-step-requires finish-requires same-length returns)

@@ -1,20 +1,28 @@
 -- `plan_project::advance` meets its contract: an action that stays one is its opening, which stands there. Assumes nothing.
+use mathlib.Core.Bool.{true, false}
+use mathlib.Core.Path.{subst}
 use native.Mathlib.Omega.{arith}
 use denote.Ref.{now}
+use borrow.Author.Tests.{not-true, not-false}
 use Rattle.model.specs.Plans.{planNumbers}
+use Rattle.plan_strokes.specs.Made.{MacroIs}
 use Rattle.plan_project.proofs.Advancing.{one-taken, one-refused}
 use borrow.Author.Needs.{needs}
 use Rattle.plan_project.proofs.advance.Statement.{statement}
 use Rattle.plan_project.proofs.advance.Tie as tie
 
-element-copy-out-if1 : tie.Need-element-copy-out-if1
-element-copy-out-if1 c = search needs
+makes-macro-requires : tie.Need-makes-macro-requires
+makes-macro-requires c κs = search needs
 
 take-requires : tie.Need-take-requires
 take-requires c κs = search needs
 
-add-t20 : tie.Need-add-t20
-add-t20 c = search needs
+add-t18 : tie.Need-add-t18
+add-t18 c = search needs
+
+-- its action stays one
+stays : (f : tie.Then1) → MacroIs (now (f .before .before .before .args .marks)) false
+stays f = subst (MacroIs (now (f .before .before .before .args .marks))) (not-true _ (f .if1 .taken)) (f .before .makes-macro .ensures)
 
 returns : tie.Need-returns
 returns c =
@@ -22,7 +30,7 @@ returns c =
     let f = t .before .before .before in
     let s = f .before .before .before in (
       one-taken (s .args .n) (s .args .m) (now (s .args .marks)) (now (s .args .numbers)) (now (s .args .values)) (now (s .args .modes)) (s .args .total)
-          (s .args .at) (planNumbers (now (s .args .plan))) (s .args .opening) (f .if1 .taken)
+          (s .args .at) (planNumbers (now (s .args .plan))) (s .args .opening) (stays f)
           (t .take .ensures) (s .pre .1 .3) (omega (arith, s .pre .1 .0, s .pre .1 .1)) (c .if2 .taken),
       s .pre .0 .3,
     )
@@ -33,13 +41,18 @@ returns-2 c =
     let f = t .before .before .before in
     let s = f .before .before .before in (
       one-refused (s .args .n) (s .args .m) (now (s .args .marks)) (now (s .args .numbers)) (now (s .args .values)) (now (s .args .modes)) (s .args .total)
-          (s .args .at) (planNumbers (now (s .args .plan))) (s .args .opening) (f .if1 .taken)
+          (s .args .at) (planNumbers (now (s .args .plan))) (s .args .opening) (stays f)
           (t .take .ensures) (c .if2 .left),
       s .pre .0 .3,
     )
 
 advance-macro-requires : tie.Need-advance-macro-requires
-advance-macro-requires c κs = search needs
+advance-macro-requires c κs =
+    let e = c .before .before .before in
+    let m = e .before in
+    let s = m .before .before in
+    let several : MacroIs (now (s .args .marks)) true = subst (MacroIs (now (s .args .marks))) (not-false _ (e .if1 .left)) (m .makes-macro .ensures) in
+    (s .pre .0, (several, s .pre .1 .0, s .pre .1 .1, s .pre .1 .2))
 
 returns-3 : tie.Need-returns-3
 returns-3 c = search needs
@@ -48,9 +61,9 @@ pub advance-spec : {M : Type 1} → statement M
 advance-spec =
     tie.close
     (tie.spec
-    element-copy-out-if1
+    makes-macro-requires
     take-requires
-    add-t20
+    add-t18
     returns
     returns-2
     advance-macro-requires

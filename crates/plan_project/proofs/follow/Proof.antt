@@ -17,7 +17,7 @@ use Rattle.plan_project.proofs.follow.Tie as tie
 
 abbrev Inv-loop : tie.InvT-loop
 Inv-loop plan steps total sources count marks numbers n m values₀ modes₀ noted₀ times₀ found₀ at₀ values modes noted times found at =
-    Going (table count marks numbers n m) total sources (planNumbers plan) (state values₀ modes₀) values modes noted at found × (length times ≡ 10)
+    Going (table count marks numbers n m) total sources (planNumbers plan) (state values₀ modes₀) values modes noted at found × (length times ≡ 33)
 
 abbrev μ-loop : tie.MeasureT-loop
 μ-loop plan steps total sources count marks numbers n m values₀ modes₀ noted₀ times₀ found₀ at₀ values modes noted times found at = steps - at

@@ -1,42 +1,21 @@
--- `plan_strokes::put_two` meets its contract. Assumes nothing.
-use denote.Ref.{now}
+-- `plan_strokes::put_two` meets its contract: one stroke, and one behind it. Assumes nothing.
+use native.Mathlib.Omega.{arith}
 use mir.Facts.{toZ-ofZ}
-use Rattle.plan_strokes.proofs.Making.{two-more}
+use Rattle.plan_strokes.proofs.Making.{then}
 use borrow.Author.Needs.{needs}
 use Rattle.plan_strokes.proofs.put_two.Statement.{statement}
 use Rattle.plan_strokes.proofs.put_two.Tie as tie
 
-add-next : tie.Need-add-next
-add-next c = search needs
+put-one-requires : tie.Need-put-one-requires
+put-one-requires c κs = let s = c .before in (omega (arith, s .pre .0), s .pre .1)
 
-mul-first : tie.Need-mul-first
-mul-first c = search needs
-
-element-set-from-first : tie.Need-element-set-from-first
-element-set-from-first c = search needs
-
-mul-second : tie.Need-mul-second
-mul-second c = search needs
-
-element-set-from-second : tie.Need-element-set-from-second
-element-set-from-second c = search needs
-
-add-result : tie.Need-add-result
-add-result c = search needs
+put-one-requires-2 : tie.Need-put-one-requires-2
+put-one-requires-2 c κs = let m = c .before .put-one .ensures in (omega (arith, m .counted, c .before .before .before .pre .0), m .long)
 
 returns : tie.Need-returns
 returns c =
-    rw (toZ-ofZ (c .fits .first), toZ-ofZ (c .fits .second))
-    (two-more (now (c .args .times)) (c .args .at) (c .args .first) (c .args .second) (c .pre .0) (c .pre .1))
+    let s = c .before .before .before .before in
+    then (simp (toZ-ofZ, s .fits .first) at (c .before .before .put-one .ensures)) (simp (toZ-ofZ, s .fits .second) at (c .put-one2 .ensures))
 
 pub put-two-spec : {M : Type 1} → statement M
-put-two-spec =
-    tie.close
-    (tie.spec
-    add-next
-    mul-first
-    element-set-from-first
-    mul-second
-    element-set-from-second
-    add-result
-    returns)
+put-two-spec = tie.close (tie.spec put-one-requires put-one-requires-2 returns)

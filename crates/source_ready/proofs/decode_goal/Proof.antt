@@ -1,4 +1,5 @@
 -- `source_ready::decode_goal` meets its contract: the place is that of the goal. Assumes nothing.
+
 use borrow.Author.Needs.{needs}
 use Rattle.source_ready.proofs.decode_goal.Statement.{statement}
 use Rattle.source_ready.proofs.decode_goal.Tie as tie
@@ -16,7 +17,14 @@ decode-source-requires : tie.Need-decode-source-requires
 decode-source-requires c κs = search needs
 
 returns : tie.Need-returns
-returns c = rw (c .before .goal-from .ensures, c .before .before .before .before .pre .1) at (c .decode-source .ensures)
+returns c = rw (c .before .before .before .goal-from .ensures, c .before .before .before .before .before .before .pre .1) at (c .decode-source .ensures)
 
 pub decode-goal-spec : {M : Type 1} → statement M
-decode-goal-spec = tie.close (tie.spec mul-goal-from element-copy-out-goal-from goal-from-requires decode-source-requires returns)
+decode-goal-spec =
+    tie.close
+    (tie.spec
+    mul-goal-from
+    element-copy-out-goal-from
+    goal-from-requires
+    decode-source-requires
+    returns)

@@ -26,8 +26,9 @@ decode-source-requires : tie.Need-decode-source-requires
 decode-source-requires c κs = search needs
 
 returns : tie.Need-returns
-returns c = let s = c .before .before .before .before .before in
-    rw (c .before .part .ensures, s .pre .1 .start, s .pre .1 .end, add-one) at (c .decode-source .ensures)
+returns c =
+    let s = c .before .before .before .before .before .before .before in
+    rw (c .before .before .before .part .ensures, s .pre .1 .start, s .pre .1 .end, add-one) at (c .decode-source .ensures)
 
 pub decode-placed-spec : {M : Type 1} → statement M
 decode-placed-spec =

@@ -41,18 +41,18 @@ module _ (f : tie.Else1) where
 
 put-strokes-requires : tie.Need-put-strokes-requires
 put-strokes-requires c κs =
-    let f = c .before .before .before .before .before in
+    let f = c .before .before .before .before .before .before in
     let row = a f .before .before .before .read-row .ensures in
-    (refl, readable row (s f .args .state .values) (s f .args .state .modes) (sym (a f .applies .ensures) ∙ applied f))
+    (refl, refl, readable row (s f .args .state .values) (s f .args .state .modes) (sym (a f .applies .ensures) ∙ applied f))
 
 price-of-requires : tie.Need-price-of-requires
-price-of-requires c κs = let l = c .before .put-strokes .ensures in (l .few, l .long, rw (l .is) (l .within))
+price-of-requires c κs = let l = c .before .put-strokes .ensures .listed in (l .few, l .long, rw (l .is) (l .within))
 
 returns-2 : tie.Need-returns-2
 returns-2 c =
-    let f = c .before .before .before .before .before .before .before .before in
+    let f = c .before .before .before .before .before .before .before .before .before in
     let row = a f .before .before .before .read-row .ensures in
-    let l = c .before .before .put-strokes .ensures in
+    let l = c .before .before .put-strokes .ensures .listed in
     record {
       meets = λ k e. priced-alone row _ _ k e (values-long (s f)) (modes-long (s f)) (a f .applies .ensures) (applied f) l _ (c .price-of .ensures .0);
     }

@@ -2,7 +2,6 @@
 use native.Mathlib.Omega.{arith}
 use denote.Ref.{now}
 use Rattle.model.specs.Limits.{sourceLimits}
-use Rattle.file_actions.specs.Views.{sourceActionIs}
 use Rattle.file_actions.proofs.Accepted.{bytes-of, source-action-decoded}
 use Rattle.file_actions.proofs.Refusals.{given-of}
 use Rattle.file_declarations.proofs.Accepted.{source-held}
@@ -20,25 +19,25 @@ decode-source-requires c κs = search needs
 
 put-row-requires : tie.Need-put-row-requires
 put-row-requires c κs =
-    let d = c .before .before .before .before .before in
-    let s = d .before .before .before .before .before .before .before .before .before in
+    let d = c .before .before .before .before .before .before .before in
+    let s = d .before .before .before .before .before .before .before .before .before .before .before in
     let file = now (s .args .file) in
-    let bytes = bytes-of file (λ i. omega (arith, d .before .before .before .before .before .before .before .before .shared-slice-known .given i)) in
+    let bytes = bytes-of file (λ i. omega (arith, d .before .before .before .before .before .before .before .before .before .before .shared-slice-known .given i)) in
     let k = s .pre .0 .number in
     let of = s .pre .0 .are in
     let g = given-of sourceLimits file k of in
-    let held = source-held zero-room (d .before .read-source .ensures) in
+    let held = source-held zero-room (d .before .before .before .read-source .ensures) in
     let decoded = rw (g .are) at (d .decode-source .ensures) in
     let accepted = accepted-by file k of in
-    (s .pre .1, s .pre .2, action-fits file bytes (g .actions) _ _ _ _ _ accepted (record { starts = _; modes = _; holds = held }) k (g .below) _ decoded)
+    (s .pre .1, s .pre .2, action-fits file bytes (g .actions) _ _ _ _ _ accepted (record { starts = _; modes = _; holds = held }) k (g .below) _ _ _ decoded)
 
 returns : tie.Need-returns
 returns c =
-    let d = c .before .before .before .before .before .before in
-    let s = d .before .before .before .before .before .before .before .before .before in
+    let d = c .before .before .before .before .before .before .before .before in
+    let s = d .before .before .before .before .before .before .before .before .before .before .before in
     let file = now (s .args .file) in
-    let bytes = bytes-of file (λ i. omega (arith, d .before .before .before .before .before .before .before .before .shared-slice-known .given i)) in
-    let held = source-held zero-room (d .before .read-source .ensures) in
+    let bytes = bytes-of file (λ i. omega (arith, d .before .before .before .before .before .before .before .before .before .before .shared-slice-known .given i)) in
+    let held = source-held zero-room (d .before .before .before .read-source .ensures) in
     let h = held (task-of file 0) (task-by file (s .pre .0 .number) (s .pre .0 .are)) in
     record {
       lower = _;
@@ -46,13 +45,13 @@ returns c =
       start = _;
       sizes = _;
       first = _;
-      action = sourceActionIs (d .decode-source .result);
+      action = _;
       row = c .put-row .ensures;
       few = (h .variablesFew, h .modesFew);
       holds = held;
       found = λ t e k of. let g = given-of sourceLimits file k of in
           let counted = counted-task file (g .actions) bytes (accepted-by file k of) t e in
-          source-action-decoded file bytes t e k (omega (arith, counted, g .below)) (d .decode-source .result) (rw (g .are) at (d .decode-source .ensures));
+          source-action-decoded file bytes t e k (omega (arith, counted, g .below)) _ _ (d .decode-source .result) (rw (g .are) at (d .decode-source .ensures));
     }
 
 pub read-row-spec : {M : Type 1} → statement M

@@ -1,10 +1,7 @@
--- `source_step::take` meets its contract: the tests of the rows, then the rest of the step. Assumes nothing.
-use mathlib.Core.Path.{_≡_, sym, _∙_}
+-- `source_step::take` meets its contract: the tests of the rows, the results, then the rest of the step. Assumes nothing.
+use mathlib.Core.Path.{_≡_, refl, sym, _∙_}
 use mathlib.Core.Bool.{true}
 use denote.Ref.{now}
-use mir.Facts.{toZ-ofZ}
-use mir.Syntax.{w64}
-use mir.Val.{SFits}
 use borrow.Author.Tests.{not-true, not-false}
 use borrow.Author.Needs.{needs}
 use Rattle.source_step.specs.Row.{held}
@@ -19,21 +16,25 @@ returns : tie.Need-returns
 returns c = not-held (sym (c .before .holds .ensures) ∙ not-true _ (c .if1 .taken))
 
 -- the rows' test passed
-passed : (c : tie.Else1) → let s = c .before .before .before .before in held (s .args .n) (s .args .m) (now (s .args .marks)) (now (s .args .numbers)) (now (s .args .values)) (now (s .args .modes)) ≡ true
+passed : (c : tie.Else1) → let s = c .before .before .before .before in held (s .args .n) (s .args .m) (now (s .args .marks)) (now (s .args .numbers))
+    (now (s .args .values)) (now (s .args .modes)) ≡ true
 passed c = sym (c .before .holds .ensures) ∙ not-false _ (c .if1 .left)
 
-result-of-requires : tie.Need-result-of-requires
-result-of-requires c κs = let s = c .before .before .before .before .before in read-when-held (s .args .m) (now (s .args .values)) (now (s .args .modes)) (s .pre .0) (s .pre .3) (passed (c .before))
+put-results-requires : tie.Need-put-results-requires
+put-results-requires c κs =
+    let e = c .before .before in
+    let s = e .before .before .before .before in
+    (refl, read-when-held (s .args .m) (now (s .args .values)) (now (s .args .modes)) (s .pre .0) (s .pre .3) (passed e))
 
 finish-requires : tie.Need-finish-requires
 finish-requires c κs =
-    let s = c .before .before .before .before .before .before .before .before in
-    let r : SFits w64 (c .before .before .result-of .result) = search needs in
-    (s .pre .0, s .pre .1, s .pre .2, s .pre .3 .keeps, rw (toZ-ofZ r) (c .before .before .result-of .ensures))
+    let p = c .before .before .before in
+    let s = p .before .before .before .before .before .before .before in
+    (s .pre .0, s .pre .1, s .pre .2, s .pre .3 .keeps, p .put-results .ensures .1)
 
 returns-2 : tie.Need-returns-2
-returns-2 c =
-    behind-the-test (passed (c .before .before .before .before .before)) (c .finish .ensures)
+returns-2 c = behind-the-test (passed (c .before .before .before .before .before .before .before)) (c .finish .ensures)
 
 pub take-spec : {M : Type 1} → statement M
-take-spec = tie.close (tie.spec holds-requires returns result-of-requires finish-requires returns-2)
+take-spec =
+    tie.close (tie.spec holds-requires returns put-results-requires finish-requires returns-2)

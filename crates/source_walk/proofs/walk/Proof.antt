@@ -9,6 +9,7 @@ use Rattle.model.specs.Plans.{planNumbers}
 use Rattle.plan_bytes.proofs.Steps.{halves-long}
 use Rattle.source_step.specs.Step.{state}
 use Rattle.source_step.specs.Table.{table}
+use Rattle.plan_strokes.specs.Strokes.{STAGES}
 use Rattle.source_walk.proofs.Loop.{Going, begins, over, no-action, not-applied, goes}
 use borrow.Author.Needs.{needs}
 use Rattle.source_walk.proofs.walk.Statement.{statement}
@@ -16,7 +17,7 @@ use Rattle.source_walk.proofs.walk.Tie as tie
 
 abbrev Inv-loop : tie.InvT-loop
 Inv-loop plan steps count marks numbers n m priced values₀ modes₀ times₀ price₀ passing₀ i₀ values modes times price passing i =
-    Going (table count marks numbers n m) priced (planNumbers plan) (state values₀ modes₀) values modes i price passing × (length times ≡ 10)
+    Going (table count marks numbers n m) priced (planNumbers plan) (state values₀ modes₀) values modes i price passing × (length times ≡ STAGES)
 
 abbrev μ-loop : tie.MeasureT-loop
 μ-loop plan steps count marks numbers n m priced values₀ modes₀ times₀ price₀ passing₀ i₀ values modes times price passing i =

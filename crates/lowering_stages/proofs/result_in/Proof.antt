@@ -1,0 +1,54 @@
+-- `lowering_stages::result_in` meets its contract: effect by effect. Assumes nothing.
+use native.Mathlib.Numerals.{add-one}
+use borrow.Author.Needs.{needs}
+use Rattle.lowering_stages.proofs.result_in.Statement.{statement}
+use Rattle.lowering_stages.proofs.result_in.Tie as tie
+
+enum-told : tie.Need-enum-told
+enum-told c = search needs
+
+enum-told-2 : tie.Need-enum-told-2
+enum-told-2 c = search needs
+
+enum-told-3 : tie.Need-enum-told-3
+enum-told-3 c = search needs
+
+enum-told-4 : tie.Need-enum-told-4
+enum-told-4 c = search needs
+
+add-result : tie.Need-add-result
+add-result c = search needs
+
+enum-told-5 : tie.Need-enum-told-5
+enum-told-5 c = search needs
+
+returns : tie.Need-returns
+returns c = search needs
+
+returns-2 : tie.Need-returns-2
+returns-2 c = search needs
+
+returns-3 : tie.Need-returns-3
+returns-3 c = search needs
+
+returns-4 : tie.Need-returns-4
+returns-4 c = rw (c .enum-told4 .given .1) (add-one (c .before .before .args .a))
+
+returns-5 : tie.Need-returns-5
+returns-5 c = search needs
+
+pub result-in-spec : {M : Type 1} → statement M
+result-in-spec =
+    tie.close
+    (tie.spec
+    enum-told
+    enum-told-2
+    enum-told-3
+    enum-told-4
+    add-result
+    enum-told-5
+    returns
+    returns-2
+    returns-3
+    returns-4
+    returns-5)
