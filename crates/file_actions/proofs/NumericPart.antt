@@ -1,7 +1,7 @@
 -- The numeric effects of a source action, taken command by command: those taken, with those that the commands that are left give, are all of them,
 -- as far as there is room.
 -- Assumes nothing.
-use mathlib.Core.Path.{_≡_, refl, _∙_, sym, ap}
+use mathlib.Core.Path.{_≡_, refl, _∙_, sym, ap, subst}
 use mathlib.Core.Bool.{Bool, true, false, cond}
 use mathlib.Core.List.{List, [], _∷_, _++_, append-assoc, append-nil, map, map-append}
 use mathlib.Core.Logic.{inl, inr}
@@ -26,17 +26,19 @@ use Rattle.commands.proofs.Encoding.{byte-read}
 use Rattle.commands.proofs.Known.{others}
 use Rattle.model.specs.Tasks.{Effect}
 use Rattle.model.specs.Rules.{constant}
-use Rattle.model.specs.Decoding.{isEdge, upTo, effectsOf, termsOf}
+use Rattle.model.specs.Decoding.{isEdge, upTo, effectsOf, termsOf, sourceActionOf}
 use Rattle.model.specs.ActionBytes.{decodeAction}
-use Rattle.file_actions.specs.declared.Term.{Term as DecodedTerm}
+use Rattle.file_parts.specs.Row.{Says}
 use Rattle.file_actions.specs.declared.Terms.{Terms}
-use Rattle.file_actions.specs.declared.Effect.{Effect as DecodedEffect}
 use Rattle.file_actions.specs.declared.NumericEffect.{NumericEffect}
 use Rattle.file_actions.specs.declared.Effects.{Effects}
+use Rattle.file_actions.specs.declared.Given.{Given}
 use Rattle.file_actions.specs.Places.{bodyStart}
-use Rattle.file_actions.specs.Taking.{CommandsLeft}
+use Rattle.file_actions.specs.Taking.{CommandsLeft, partsOf}
 use Rattle.file_actions.specs.Views.{effectRoom, termRoom, termIs, termsIs, numericIs, effectsIs, fittingEffect}
-use Rattle.file_actions.specs.Numeric.{term, withTerm, TermsRead, noTerms, numericEffect, noEffects, withEffect, effectIn, FewTerms, EffectTaken, EffectsRead}
+use Rattle.file_actions.specs.Views.{fittingSource, fittingRestricted, SourceDecoded}
+use Rattle.file_actions.specs.Numeric.{term, withTerm, TermsRead, noTerms}
+use Rattle.file_actions.specs.Numeric.{noEffects, givingNone, givenIs, effectIn, FewTerms, EffectGiven}
 use Rattle.file_actions.proofs.Taking.{of-row, other-inside}
 use Rattle.file_actions.proofs.Walking.{Turn, next-command, no-command-left, all-passed, Left, left-begin, left-end, some, left-edge, left-next}
 
@@ -181,49 +183,38 @@ all-set P (y ∷ xs) (suc i) x p (q, qs) = (q, all-set P xs i x p qs)
 abbrev Few : NumericEffect → Type 0
 Few e = e .«term_count» ≤ termRoom
 
-module _ (s : List ℕ) (behind : ℕ) (n : Effects) where
-  -- a command that gives an effect
-  pub effect-taken : (e : DecodedEffect) (ts : Terms) (c : Command) → length (n .places) ≡ effectRoom → ts .count ≤ termRoom
-      → ((left : List Command) → CommandsLeft s behind left → numericIs (numericEffect e ts) ∷ [] ≡ map fittingEffect (effectIn c (termsOf left)))
-      → EffectTaken s behind n c (withEffect n (numericEffect e ts))
-  effect-taken e ts c long short is = record {
-    few = count (ltb (n .count) effectRoom) refl;
-    termsFew = terms (ltb (n .count) effectRoom);
-    are = λ few left there.
-        by (ltb (n .count) effectRoom) refl ∙ ap (λ (z : List Effect). take effectRoom (effectsIs n ++ z)) (is left there);
-  }
-    where
-      x : NumericEffect
-      x = numericEffect e ts
+-- effects in as many places as there is room for: no more than fit, and none with more terms than fit
+pub record Held (n : Effects) : Type 0 where
+  pub few : n .count ≤ effectRoom
+  pub termsFew : FewTerms n
+  pub long : length (n .places) ≡ effectRoom
 
-      more : Effects
-      more = record { count = n .count + 1; places = set (n .places) (n .count) x }
+-- r is n with more effects behind its own, as far as there is room
+record Grown (n : Effects) (more : List Effect) (r : Effects) : Type 0 where
+  held : Held r
+  are : effectsIs r ≡ take effectRoom (effectsIs n ++ more)
 
-      count : (t : Bool) → ltb (n .count) effectRoom ≡ t → n .count ≤ effectRoom → cond t more n .count ≤ effectRoom
-      count true q h = omega (arith, ltb-true (n .count) effectRoom q)
-      count false q h = h
+module _ {n : Effects} (h : Held n) where
+  all-taken : effectsIs n ≡ take effectRoom (effectsIs n ++ [])
+  all-taken = whole effectRoom (effectsIs n) (taken-few numericIs (n .count) (n .places) effectRoom (h .few))
 
-      terms : (t : Bool) → FewTerms n → FewTerms (cond t more n)
-      terms true a = all-set Few (n .places) (n .count) x short a
-      terms false a = a
+  module _ (x : NumericEffect) where
+    one-kept : Few x → n .count < effectRoom
+        → Grown n (numericIs x ∷ []) (record { count = n .count + 1; places = set (n .places) (n .count) x })
+    one-kept short room =
+        let l : length (effectsIs n ++ (numericIs x ∷ [])) ≤ effectRoom =
+        omega (arith, length-append (effectsIs n) (numericIs x ∷ []), length-map (take (n .count) (n .places)) numericIs, length-take (n .count) (n .places)) in
+        record {
+          held = record {
+            few = omega arith;
+            termsFew = all-set Few (n .places) (n .count) x short (h .termsFew);
+            long = length-set (n .places) (n .count) x ∙ h .long;
+          };
+          are = stored numericIs effectRoom (n .places) (n .count) x (h .long) room ∙ sym (take-all effectRoom (effectsIs n ++ (numericIs x ∷ [])) l);
+        }
 
-      by : (t : Bool) → ltb (n .count) effectRoom ≡ t → effectsIs (cond t more n) ≡ take effectRoom (effectsIs n ++ (numericIs x ∷ []))
-      by true q =
-          let room = ltb-true (n .count) effectRoom q in
-          let l : length (effectsIs n ++ (numericIs x ∷ [])) ≤ effectRoom =
-          omega (arith, length-append (effectsIs n) (numericIs x ∷ []), length-map (take (n .count) (n .places)) numericIs, length-take (n .count) (n .places)) in
-          stored numericIs effectRoom (n .places) (n .count) x long room ∙ sym (take-all effectRoom (effectsIs n ++ (numericIs x ∷ [])) l)
-      by false q = sym (filled numericIs effectRoom (n .places) (n .count) x long (ltb-false (n .count) effectRoom q) (numericIs x ∷ []))
-
-  -- a command that gives none
-  pub effect-stays : (c : Command) → ((terms : List (ℕ × ℤ)) → effectIn c terms ≡ []) → EffectTaken s behind n c n
-  effect-stays c none = record {
-    few = λ h. h;
-    termsFew = λ h. h;
-    are = λ few left there.
-        whole effectRoom (effectsIs n) (taken-few numericIs (n .count) (n .places) effectRoom few)
-        ∙ ap (λ (z : List Effect). take effectRoom (effectsIs n ++ map fittingEffect z)) (sym (none (termsOf left)));
-  }
+    one-dropped : effectRoom ≤ n .count → Grown n (numericIs x ∷ []) n
+    one-dropped full = record { held = h; are = sym (filled numericIs effectRoom (n .places) (n .count) x (h .long) full (numericIs x ∷ [])) }
 
 -- the effects of a command and those behind it
 effects-behind : (c : Command) (cs : List Command) → effectsOf (c ∷ cs) ≡ effectIn c (termsOf cs) ++ effectsOf cs
@@ -264,8 +255,7 @@ terms-inside (Refused a ∷ cs) = refl
 
 -- the effects taken, with those that `rest` gives, are the action's
 pub record EffectsFrom (s : List ℕ) (n : Effects) (rest : List Command) : Type 0 where
-  pub few : n .count ≤ effectRoom
-  pub termsFew : FewTerms n
+  pub held : Held n
   pub are : take effectRoom (effectsIs n ++ map fittingEffect (effectsOf rest)) ≡ take effectRoom (map fittingEffect (effectsOf (decodeAction s)))
 
 -- before the command at an offset
@@ -273,48 +263,56 @@ abbrev pub EffectsLeft : List ℕ → ℕ → Effects → Type 0
 EffectsLeft s at n = Left s at (EffectsFrom s n)
 
 pub effects-begin : (s : List ℕ) → EffectsLeft s (bodyStart s) noEffects
-effects-begin s = left-begin s (EffectsFrom s noEffects)
-    (record { few = omega arith; termsFew = (omega arith, (omega arith, (omega arith, tt))); are = refl })
+effects-begin s = left-begin s (EffectsFrom s noEffects) (record {
+  held = record { few = omega arith; termsFew = (omega arith, (omega arith, (omega arith, tt))); long = refl };
+  are = refl;
+})
 
-pub effects-end : {s : List ℕ} {at : ℕ} {n : Effects} → EffectsLeft s at n → length s ≤ at → EffectsRead (decodeAction s) n
-effects-end {s} {at} {n} g h =
+-- after the last command, with rows that say the other parts
+pub effects-end : {s : List ℕ} {at : ℕ} {n : Effects} {marks : List ℕ} {numbers : List ℤ} → EffectsLeft s at n → length s ≤ at
+    → Says (fittingRestricted (partsOf false (decodeAction s))) marks numbers → SourceDecoded (fittingSource (sourceActionOf (decodeAction s))) marks numbers n
+effects-end {s} {at} {n} g h parts =
     let p = left-end (EffectsFrom s n) g h in
-    record {
-      few = p .few;
-      termsFew = p .termsFew;
-      are = whole effectRoom (effectsIs n) (taken-few numericIs (n .count) (n .places) effectRoom (p .few)) ∙ p .are;
-    }
+    record { parts = parts; effects = all-taken (p .held) ∙ p .are; few = p .held .few; termsFew = p .held .termsFew }
 
 module _ {s : List ℕ} {at : ℕ} {n : Effects} {rest : List ℕ} {size : ℕ} (t : Turn s at rest size) (g : EffectsLeft s at n) where
   pub effects-edge : OneOf (letterA ∷ letterG ∷ []) (getD rest 0 0) → EffectsLeft s (length s) n
   effects-edge = left-edge t (EffectsFrom s n) g
 
-  turn : {r : Effects} → isEdge (commandAt rest) ≡ false → EffectTaken s (at + size) n (commandAt rest) r → EffectsLeft s (at + size) r
-  turn {r} inside taken = left-next t (EffectsFrom s n) g inside (EffectsFrom s r) (λ more behind p. record {
-    few = taken .few (p .few);
-    termsFew = taken .termsFew (p .termsFew);
-    are =
-        let own : List Effect = map fittingEffect (effectIn (commandAt rest) (termsOf more)) in
-        let later : List Effect = map fittingEffect (effectsOf (upTo more)) in
-        let split : map fittingEffect (effectsOf (commandAt rest ∷ upTo more)) ≡ own ++ later =
-        ap (map fittingEffect) (effects-behind (commandAt rest) (upTo more)
-        ∙ ap (λ (z : List (ℕ × ℤ)). effectIn (commandAt rest) z ++ effectsOf (upTo more)) (sym (terms-inside more)))
-        ∙ map-append fittingEffect (effectIn (commandAt rest) (termsOf more)) (effectsOf (upTo more)) in
-        ap (λ (z : List Effect). take effectRoom (z ++ later)) (taken .are (p .few) more behind)
-        ∙ front-enough effectRoom (effectsIs n ++ own) later
-        ∙ ap (take effectRoom) (append-assoc (effectsIs n) own later)
-        ∙ ap (λ (z : List Effect). take effectRoom (effectsIs n ++ z)) (sym split)
-        ∙ p .are;
-  })
+  -- at any other command they grow by what it gives
+  turn : {r : Effects} → isEdge (commandAt rest) ≡ false
+      → ((left : List Command) → CommandsLeft s (at + size) left → Held n → Grown n (map fittingEffect (effectIn (commandAt rest) (termsOf left))) r)
+      → EffectsLeft s (at + size) r
+  turn {r} inside grows = left-next t (EffectsFrom s n) g inside (EffectsFrom s r) (λ more behind p.
+      let grown = grows more behind (p .held) in
+      let own : List Effect = map fittingEffect (effectIn (commandAt rest) (termsOf more)) in
+      let later : List Effect = map fittingEffect (effectsOf (upTo more)) in
+      let split : map fittingEffect (effectsOf (commandAt rest ∷ upTo more)) ≡ own ++ later =
+      ap (map fittingEffect) (effects-behind (commandAt rest) (upTo more)
+      ∙ ap (λ (z : List (ℕ × ℤ)). effectIn (commandAt rest) z ++ effectsOf (upTo more)) (sym (terms-inside more)))
+      ∙ map-append fittingEffect (effectIn (commandAt rest) (termsOf more)) (effectsOf (upTo more)) in
+      record {
+        held = grown .held;
+        are =
+            ap (λ (z : List Effect). take effectRoom (z ++ later)) (grown .are)
+            ∙ front-enough effectRoom (effectsIs n ++ own) later
+            ∙ ap (take effectRoom) (append-assoc (effectsIs n) own later)
+            ∙ ap (λ (z : List Effect). take effectRoom (effectsIs n ++ z)) (sym split)
+            ∙ p .are;
+      })
 
   -- a C, E, P or T gives none
   plain : (i : ℕ) → i < rows → getD rest 0 0 ≡ rowAt i .byte → isEdge (readRow rest i) ≡ false → ((terms : List (ℕ × ℤ)) → effectIn (readRow rest i) terms ≡ [])
       → EffectsLeft s (at + size) n
   plain i few b inside none =
       let there = some t (EffectsFrom s n) g in
+      let gives : (terms : List (ℕ × ℤ)) → effectIn (commandAt rest) terms ≡ [] =
+      of-row rest i few there b (λ (c : Command). (terms : List (ℕ × ℤ)) → effectIn c terms ≡ []) none (λ terms. refl) in
       turn (of-row rest i few there b (λ (c : Command). isEdge c ≡ false) inside refl)
-      (effect-stays s (at + size) n (commandAt rest)
-      (of-row rest i few there b (λ (c : Command). (terms : List (ℕ × ℤ)) → effectIn c terms ≡ []) none (λ terms. refl)))
+      (λ left behind h. record {
+        held = h;
+        are = all-taken h ∙ ap (λ (z : List Effect). take effectRoom (effectsIs n ++ map fittingEffect z)) (sym (gives (termsOf left)));
+      })
 
   pub effects-pass : OneOf (letterC ∷ letterE ∷ letterP ∷ letterT ∷ []) (getD rest 0 0) → EffectsLeft s (at + size) n
   effects-pass (inl b) = plain 4 (lit< tt) b refl (λ terms. refl)
@@ -322,6 +320,44 @@ module _ {s : List ℕ} {at : ℕ} {n : Effects} {rest : List ℕ} {size : ℕ} 
   effects-pass (inr (inr (inl b))) = plain 5 (lit< tt) b refl (λ terms. refl)
   effects-pass (inr (inr (inr b))) = plain 9 (lit< tt) b refl (λ terms. refl)
 
-  -- any other command
-  pub effects-next : {r : Effects} → (OneOf (letterA ∷ letterG ∷ []) (getD rest 0 0) → ⊥) → EffectTaken s (at + size) n (commandAt rest) r → EffectsLeft s (at + size) r
-  effects-next noEdge taken = turn (other-inside (getD rest 0 0) (commandAt rest) (byte-read rest) (λ b. noEdge (inl b)) (λ b. noEdge (inr b))) taken
+  -- any other command that is no A or G: it gives none, or one that is kept or dropped
+  module _ (noEdge : OneOf (letterA ∷ letterG ∷ []) (getD rest 0 0) → ⊥) {r : Given} (e : EffectGiven s (at + size) (commandAt rest) r) where
+    by : {more : List Effect} {q : Effects} → givenIs r ≡ more → (Held n → Grown n more q) → EffectsLeft s (at + size) q
+    by {more} {q} is grown =
+        turn (other-inside (getD rest 0 0) (commandAt rest) (byte-read rest) (λ b. noEdge (inl b)) (λ b. noEdge (inr b)))
+        (λ left behind h. subst (λ (z : List Effect). Grown n z q) (sym is ∙ e .are left behind) (grown h))
+
+    pub effects-none : r .given ≡ false → EffectsLeft s (at + size) n
+    effects-none is = by (rw is) (λ h. record { held = h; are = all-taken h })
+
+    pub effects-kept : r .given ≡ true → n .count < effectRoom
+        → EffectsLeft s (at + size) (record { count = n .count + 1; places = set (n .places) (n .count) (r .place) })
+    effects-kept is room = by (rw is) (λ h. one-kept h (r .place) (e .termsFew) room)
+
+    pub effects-dropped : r .given ≡ true → effectRoom ≤ n .count → EffectsLeft s (at + size) n
+    effects-dropped is full = by (rw is) (λ h. one-dropped h (r .place) full)
+
+-- ---- a command that gives no effect
+-- its cases: all but those of +, L, Q and R
+abbrev pub plainCases : List ℕ
+plainCases = 0 ∷ 1 ∷ 2 ∷ 3 ∷ 4 ∷ 5 ∷ 6 ∷ 9 ∷ 12 ∷ 13 ∷ 14 ∷ []
+
+no-effect : (c : Command) (terms : List (ℕ × ℤ)) → OneOf plainCases (tagOf the-type c) → effectIn c terms ≡ []
+no-effect (Variable a b d) terms h = refl
+no-effect (Start a) terms h = refl
+no-effect (Mode a b) terms h = refl
+no-effect Action terms h = refl
+no-effect (Condition a b d) terms h = refl
+no-effect (ModeCondition a b) terms h = refl
+no-effect (ModeEffect a b) terms h = refl
+no-effect (Add a b) terms h = absurd (miss plainCases 7 tt h)
+no-effect (Linear a b) terms h = absurd (miss plainCases 8 tt h)
+no-effect (Term a b) terms h = refl
+no-effect (Quotient a b d) terms h = absurd (miss plainCases 10 tt h)
+no-effect (Residue a b d) terms h = absurd (miss plainCases 11 tt h)
+no-effect Goal terms h = refl
+no-effect End terms h = refl
+no-effect (Refused a) terms h = refl
+
+pub gives-none : (s : List ℕ) (behind : ℕ) (c : Command) → OneOf plainCases (tagOf the-type c) → EffectGiven s behind c givingNone
+gives-none s behind c plain = record { termsFew = omega arith; are = λ left there. ap (map fittingEffect) (sym (no-effect c (termsOf left) plain)) }

@@ -2,8 +2,8 @@
 -- Assumes nothing.
 use mathlib.Core.Path.{_≡_}
 use Prim.Native.Nat.{ℕ, _+_, _≤_}
-use mathlib.Core.Bool.{cond}
-use mathlib.Core.List.{List, [], _∷_, _++_, map}
+use mathlib.Core.Bool.{true, false, cond}
+use mathlib.Core.List.{List, [], _∷_, map}
 use lib.Dec.{ltb}
 use lib.IntN.{ℤ, pos}
 use lib.ListN.{take, set, replicate}
@@ -14,15 +14,16 @@ use Rattle.commands.specs.declared.Command.the-variants.{Linear as LinearComman
 use Rattle.commands.specs.declared.Command.the-variants.{Residue as ResidueCommand, Goal, End, Refused}
 use Rattle.model.specs.Tasks.{Effect, addEffect, linearEffect, quotientEffect, residueEffect}
 use Rattle.model.specs.Rules.{constant}
-use Rattle.model.specs.Decoding.{effectsOf, termsOf}
+use Rattle.model.specs.Decoding.{termsOf}
 use Rattle.file_actions.specs.declared.Term.{Term}
 use Rattle.file_actions.specs.declared.Terms.{Terms}
 use Rattle.file_actions.specs.declared.Effect.{Effect as DecodedEffect}
 use Rattle.file_actions.specs.declared.Effect.the-variants.{None}
 use Rattle.file_actions.specs.declared.NumericEffect.{NumericEffect}
 use Rattle.file_actions.specs.declared.Effects.{Effects}
+use Rattle.file_actions.specs.declared.Given.{Given}
 use Rattle.file_actions.specs.Taking.{CommandsLeft}
-use Rattle.file_actions.specs.Views.{effectRoom, termRoom, termsIs, effectsIs, fittingEffect}
+use Rattle.file_actions.specs.Views.{effectRoom, termRoom, termsIs, numericIs, fittingEffect}
 
 -- ---- terms
 abbrev pub term : ℕ → ℤ → Term
@@ -44,12 +45,22 @@ pub record TermsRead (s : List ℕ) (at : ℕ) (r : Terms) : Type 0 where
 abbrev pub numericEffect : DecodedEffect → Terms → NumericEffect
 numericEffect e ts = record { effect = e; «term_count» = ts .count; terms = ts .places }
 
-abbrev pub noEffects : Effects
-noEffects = record { count = 0; places = replicate effectRoom (numericEffect None noTerms) }
+abbrev pub noEffect : NumericEffect
+noEffect = numericEffect None noTerms
 
--- an effect behind the others, where there is room
-abbrev pub withEffect : Effects → NumericEffect → Effects
-withEffect r e = cond (ltb (r .count) effectRoom) (record { count = r .count + 1; places = set (r .places) (r .count) e }) r
+abbrev pub noEffects : Effects
+noEffects = record { count = 0; places = replicate effectRoom noEffect }
+
+-- an effect that is given, and none
+abbrev pub giving : DecodedEffect → Terms → Given
+giving e ts = record { given = true; place = numericEffect e ts }
+
+abbrev pub givingNone : Given
+givingNone = record { given = false; place = noEffect }
+
+-- what is given: none or one
+abbrev pub givenIs : Given → List Effect
+givenIs g = cond (g .given) (numericIs (g .place) ∷ []) []
 
 -- the effect that a command gives, an L with these terms
 abbrev pub effectIn : Command → List (ℕ × ℤ) → List Effect
@@ -73,15 +84,7 @@ effectIn (Refused number) terms = []
 abbrev pub FewTerms : Effects → Type 0
 FewTerms r = All (λ (e : NumericEffect). e .«term_count» ≤ termRoom) (r .places)
 
--- r is n with the effect that a command gives, behind which the commands from an offset on stand
-pub record EffectTaken (s : List ℕ) (behind : ℕ) (n : Effects) (c : Command) (r : Effects) : Type 0 where
-  pub few : n .count ≤ effectRoom → r .count ≤ effectRoom
-  pub termsFew : FewTerms n → FewTerms r
-  pub are : n .count ≤ effectRoom → (left : List Command) → CommandsLeft s behind left
-      → effectsIs r ≡ take effectRoom (effectsIs n ++ map fittingEffect (effectIn c (termsOf left)))
-
--- r are the effects of the commands
-pub record EffectsRead (cs : List Command) (r : Effects) : Type 0 where
-  pub few : r .count ≤ effectRoom
-  pub termsFew : FewTerms r
-  pub are : effectsIs r ≡ take effectRoom (map fittingEffect (effectsOf cs))
+-- r is the effect that a command gives, behind which the commands from an offset on stand
+pub record EffectGiven (s : List ℕ) (behind : ℕ) (c : Command) (r : Given) : Type 0 where
+  pub termsFew : r .place .«term_count» ≤ termRoom
+  pub are : (left : List Command) → CommandsLeft s behind left → givenIs r ≡ map fittingEffect (effectIn c (termsOf left))

@@ -30,7 +30,7 @@ ghost use Rattle.file_parts.specs.Layout.{MARKS, NUMBERS};
 ghost use Rattle.file_parts.specs.Row.{PartsFit, Says};
 ghost use Rattle.file_check.specs.Views.{verdictIs};
 ghost use Rattle.file_actions.specs.Places.{edgesOf, Found, bodyStart, partOf, placedIs, bytesTold, stepPlace, goalFrom, goalPart};
-ghost use Rattle.file_actions.specs.Numeric.{noTerms, withTerm, TermsRead, noEffects, numericEffect, withEffect, EffectTaken, EffectsRead};
+ghost use Rattle.file_actions.specs.Numeric.{noTerms, withTerm, TermsRead, noEffect, noEffects, giving, EffectGiven};
 ghost use Rattle.file_actions.specs.Taking.{partsOf, Takes};
 ghost use Rattle.file_actions.specs.Views.{SourceDecoded, fittingSource, fittingRestricted};
 
@@ -408,95 +408,74 @@ fn terms_at(bytes: &[u8], from: usize) -> Terms
     terms
 }
 
-fn no_effects() -> Effects
-    ensures { λ r. ⌜ r ≡ noEffects ⌝ }
+// A place that holds no effect.
+fn no_effect() -> NumericEffect
+    ensures { λ r. ⌜ r ≡ noEffect ⌝ }
 {
     let none = no_terms();
     let terms = none.places;
-    let place = NumericEffect {
+    NumericEffect {
         effect: Effect::None,
         term_count: 0,
         terms,
-    };
+    }
+}
+
+fn no_effects() -> Effects
+    ensures { λ r. ⌜ r ≡ noEffects ⌝ }
+{
+    let place = no_effect();
     let places = [place; EFFECTS];
     Effects { count: 0, places }
 }
 
-// An effect behind the others, where there is room.
-fn with_effect(effects: Effects, effect: Effect, read: Terms) -> Effects
-    ensures { λ r. ⌜ r ≡ withEffect effects (numericEffect effect read) ⌝ }
-{
-    let count = effects.count;
-    if count < EFFECTS {
-        let terms = read.places;
-        let mut more = effects;
-        more.places[count] = NumericEffect {
-            effect,
-            term_count: read.count,
-            terms,
-        };
-        more.count = count + 1;
-        return more;
-    }
-    effects
+// The effect that a command gives, if any: without one, `place` holds none.
+struct Given {
+    given: bool,
+    place: NumericEffect,
 }
 
-// What a command adds to the effects; the T of an L are those that stand from an offset on.
-fn with_command(effects: Effects, command: Command, bytes: &[u8], behind: usize) -> Effects
-    ensures { λ r. ⌜ EffectTaken (now (bytes .entry)) behind effects command r ⌝ }
+// An effect that is given, with the terms that were read for it.
+fn give(effect: Effect, read: Terms) -> Given
+    ensures { λ r. ⌜ r ≡ giving effect read ⌝ }
+{
+    let terms = read.places;
+    let place = NumericEffect {
+        effect,
+        term_count: read.count,
+        terms,
+    };
+    Given { given: true, place }
+}
+
+// The effect that a command gives; the T of an L are those that stand from an offset on.
+fn effect_given(command: Command, bytes: &[u8], behind: usize) -> Given
+    ensures { λ r. ⌜ EffectGiven (now (bytes .entry)) behind command r ⌝ }
 {
     match command {
-        Command::Add(target, bits) => with_effect(
-            effects,
-            Effect::Add(target, integers::signed(bits)),
-            no_terms(),
-        ),
-        Command::Linear(target, bits) => with_effect(
-            effects,
+        Command::Add(target, bits) => {
+            give(Effect::Add(target, integers::signed(bits)), no_terms())
+        }
+        Command::Linear(target, bits) => give(
             Effect::Linear(target, integers::signed(bits)),
             terms_at(bytes, behind),
         ),
-        Command::Quotient(target, operand, bits) => with_effect(
-            effects,
+        Command::Quotient(target, operand, bits) => give(
             Effect::Quotient(target, operand, integers::signed(bits)),
             no_terms(),
         ),
-        Command::Residue(target, operand, bits) => with_effect(
-            effects,
+        Command::Residue(target, operand, bits) => give(
             Effect::Residue(target, operand, integers::signed(bits)),
             no_terms(),
         ),
-        Command::Variable(_, _, _) => effects,
-        Command::Start(_) => effects,
-        Command::Mode(_, _) => effects,
-        Command::Action => effects,
-        Command::Condition(_, _, _) => effects,
-        Command::ModeCondition(_, _) => effects,
-        Command::ModeEffect(_, _) => effects,
-        Command::Term(_, _) => effects,
-        Command::Goal => effects,
-        Command::End => effects,
-        Command::Refused(_) => effects,
-    }
-}
-
-// The numeric effects of a source action, taken one by one up to the next A or G.
-fn gather_effects(bytes: &[u8]) -> Effects
-    ensures { λ r. ⌜ EffectsRead (decodeAction (now (bytes .entry))) r ⌝ }
-{
-    let mut effects = no_effects();
-    let mut at = body_start(bytes);
-    while at < bytes.len() {
-        let rest = &bytes[at..];
-        let byte = rest[0];
-        at += commands::size_of(byte);
-        match byte {
-            b'C' | b'P' | b'E' | b'T' => {}
-            b'A' | b'G' => at = bytes.len(),
-            _ => effects = with_command(effects, commands::read(rest), bytes, at),
+        _ => {
+            let place = no_effect();
+            Given {
+                given: false,
+                place,
+            }
         }
     }
-    effects
 }
 
 // The restricted action, or the goal of a restricted file, whose bytes these are, in rows that the caller lends and that may hold anything. Of
@@ -509,7 +488,8 @@ pub fn decode_restricted(bytes: &[u8], marks: &mut [u16; MARKS], numbers: &mut [
 }
 
 // The source action, or the goal of a source file, whose bytes these are: its C, P and E in rows that the caller lends and that may hold
-// anything, its effects by value. Of more commands than there is room for, which no accepted file has, the first are taken.
+// anything, its effects by value, taken one by one up to the next A or G. Of more commands than there is room for, which no accepted file has,
+// the first are taken.
 pub fn decode_source(
     bytes: &[u8],
     marks: &mut [u16; MARKS],
@@ -520,5 +500,28 @@ pub fn decode_source(
         (now (marks .exit)) (now (numbers .exit)) r ⌝ }
 {
     gather_parts(bytes, false, marks, numbers);
-    gather_effects(bytes)
+    let mut effects = no_effects();
+    let mut at = body_start(bytes);
+    while at < bytes.len() {
+        let rest = &bytes[at..];
+        let byte = rest[0];
+        at += commands::size_of(byte);
+        match byte {
+            b'C' | b'P' | b'E' | b'T' => {}
+            b'A' | b'G' => at = bytes.len(),
+            _ => {
+                let read = effect_given(commands::read(rest), bytes, at);
+                let given = read.given;
+                let count = effects.count;
+                if given {
+                    if count < EFFECTS {
+                        let place = read.place;
+                        effects.places[count] = place;
+                        effects.count = count + 1;
+                    }
+                }
+            }
+        }
+    }
+    effects
 }

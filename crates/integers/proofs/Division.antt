@@ -1,15 +1,16 @@
--- Euclidean division has one quotient and one residue. The machine's division, that cuts towards 0, is a step of |c| away from them,
--- and c divides what is left of y without the residue. Assumes nothing.
+-- Euclidean division has one quotient and one residue. The machine's division, that cuts towards 0, is a step of |c| away from them.
+-- Assumes nothing.
 use mathlib.Core.Path.{_≡_, refl, sym, ap}
 use mathlib.Core.Bool.{true, false}
-use Prim.Native.Nat.{ℕ, zero, suc, _*_, _/_, _%_, _≤_, _<_}
+use Prim.Native.Nat.{ℕ, zero, suc, _*_, _/_, _%_, _^_, _≤_, _<_}
 use native.Mathlib.Omega.{arith}
 use native.Mathlib.Nat.{div-add-mod, mod-lt, div-le-self}
 use lib.IntN.{ℤ, pos, negsuc, negℤ, natAbs, negℤ-negℤ, negℤ-+ℤ, _+ℤ_, _-ℤ_, _*ℤ_}
 use lib.Signed.{leZ, ltZ, quotZ, remZ}
 use mir.Syntax.{Width}
-use mir.Val.{SFits, ofZ}
+use mir.Val.{SFits, ofZ, hbits}
 use mir.ValLaws.{pow-bits}
+use Rattle.integers.specs.Parts.{Within}
 use Rattle.integers.specs.Division.{Euclid, floor, remainder, quotientOf, residueOf}
 use Rattle.integers.proofs.Parts.{ints, add, sub, neg, mul, abs, mul-up, mul-down, parts-equal}
 use Rattle.integers.proofs.Products.{mul-abs, mul-add, mul-neg, mul-sub, mul-one}
@@ -60,7 +61,7 @@ unique y c q r e =
     (s, omega (ints, e .sum, e′ .sum, ap (λ (z : ℤ). c *ℤ z) s))
 
 -- ---- the division that cuts towards 0
-pub record Truncated (y c q r : ℤ) : Type 0 where
+record Truncated (y c q r : ℤ) : Type 0 where
   pub sum : y ≡ c *ℤ q +ℤ r
   pub small : natAbs r < natAbs c
   pub bound : natAbs q ≤ natAbs y
@@ -68,7 +69,7 @@ pub record Truncated (y c q r : ℤ) : Type 0 where
 abs-neg : (n : ℕ) → natAbs (negℤ (pos n)) ≡ n
 abs-neg n = omega (ints, abs (negℤ (pos n)), neg (pos n))
 
-pub truncated : (y c : ℤ) → 0 < natAbs c → Truncated y c (quotZ y c) (remZ y c)
+truncated : (y c : ℤ) → 0 < natAbs c → Truncated y c (quotZ y c) (remZ y c)
 truncated (pos n) (pos m) h =
     record { sum = ap pos (sym (div-add-mod n m)); small = mod-lt n h; bound = div-le-self n m }
 truncated (pos n) (negsuc m) h =
@@ -86,42 +87,53 @@ truncated (negsuc n) (negsuc m) h =
       bound = div-le-self (suc n) (suc m);
     }
 
--- from there to the residue: nothing to do, up by c, or up by -c
-pub rem-is-residue : (y c : ℤ) → 0 < natAbs c → leZ (pos 0) (remZ y c) ≡ true → remZ y c ≡ residueOf y c
-rem-is-residue y c h t =
-    let e = truncated y c h in
-    unique y c (quotZ y c) (remZ y c) (record { sum = e .sum; low = omega ints; high = omega (ints, abs (remZ y c), e .small) }) .1
+-- from there to the quotient and the residue: the cut quotient is the quotient, or 1 above it, or 1 below it
+module _ (y c : ℤ) (h : 0 < natAbs c) where
+  pub cut-exact : leZ (pos 0) (remZ y c) ≡ true → (quotZ y c ≡ quotientOf y c) × (remZ y c ≡ residueOf y c)
+  cut-exact t =
+      let e = truncated y c h in
+      unique y c (quotZ y c) (remZ y c) (record { sum = e .sum; low = omega ints; high = omega (ints, abs (remZ y c), e .small) })
 
-pub rem-plus-is-residue : (y c : ℤ) → 0 < natAbs c → leZ (pos 0) (remZ y c) ≡ false → ltZ (pos 0) c ≡ true → remZ y c +ℤ c ≡ residueOf y c
-rem-plus-is-residue y c h t u =
-    let e = truncated y c h in
-    unique y c (quotZ y c -ℤ pos 1) (remZ y c +ℤ c)
-    (record {
-      sum = omega (ints, e .sum, mul-sub c (quotZ y c) (pos 1), mul-one c, add (c *ℤ (quotZ y c -ℤ pos 1)) (remZ y c +ℤ c), add (remZ y c) c);
-      low = omega (ints, add (remZ y c) c, e .small, abs c, abs (remZ y c));
-      high = omega (ints, add (remZ y c) c, abs c);
-    }) .1
+  pub cut-above : leZ (pos 0) (remZ y c) ≡ false → ltZ (pos 0) c ≡ true → (quotZ y c -ℤ pos 1 ≡ quotientOf y c) × (remZ y c +ℤ c ≡ residueOf y c)
+  cut-above t u =
+      let e = truncated y c h in
+      unique y c (quotZ y c -ℤ pos 1) (remZ y c +ℤ c)
+      (record {
+        sum = omega (ints, e .sum, mul-sub c (quotZ y c) (pos 1), mul-one c, add (c *ℤ (quotZ y c -ℤ pos 1)) (remZ y c +ℤ c), add (remZ y c) c);
+        low = omega (ints, add (remZ y c) c, e .small, abs c, abs (remZ y c));
+        high = omega (ints, add (remZ y c) c, abs c);
+      })
 
-pub rem-minus-is-residue : (y c : ℤ) → 0 < natAbs c → leZ (pos 0) (remZ y c) ≡ false → ltZ (pos 0) c ≡ false → remZ y c -ℤ c ≡ residueOf y c
-rem-minus-is-residue y c h t u =
-    let e = truncated y c h in
-    unique y c (quotZ y c +ℤ pos 1) (remZ y c -ℤ c)
-    (record {
-      sum = omega (ints, e .sum, mul-add c (quotZ y c) (pos 1), mul-one c, sub (remZ y c) c);
-      low = omega (ints, sub (remZ y c) c, e .small, abs c, abs (remZ y c));
-      high = omega (ints, sub (remZ y c) c, abs c);
-    }) .1
+  pub cut-below : leZ (pos 0) (remZ y c) ≡ false → ltZ (pos 0) c ≡ false → (quotZ y c +ℤ pos 1 ≡ quotientOf y c) × (remZ y c -ℤ c ≡ residueOf y c)
+  cut-below t u =
+      let e = truncated y c h in
+      unique y c (quotZ y c +ℤ pos 1) (remZ y c -ℤ c)
+      (record {
+        sum = omega (ints, e .sum, mul-add c (quotZ y c) (pos 1), mul-one c, sub (remZ y c) c);
+        low = omega (ints, sub (remZ y c) c, e .small, abs c, abs (remZ y c));
+        high = omega (ints, sub (remZ y c) c, abs c);
+      })
 
--- a multiple of c, divided by c
-pub quotient-exact : (c q : ℤ) → 0 < natAbs c → quotZ (c *ℤ q) c ≡ q
-quotient-exact c q h =
-    let e = truncated (c *ℤ q) c h in
-    let q′ = quotZ (c *ℤ q) c in
-    let d = mul-sub c q q′ in
-    let z : q -ℤ q′ ≡ pos 0 = none c (q -ℤ q′) (omega (ints, e .sum, e .small, d, abs (c *ℤ (q -ℤ q′)), abs (remZ (c *ℤ q) c))) in
-    omega (ints, sub q q′)
+-- ---- on the machine
 
 -- what the machine asks of a divisor: its bits are not 0
 pub divisor-bits : (w : Width) (c : ℤ) → SFits w c → 0 < natAbs c → 0 < ofZ w c
 divisor-bits w (pos n) f h = h
 divisor-bits w (negsuc n) f h = omega (arith, pow-bits w, f .sfits)
+
+-- numbers within a bound that a width holds: they, the quotient and what is left fit the width
+pub record Fit (w : Width) (y c : ℤ) : Type 0 where
+  pub dividend : SFits w y
+  pub divisor : SFits w c
+  pub quot : SFits w (quotZ y c)
+  pub rem : SFits w (remZ y c)
+
+pub fit : (w : Width) (n : ℕ) (y c : ℤ) → n < 2 ^ hbits w → Within n y × Within n c × (0 < natAbs c) → Fit w y c
+fit w n y c l h =
+    let e = truncated y c (h .2) in
+    record {
+      dividend = omega (ints, h .0);
+      divisor = omega (ints, h .1);
+      quot = omega (ints, h .0, e .bound, abs y, abs (quotZ y c));
+      rem = omega (ints, h .1, e .small, abs c, abs (remZ y c));
+    }

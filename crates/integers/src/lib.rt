@@ -52,10 +52,10 @@ pub fn is_within(value: i64, limit: u64) -> bool
 
 // The r with y = c × q + r and 0 ≤ r < |c|, for every sign of y and c; c is not 0.
 pub fn residue(y: i64, c: i64) -> i64
-    requires { ⌜ Within 2000000000000000 y × Within 2000000000000000 c × (0 < natAbs c) ⌝ }
+    requires { ⌜ Within 1000000000 y × Within 1000000000 c × (0 < natAbs c) ⌝ }
     ensures { λ r. ⌜ r ≡ residueOf y c ⌝ }
 {
-    let r = y % c;
+    let r = ((y as i32) % (c as i32)) as i64;
     if 0 <= r {
         return r;
     }
@@ -64,11 +64,16 @@ pub fn residue(y: i64, c: i64) -> i64
 
 // The q with y = c × q + r and 0 ≤ r < |c|, for every sign of y and c; c is not 0.
 pub fn quotient(y: i64, c: i64) -> i64
-    requires { ⌜ Within 2000000000000000 y × Within 2000000000000000 c × (0 < natAbs c) ⌝ }
+    requires { ⌜ Within 1000000000 y × Within 1000000000 c × (0 < natAbs c) ⌝ }
     ensures { λ r. ⌜ r ≡ quotientOf y c ⌝ }
 {
-    let r = residue(y, c);
-    (y - r) / c
+    let a = y as i32;
+    let b = c as i32;
+    let q = (a / b) as i64;
+    if 0 <= a % b {
+        return q;
+    }
+    if 0 < b { q - 1 } else { q + 1 }
 }
 
 // The number of a width that stands at a place, least byte first. It is below 256 to the width, so that a caller may narrow it.

@@ -29,6 +29,7 @@ use Rattle.file_actions.specs.Views.{SourceDecoded, fittingSource}
 use Rattle.file_actions.proofs.Accepted.{source-edges, places-at, source-goal-decoded}
 use Rattle.file_declarations.specs.declared.Declared.{Declared}
 use Rattle.file_declarations.specs.Holding.{HoldsSource}
+use Rattle.source_step.specs.Sizes.{ACTIONS}
 use Rattle.source_step.specs.Accepted.{AcceptedWith}
 use Rattle.source_step.proofs.Judging.{accepted-task, counted-task}
 use Rattle.file_parts.proofs.Pushing.{parts-fit}
@@ -66,15 +67,17 @@ module _ (file : List ℕ) (count : ℕ) (bytes : Bytes file) (accepted : Accept
   counted : count ≡ length (taskOf file .actions)
   counted = counted-task file count bytes accepted (taskOf file) is
 
+  pub actions-few : count ≤ ACTIONS
+  actions-few = omega (arith, counted, accepted-source-ok file (taskOf file) is .actionsFew)
+
   -- the offsets of the actions and of the goal, stored from the front of a table of zeros
   pub placed : (places : List ℕ) → places ≡ splice (replicate 33 0) 0 (edgesOf file) → PlacesOf file count places
-  placed places e k h = ap (λ (l : List ℕ). getD l k 0) e ∙ places-at file (replicate 33 0) (omega (arith, edges, few, length-replicate {A = ℕ} 33 0)) k (omega (arith, edges, h, counted))
+  placed places e k h =
+      ap (λ (l : List ℕ). getD l k 0) e
+      ∙ places-at file (replicate 33 0) (omega (arith, edges, actions-few, length-replicate {A = ℕ} 33 0)) k (omega (arith, edges, h))
     where
-      edges : length (edgesOf file) ≡ suc (length (taskOf file .actions))
-      edges = source-edges file bytes (taskOf file) is
-
-      few : length (taskOf file .actions) ≤ 32
-      few = accepted-source-ok file (taskOf file) is .actionsFew
+      edges : length (edgesOf file) ≡ suc count
+      edges = source-edges file bytes (taskOf file) is ∙ ap suc (sym counted)
 
   module _ (r : Declared) (lower upper start : List ℤ) (sizes values : List ℕ) (h : HoldsSource (taskOf file) r lower upper start sizes values) where
     starts-small : Constants (r .variables) start

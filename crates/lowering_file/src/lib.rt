@@ -164,13 +164,19 @@ fn read_declarations(file: &[u8], count: usize) -> Declarations
     }
 }
 
-// The goal of an accepted file with so many actions, as an action: its parts into lent rows.
-fn read_goal(file: &[u8], count: usize, marks: &mut [u16; MARKS], numbers: &mut [i64; NUMBERS])
-    requires { ⌜ AcceptedWith (verdictOf sourceLimits (now file)) count ⌝ }
+// The goal of an accepted file with so many actions, at the place behind theirs, as an action: its parts into lent rows.
+fn read_goal(
+    file: &[u8],
+    places: &[usize; PLACES],
+    count: usize,
+    marks: &mut [u16; MARKS],
+    numbers: &mut [i64; NUMBERS],
+)
+    requires { ⌜ AcceptedWith (verdictOf sourceLimits (now file)) count × PlacesOf (now file) count (now places) ⌝ }
     requires { ⌜ (length (now marks) ≡ MARKS) × (length (now numbers) ≡ NUMBERS) ⌝ }
     ensures { λ _. ⌜ GoalOf (now (file .entry)) (now (marks .exit)) (now (numbers .exit)) ⌝ }
 {
-    file_actions::decode_source(file_actions::goal_bytes(file, count), marks, numbers);
+    file_actions::decode_source(file_actions::goal_from(file, places[count]), marks, numbers);
 }
 
 // The U of the first n of an array.
@@ -313,7 +319,7 @@ fn count_task(
     let several = acted.several;
     let modes = put_starts(out, acted.place, shape.variables, &starts, several);
     let goal = put_modes(out, modes, shape.modes, &sizes, &values, control);
-    read_goal(file, count, marks, numbers);
+    read_goal(file, places, count, marks, numbers);
     let place = put_goal(out, goal, marks, numbers, shape.modes as u8);
     Put {
         place,
@@ -346,7 +352,7 @@ fn put_task(
     let modes = put_starts(out, 0, shape.variables, &starts, several);
     let first = put_modes(out, modes, shape.modes, &sizes, &values, control);
     let acted = put_actions(out, first, file, places, count, shape, marks, numbers);
-    read_goal(file, count, marks, numbers);
+    read_goal(file, places, count, marks, numbers);
     put_goal(out, acted.place, marks, numbers, shape.modes as u8)
 }
 

@@ -65,6 +65,10 @@ pub record Adding (marks₀ : List ℕ) (numbers₀ : List ℤ) (falls : Bool) (
   pub within : i ≤ count
   pub says : Says (withAdditions (rowIs marks₀ numbers₀) (tabulate i (signedAt falls (s .variables) (s .amounts)))) marks numbers
 
+-- an amount of a source file is one of 64 bits
+pub amount-fits : {x : ℤ} → natAbs x ≤ 10000 → SFits w64 x
+amount-fits {x} h = omega (ints, abs x, h)
+
 pub adding-start : {marks : List ℕ} {numbers : List ℤ} (falls : Bool) (s : Numbers) → length marks ≡ MARKS → length numbers ≡ NUMBERS → Adding marks numbers falls s (s .added) 0 marks numbers
 unfolding tabulate
 adding-start {marks} {numbers} falls s h g = record { counted = refl; within = omega arith; says = said (same-additions (rowIs marks numbers)) (own h g) }

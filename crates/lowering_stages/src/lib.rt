@@ -28,7 +28,7 @@ ghost use Rattle.model.specs.Lowering.{numberOfName, numberedAdditions};
 ghost use Rattle.source_step.specs.Sizes.{VARIABLES};
 ghost use Rattle.file_parts.specs.Layout.{MARKS, NUMBERS};
 ghost use Rattle.file_parts.specs.Row.{rowIs, PartsFit, Says};
-ghost use Rattle.file_parts.specs.With.{withCondition};
+ghost use Rattle.file_parts.specs.With.{withCondition, withAddition};
 ghost use Rattle.file_actions.specs.Views.{effectRoom, termRoom, termsIs, numericIs, effectsIs};
 ghost use Rattle.lowering_stages.specs.Stages.{signed, addedIs, askedIs, givenIs, thresholdIs, strokeIs, turnIs, Small, Stands};
 ghost use Rattle.lowering_stages.specs.Stages.{withConditions, withAdditions, StandsAt, FoundAt, enteringAmount, nextAmount};
@@ -515,7 +515,7 @@ pub fn next_stage(number: u16, following: usize) -> u16
 }
 
 // The bounds of a variable.
-pub fn lower_of(shape: Shape, variable: u8) -> i64
+fn lower_of(shape: Shape, variable: u8) -> i64
     requires { ⌜ shape .variables ≤ VARIABLES ⌝ }
     ensures { λ r. ⌜ r ≡ lowerOf shape variable ⌝ }
 {
@@ -523,7 +523,7 @@ pub fn lower_of(shape: Shape, variable: u8) -> i64
     source_step::value_at(&lower, shape.variables, variable)
 }
 
-pub fn upper_of(shape: Shape, variable: u8) -> i64
+fn upper_of(shape: Shape, variable: u8) -> i64
     requires { ⌜ shape .variables ≤ VARIABLES ⌝ }
     ensures { λ r. ⌜ r ≡ upperOf shape variable ⌝ }
 {
@@ -566,18 +566,44 @@ fn signed_by(falls: bool, x: i64) -> i64
     negated(x)
 }
 
+// One addition of a stroke: to this variable this amount, or its opposite where the stroke rises.
+fn push_amount(
+    marks: &mut [u16; MARKS],
+    numbers: &mut [i64; NUMBERS],
+    falls: bool,
+    variable: u8,
+    amount: i64,
+)
+    requires { ⌜ PartsFit 0 0 0 1 (now marks) × (length (now numbers) ≡ NUMBERS) × InRange sourceLimits amount ⌝ }
+    ensures { λ _. ⌜ Says (withAddition (rowIs (now (marks .entry)) (now (numbers .entry))) (variable, signed falls amount))
+        (now (marks .exit)) (now (numbers .exit)) ⌝ }
+{
+    let change = signed_by(falls, amount);
+    file_parts::push_addition(marks, numbers, variable, change);
+}
+
 // What a stroke adds.
 fn push_added(marks: &mut [u16; MARKS], numbers: &mut [i64; NUMBERS], falls: bool, s: Stage)
     requires { ⌜ PartsFit 0 0 0 (s .added) (now marks) × (length (now numbers) ≡ NUMBERS) × Small s ⌝ }
     ensures { λ _. ⌜ Says (withAdditions (rowIs (now (marks .entry)) (now (numbers .entry))) (addedIs falls s)) (now (marks .exit)) (now (numbers .exit)) ⌝ }
 {
     let count = s.added;
-    let mut i: usize = 0;
-    while i < count {
-        let amount = signed_by(falls, s.amounts[i]);
-        file_parts::push_addition(marks, numbers, s.variables[i], amount);
-        i += 1;
+    if count < 1 {
+        return;
     }
+    push_amount(marks, numbers, falls, s.variables[0], s.amounts[0]);
+    if count < 2 {
+        return;
+    }
+    push_amount(marks, numbers, falls, s.variables[1], s.amounts[1]);
+    if count < 3 {
+        return;
+    }
+    push_amount(marks, numbers, falls, s.variables[2], s.amounts[2]);
+    if count < 4 {
+        return;
+    }
+    push_amount(marks, numbers, falls, s.variables[3], s.amounts[3]);
 }
 
 // Falling or rising, of the stage with a number.

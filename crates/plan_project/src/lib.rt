@@ -4,7 +4,7 @@
 // at the first number that differs. The lowering is not made, and no step of it is taken. The file is read in crate source_walk.
 use file_actions::EFFECTS;
 use lists::Written;
-use plan_strokes::Openings;
+use plan_strokes::ENTRIES;
 use plan_strokes::STAGES;
 use source_step::MARKS;
 use source_step::MODES;
@@ -15,7 +15,7 @@ use source_walk::ROWS;
 ghost use mathlib.Core.Path.{_≡_};
 ghost use mathlib.Core.Bool.{true, false};
 ghost use Prim.Native.Nat.{_+_, _*_, _≤_, _<_};
-ghost use lib.ListN.{length, take, getD};
+ghost use lib.ListN.{length, take, getD, replicate};
 ghost use Rattle.lists.specs.Answer.{refused};
 ghost use Rattle.lists.specs.Writing.{Room, Wrote};
 ghost use Rattle.lists.specs.Written.{Lent};
@@ -42,26 +42,17 @@ const NOTED: usize = 512;
 // What stands in the table for a number that opens no source action.
 const NONE: u8 = 32;
 
-// The source action that each restricted number opens, or NONE.
-struct Sources {
-    numbers: [u8; OPENINGS],
-}
-
-// From the numbers of the openings of so many actions.
-fn sources_of(count: usize, openings: Openings) -> Sources
-    requires { ⌜ Openable (openings .numbers) count ⌝ }
-    ensures { λ r. ⌜ Sourced (openings .numbers) count (r .numbers) ⌝ }
+// Which source action each restricted number opens, into a table of NONE, from the numbers of the openings of so many actions.
+fn put_openers(sources: &mut [u8; OPENINGS], count: usize, openings: &[u16; ENTRIES])
+    requires { ⌜ (now sources ≡ replicate 3200 32) × Openable (now openings) count ⌝ }
+    ensures { λ _. ⌜ Sourced (now (openings .entry)) count (now (sources .exit)) ⌝ }
 {
-    let mut s = Sources {
-        numbers: [NONE; OPENINGS],
-    };
     let mut k: usize = 0;
     while k < count {
-        let opening = source_step::wide16(openings.numbers[k]);
-        s.numbers[opening] = k as u8;
+        let opening = source_step::wide16(openings[k]);
+        sources[opening] = k as u8;
         k += 1;
     }
-    s
 }
 
 fn wide(x: u8) -> usize
@@ -209,7 +200,7 @@ fn advance(
     ensures { λ r. ⌜ length (now (times .exit)) ≡ STAGES ⌝ }
 {
     if !plan_strokes::makes_macro(marks) {
-        if source_step::take(values, modes, n, m, marks, numbers) {
+        if source_step::take_single(values, modes, n, m, marks, numbers) {
             return Next::At(at + 1);
         }
         return Next::Refused(12, at as u64);
@@ -485,12 +476,14 @@ fn project_ready(
 {
     let openings = plan_strokes::openings_of(count, marks);
     let total = source_step::wide16(openings.numbers[count]);
-    let sources = sources_of(count, openings);
+    let numbers_of = openings.numbers;
+    let mut sources = [NONE; OPENINGS];
+    put_openers(&mut sources, count, &numbers_of);
     project_rows(
         plan,
         steps,
         total,
-        &sources.numbers,
+        &sources,
         count,
         marks,
         numbers,

@@ -131,6 +131,15 @@ module _ {marks : List ℕ} where
       go zero e = absurd (subst T (sym (m .is []) ∙ none-stays e .is []) tt)
       go (suc k) e = omega arith
 
+  pub stays-few : MacroIs marks false → effectCountAt marks ≤ 1
+  stays-few m = go (effectCountAt marks) refl
+    where
+      go : (k : ℕ) → effectCountAt marks ≡ k → k ≤ 1
+      go zero e = omega arith
+      go (suc zero) e = omega arith
+      go (suc (suc k)) e =
+          let l : 2 ≤ effectCountAt marks = omega (arith, e) in absurd (subst T (sym (several-are-macro l .is []) ∙ m .is []) tt)
+
 -- ---- their strokes
 pub no-strokes : (es : List Effect) (v : ℕ → ℤ) → makesMacro es ≡ false → strokesOf es v ≡ []
 unfolding strokesOf singleStrokes

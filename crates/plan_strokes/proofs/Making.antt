@@ -26,7 +26,7 @@ use Rattle.source_step.proofs.Results.{pairs-are}
 use Rattle.source_step.proofs.Rows.{Row, Left, left-start, left-next, left-none, row-tabulate}
 use Rattle.plan_strokes.specs.Strokes.{STAGES, termStrokes, resultStrokes, heldStrokes, setStrokes, strokesOf}
 use Rattle.plan_strokes.specs.Made.{More, TermsMade, HeldMade, StrokesMade, MacroIs}
-use Rattle.plan_strokes.proofs.Effects.{one-effect, several-effects, no-strokes, workStrokes, macro-strokes, one-held}
+use Rattle.plan_strokes.proofs.Effects.{stays-few, one-effect, several-effects, no-strokes, workStrokes, macro-strokes, one-held}
 use Rattle.plan_strokes.proofs.Ranges.{length-terms, result-few, length-set-strokes, held-length, listed}
 
 -- ---- one stroke more, and those of two makings, one behind the other
@@ -242,6 +242,14 @@ module _ {marks : List ℕ} {results : List ℤ} {u : ℕ → ℤ} {times₀ : L
         counted = omega (arith, g .counted, length-set-strokes u (pairsOf marks results), g .left .row .size);
         long = g .long;
       }
+
+-- ---- what the effect of an action that stays one gives
+pub first-given : (n : ℕ) {marks : List ℕ} (numbers values results : List ℤ) (z : ℤ) → MacroIs marks false → length results ≡ EFFECTS
+    → z ≡ resultAt n marks numbers values 0 → (length (set results 0 z) ≡ EFFECTS) × ResultsAre n marks numbers values (set results 0 z)
+first-given n numbers values results z m l q = (
+  length-set results 0 z ∙ l,
+  λ e h. let p : e ≡ 0 = omega (arith, h, stays-few m) in rw p (getD-set-same results 0 z (pos 0) (omega (arith, l)) ∙ q),
+)
 
 -- ---- all strokes of a row
 module _ {n : ℕ} {marks : List ℕ} {numbers : List ℤ} {values : List ℤ} (h : Reads n values marks numbers) where

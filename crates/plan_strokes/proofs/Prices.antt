@@ -12,13 +12,14 @@ use Rattle.integers.specs.Division.{unitLess, floor}
 use Rattle.integers.specs.Parts.{EachWithin}
 use Rattle.lists.proofs.Loops.{There, there-all, rest-more, rest-none}
 use Rattle.model.specs.Tasks.{Effect, addEffect, linearEffect, quotientEffect, residueEffect}
-use Rattle.model.specs.Steps.{result, results}
+use Rattle.model.specs.Steps.{integerAt, result, results}
 use Rattle.model.specs.Expansion.{magnitudes, priceOfResult, priceOfHeld, priceOfEffects}
 use Rattle.model.proofs.StageValues.{sign-cost}
-use Rattle.source_step.specs.Row.{held, Finished}
+use Rattle.source_step.specs.Row.{effectsAt, held, Finished}
 use Rattle.source_step.proofs.Taking.{not-held, behind-the-test}
 use Rattle.plan_strokes.specs.Strokes.{termStrokes, resultStrokes, heldStrokes, setStrokes, singleStrokes, strokesOf, priceOfStrokes}
-use Rattle.plan_strokes.specs.Made.{StrokesMade, Turned}
+use Rattle.plan_strokes.specs.Made.{StrokesMade, MacroIs, Turned}
+use Rattle.plan_strokes.proofs.Effects.{no-strokes}
 use Rattle.plan_strokes.proofs.Walks.{stepsOf, steps-of-both}
 
 -- ---- the price of effects is that of their strokes
@@ -79,6 +80,17 @@ module _ {times : List ℤ} {count price i : ℕ} (g : Pricing times count price
 module _ {n m : ℕ} {marks : List ℕ} {numbers : List ℤ} {values : List ℤ} {modes : List ℕ} where
   pub turned-away : held n m marks numbers values modes ≡ false → Turned n m marks numbers values modes (record { applied = false; price = 0 }) values modes
   turned-away e = record { stepped = not-held e; price = rw e refl; few = omega arith }
+
+  pub turned-single : held n m marks numbers values modes ≡ true → MacroIs marks false → (r : Bool) {values′ : List ℤ} {modes′ : List ℕ}
+      → Finished n m marks numbers values modes r values′ modes′ → Turned n m marks numbers values modes (record { applied = r; price = 1 }) values′ modes′
+  turned-single e s r F =
+      let es = effectsAt marks numbers in
+      let v = integerAt (take n values) in
+      record {
+        stepped = behind-the-test e F;
+        price = rw e (sym (price-is es v ∙ ap priceOfStrokes (no-strokes es v (s .is numbers))));
+        few = omega arith;
+      }
 
   pub turned : held n m marks numbers values modes ≡ true → {times results : List ℤ} {count : ℕ} → StrokesMade n marks numbers values times results count
       → (p : ℕ) → (p ≡ priceOfStrokes (take count times)) × (p ≤ 40000000000) → (r : Bool) {values′ : List ℤ} {modes′ : List ℕ}

@@ -20,6 +20,7 @@ use source_step::TARGET;
 use source_step::TERM;
 use source_step::VARIABLES;
 ghost use mathlib.Core.Path.{_≡_};
+ghost use mathlib.Core.Bool.{true};
 ghost use mathlib.Core.List.{[], _∷_};
 ghost use Prim.Native.Nat.{_+_, _≤_, _<_};
 ghost use lib.ListN.{length, take, drop};
@@ -222,9 +223,30 @@ fn put_sets(
     place
 }
 
+// The strokes of the single effect of a row, which makes a macro, and what it gives. The result stays where the stages before Clear leave it,
+// so that Clear takes the place of the Move into a hold.
+fn put_single(
+    times: &mut [i64; STAGES],
+    results: &mut [i64; EFFECTS],
+    values: &[i64; VARIABLES],
+    n: usize,
+    marks: &[u16; MARKS],
+    numbers: &[i64; NUMBERS],
+) -> usize
+    requires { ⌜ (length (now times) ≡ STAGES) × (length (now results) ≡ EFFECTS) × Reads n (now values) (now marks) (now numbers)
+        × MacroIs (now marks) true × (effectCountAt (now marks) ≡ 1) ⌝ }
+    ensures { λ r. ⌜ StrokesMade n (now (marks .entry)) (now (numbers .entry)) (now (values .entry)) (now (times .exit)) (now (results .exit)) r ⌝ }
+{
+    let behind = put_result(times, 0, values, n, marks, numbers, 0);
+    let last = behind - 1;
+    let result = times[last];
+    results[0] = result;
+    let before = source_step::value_of(values, n, marks[TARGET]);
+    put_two(times, last, before, result)
+}
+
 // The strokes of the effects of a row, over the values before the step, at the front of lent times, and how many there are: none where the
-// action stays one. What the effects give goes into lent results. A single effect's result stays where the stages before Clear leave it, so
-// that Clear takes the place of the Move into a hold.
+// action stays one. What the effects give goes into lent results.
 pub fn put_strokes(
     times: &mut [i64; STAGES],
     results: &mut [i64; EFFECTS],
@@ -237,14 +259,14 @@ pub fn put_strokes(
     ensures { λ r. ⌜ StrokesMade n (now (marks .entry)) (now (numbers .entry)) (now (values .entry)) (now (times .exit)) (now (results .exit)) r ⌝ }
 {
     if !makes_macro(marks) {
-        source_step::put_results(results, values, n, marks, numbers);
+        results[0] = source_step::result_of(values, n, marks, numbers, 0);
         return 0;
     }
     let count = source_step::effect_count(marks);
-    let held = put_held(times, results, values, n, marks, numbers, count);
     if count == 1 {
-        return put_sets(times, held - 1, results, values, n, marks, count);
+        return put_single(times, results, values, n, marks, numbers);
     }
+    let held = put_held(times, results, values, n, marks, numbers, count);
     put_sets(times, held, results, values, n, marks, count)
 }
 
@@ -269,7 +291,7 @@ pub struct Turn {
 }
 
 // Takes the action of two rows in a lent state where it applies, and else leaves the state as it was. The price is counted from the values
-// before. The times are lent for its strokes.
+// before: an action that stays one costs 1, without strokes. The times are lent for strokes.
 pub fn take_priced(
     values: &mut [i64; VARIABLES],
     modes: &mut [u16; MODES],
@@ -289,6 +311,11 @@ pub fn take_priced(
             applied: false,
             price: 0,
         };
+    }
+    if !makes_macro(marks) {
+        let result = source_step::result_of(values, n, marks, numbers, 0);
+        let applied = source_step::finish_single(values, modes, n, m, marks, numbers, result);
+        return Turn { applied, price: 1 };
     }
     let mut results = [0i64; EFFECTS];
     let count = put_strokes(times, &mut results, values, n, marks, numbers);

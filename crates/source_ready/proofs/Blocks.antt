@@ -86,7 +86,6 @@ module _ {e n : ℕ} {lower upper : List ℤ} {f : Effect} {marks : List ℕ} {n
       constant = rw constant-same (B .bounded .constant);
       weights = λ i l. rw (weight-same i l) (B .bounded .weights i l);
       divides = λ l. rw constant-same (B .bounded .divides (omega (arith, kind-same)));
-      unweighted = λ i l k. weight-same i l ∙ B .bounded .unweighted i l (omega (arith, count-same));
     };
     targetDeclared = rw target-same (B .targetDeclared);
     lowerAt = rw target-same (sameNumbers (LOWER + BLOCK * e) (omega arith) (omega arith) ∙ B .lowerAt);
@@ -99,7 +98,6 @@ blank-bounded b e h = record {
   constant = rw (b .numbersBlank (CONSTANT + BLOCK * e) (omega arith)) (omega arith);
   weights = λ i l. rw (b .numbersBlank (WEIGHT + BLOCK * e + i) (omega arith)) (omega arith);
   divides = λ l. absurd (omega (arith, b .marksBlank (KIND + BLOCK * e) (omega arith)));
-  unweighted = λ i l k. b .numbersBlank (WEIGHT + BLOCK * e + i) (omega arith);
 }
 
 -- ---- e of the effects are written

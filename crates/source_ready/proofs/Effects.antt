@@ -243,7 +243,6 @@ module _ {e : ℕ} (room : e < EFFECTS) {n : ℕ} {lower upper : List ℤ} {head
           constant = rw constant-is near;
           weights = weight-near;
           divides = λ l. rw constant-is (divisor (omega (arith, kind-is)));
-          unweighted = λ i l q. unweighted i l (omega (arith, terms-count));
         };
         targetDeclared = rw target-is declared;
         lowerAt = rw target-is (rw (h .numbersAre) (head-least e room c least most numbers₁ (t .numbersLong)));

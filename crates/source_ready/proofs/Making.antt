@@ -140,7 +140,6 @@ module _ {n m : ℕ} {lower upper : List ℤ} {sizes : List ℕ} {parts : List �
         constants = λ j l. e .bounded j l .constant;
         weights = λ j i l. e .bounded j l .weights i;
         divides = λ j l. e .bounded j l .divides;
-        unweighted = λ j i l. e .bounded j l .unweighted i;
       };
       values = λ x. values-row x ∙ r .values n (fit .few) declared x;
       modes = λ x. modes-row x ∙ p .modes (marks-zero blank₀) (fit .ok .conditionsOk .modeConditionsIn) x;

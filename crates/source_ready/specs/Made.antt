@@ -24,7 +24,7 @@ use Rattle.source_ready.specs.declared.Head.{Head}
 use Rattle.source_ready.specs.Narrowed.{SizesFit}
 use Rattle.source_step.specs.Sizes.{VARIABLES, EFFECTS}
 use Rattle.source_step.specs.Layout.{BLOCK, MANY, KIND, TARGET, OPERAND, COUNT, TERM, CONSTANT, WEIGHT, LOWER, UPPER, LINEAR, QUOTIENT, MARKS, NUMBERS}
-use Rattle.source_step.specs.Row.{effectCountAt, kindAt, targetAt, termCountAt, constantAt, variableAt, weightAt, effectOfKind, effectAt, effectsAt}
+use Rattle.source_step.specs.Row.{effectCountAt, kindAt, targetAt, constantAt, variableAt, weightAt, effectOfKind, effectAt, effectsAt}
 
 -- ---- the terms of effect e, an L
 abbrev pub termAt : List Term → ℕ → ℕ × ℤ
@@ -73,7 +73,6 @@ pub record Bounded (e : ℕ) (marks : List ℕ) (numbers : List ℤ) : Type 0 wh
   pub constant : natAbs (constantAt numbers e) ≤ 10000
   pub weights : (i : ℕ) → i < 4 → natAbs (weightAt numbers e i) ≤ 10000
   pub divides : QUOTIENT ≤ kindAt marks e → 1 ≤ natAbs (constantAt numbers e)
-  pub unweighted : (i : ℕ) → i < 4 → termCountAt marks e ≤ i → weightAt numbers e i ≡ pos 0
 
 -- it is this one, with the bounds of its target
 pub record BlockIs (e n : ℕ) (lower upper : List ℤ) (f : Effect) (marks : List ℕ) (numbers : List ℤ) : Type 0 where

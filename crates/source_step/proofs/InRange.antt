@@ -1,24 +1,22 @@
 -- What the numbers that an effect reads make stays within 64 bits.
 -- Assumes nothing.
-use mathlib.Core.Path.{_≡_, refl, sym}
+use mathlib.Core.Path.{_≡_, refl}
 use Prim.Native.Nat.{ℕ, suc, _+_, _*_, _≤_, _<_}
 use native.Mathlib.Omega.{arith}
 use native.Mathlib.Nat.{mul-le-mul, div-le-self}
-use mathlib.Core.Bool.{Bool, true, false, not, _&&_}
-use lib.Dec.{leb}
+use mathlib.Core.Bool.{true, _&&_}
 use lib.IntN.{ℤ, pos, negsuc, natAbs, _+ℤ_, _*ℤ_}
 use Rattle.integers.specs.Division.{unitLess, sign, floor, quotientOf, residueOf}
 use Rattle.integers.proofs.Division.{euclid}
-use borrow.Author.Tests.{leb-true, leb-false}
+use borrow.Author.Tests.{leb-true}
 use mir.Syntax.{w64}
 use mir.Val.{SFits}
 use Rattle.integers.specs.Parts.{Within}
-use Rattle.integers.specs.Relation.{withinLimit}
 use Rattle.integers.proofs.Parts.{ints, abs}
 use Rattle.integers.proofs.Products.{mul-abs}
 use Rattle.lists.proofs.Loops.{and-left, and-right}
 use Rattle.model.proofs.StepBounds.{abs-sum}
-use Rattle.source_step.specs.Parts.{small, divides}
+use Rattle.source_step.specs.Parts.{small}
 
 pub small-is : (z : ℤ) → small z ≡ true → natAbs z ≤ 10_000
 small-is z e = leb-true (natAbs z) 10_000 e
@@ -47,19 +45,6 @@ module _ (v c : ℤ) (e : (small v && small c) ≡ true) where
 
   pub term-fits : (z : ℤ) → Within 1_000_000_000 z → SFits w64 (z +ℤ v *ℤ c)
   term-fits z h = abs-fits (z +ℤ v *ℤ c) (omega (arith, term-small z, h .within))
-
--- what is divided by
-pub divisor : (c : ℤ) → divides c ≡ true → Within 2000000000000000 c × (0 < natAbs c)
-divisor c e =
-    let h = small-is c (and-left (small c) (not (withinLimit 0 c)) e) in
-    (record { within = omega arith }, leb-false (natAbs c) 0 (turned (leb (natAbs c) 0) (and-right (small c) (not (withinLimit 0 c)) e)))
-  where
-    turned : (b : Bool) → not b ≡ true → b ≡ false
-    turned true t = sym t
-    turned false t = refl
-
-pub operand : (v : ℤ) → natAbs v ≤ 10_000 → Within 2000000000000000 v
-operand v h = record { within = omega arith }
 
 -- ---- the sizes of a quotient and a residue
 floor-small : (y : ℤ) (u : ℕ) → natAbs (floor y u) ≤ natAbs y

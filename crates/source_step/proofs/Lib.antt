@@ -4,6 +4,7 @@ pub mod Modes
 pub mod Numbers
 pub mod Results
 pub mod Rows
+pub mod Single
 pub mod Sound
 pub mod Standing
 pub mod Start

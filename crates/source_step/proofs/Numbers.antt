@@ -1,24 +1,22 @@
--- What effect e of an action reads and makes: of numbers within 10,000 nothing leaves 64 bits; terms that are not there, at weight 0, add nothing; the effect of each kind.
+-- What effect e of an action reads and makes: of numbers within 10,000 nothing leaves 64 bits; the effect of each kind.
 -- Assumes nothing.
 use mathlib.Core.Path.{_≡_, refl, sym, ap, _∙_}
-use Prim.Native.Nat.{ℕ, zero, suc, _≤_, _<_}
+use Prim.Native.Nat.{ℕ, _≤_, _<_}
 use native.Mathlib.Omega.{arith}
 use mathlib.Core.Bool.{Bool, true, false, cond, _&&_}
 use mathlib.Core.List.{List}
 use lib.ListN.{take}
-use lib.IntN.{ℤ, pos, natAbs, _+ℤ_, _*ℤ_}
+use lib.IntN.{ℤ, natAbs, _+ℤ_}
 use lib.Dec.{eqb}
 use borrow.Author.Tests.{le-leb, ne-eqb}
 use Rattle.integers.specs.Parts.{Within}
 use Rattle.integers.specs.Division.{quotientOf, residueOf}
-use Rattle.integers.proofs.Parts.{ints, add, mul}
-use Rattle.lists.specs.Each.{tabulate}
 use Rattle.model.specs.Tasks.{Effect, addEffect, linearEffect, quotientEffect, residueEffect}
 use Rattle.model.specs.Steps.{integerAt, linear, target, result}
 use Rattle.source_step.specs.Parts.{small}
 use Rattle.source_step.specs.Sizes.{EFFECTS}
 use Rattle.source_step.proofs.InRange.{sum-within, quotient-within, residue-within}
-use Rattle.source_step.specs.Row.{kindAt, targetAt, operandAt, termCountAt, constantAt, variableAt, weightAt, termsAt, effectOfKind, effectAt, resultAt, Usable, Reads}
+use Rattle.source_step.specs.Row.{kindAt, targetAt, operandAt, constantAt, termsAt, effectOfKind, effectAt, resultAt, Reads}
 
 both : (a b : Bool) → a ≡ true → b ≡ true → (a && b) ≡ true
 both true b e f = f
@@ -27,32 +25,8 @@ both false b e f = e
 pub near : (v c : ℤ) → natAbs v ≤ 10_000 → natAbs c ≤ 10_000 → (small v && small c) ≡ true
 near v c h k = both _ _ (le-leb (natAbs v) 10_000 h) (le-leb (natAbs c) 10_000 k)
 
-pub within : (z : ℤ) → natAbs z ≤ 10_000 → Within 2000000000000000 z
+pub within : (z : ℤ) → natAbs z ≤ 10_000 → Within 1000000000 z
 within z h = record { within = omega arith }
-
--- ---- terms
-weightless : (z x w : ℤ) → w ≡ pos 0 → z ≡ z +ℤ x *ℤ w
-weightless z x w e = rw e (omega (ints, add z (x *ℤ pos 0), mul x (pos 0)))
-
-padded : (room k : ℕ) (f : ℕ → ℕ × ℤ) (v : ℕ → ℤ) (z : ℤ) → k ≤ room → ((i : ℕ) → i < room → k ≤ i → f i .1 ≡ pos 0) → linear z (tabulate k f) v ≡ linear z (tabulate room f) v
-unfolding tabulate
-padded zero zero f v z h w = refl
-padded zero (suc k) f v z h w = absurd (omega arith)
-padded (suc room) zero f v z h w =
-    padded room zero (λ i. f (suc i)) v z (omega arith) (λ i l m. w (suc i) (omega arith) (omega arith))
-    ∙ ap (λ (y : ℤ). linear y (tabulate room (λ i. f (suc i))) v) (weightless z (v (f 0 .0)) (f 0 .1) (w 0 (omega arith) (omega arith)))
-padded (suc room) (suc k) f v z h w = padded room k (λ i. f (suc i)) v (z +ℤ v (f 0 .0) *ℤ f 0 .1) (omega arith) (λ i l m. w (suc i) (omega arith) (omega arith))
-
--- the sum of four terms
-module _ {n : ℕ} (marks : List ℕ) (numbers : List ℤ) (u : Usable n marks numbers) (v : ℕ → ℤ) (e : ℕ) (l : e < EFFECTS) where
-  abbrev product : ℕ → ℤ
-  product i = v (variableAt marks e i) *ℤ weightAt numbers e i
-
-  pub four-terms : {a b c d : ℤ} → a ≡ constantAt numbers e +ℤ product 0 → b ≡ a +ℤ product 1 → c ≡ b +ℤ product 2 → d ≡ c +ℤ product 3 → d ≡ linear (constantAt numbers e) (termsAt marks numbers e) v
-  unfolding tabulate
-  four-terms {a} {b} {c} {d} ea eb ec ed =
-      ed ∙ ap (λ (z : ℤ). z +ℤ product 3) (ec ∙ ap (λ (z : ℤ). z +ℤ product 2) (eb ∙ ap (λ (z : ℤ). z +ℤ product 1) ea))
-      ∙ sym (padded 4 (termCountAt marks e) (λ i. (variableAt marks e i, weightAt numbers e i)) v (constantAt numbers e) (omega arith) (λ i. u .unweighted e i l))
 
 -- ---- kinds
 module _ (t operand : ℕ) (c : ℤ) (terms : List (ℕ × ℤ)) where

@@ -5,10 +5,9 @@ use Prim.Native.Nat.{ℕ, zero, suc, _+_, _*_, _≤_, _<_}
 use native.Mathlib.Omega.{arith}
 use native.Mathlib.Decide.{ℕ-discrete}
 use mathlib.Core.Bool.{Bool, true, false, _&&_}
-use mathlib.Core.List.{List, _∷_}
-use lib.ListN.{length, length-set, take, set}
-use lib.Seq.{getD-set-same, getD-set-other}
-use lib.IntN.{ℤ, pos}
+use mathlib.Core.List.{List, [], _∷_}
+use lib.ListN.{length, take, set}
+use lib.IntN.{ℤ}
 use Rattle.integers.specs.Relation.{between}
 use Rattle.lists.specs.Each.{tabulate}
 use Rattle.lists.specs.Loops.{every}
@@ -16,6 +15,7 @@ use Rattle.model.specs.Tasks.{Effect}
 use Rattle.model.specs.Steps.{integerAt, target, result, results, withinBounds}
 use Rattle.source_step.specs.Sizes.{EFFECTS}
 use Rattle.source_step.specs.Layout.{BLOCK, LOWER, UPPER}
+use Rattle.source_step.specs.Step.{setAt, settled}
 use Rattle.source_step.specs.Row.{effectCountAt, targetAt, effectAt, resultAt, outcomesAt, ResultsAre, pairsOf, staysAt, leading, firstOutside, staysIn}
 use Rattle.source_step.proofs.Numbers.{target-is}
 use Rattle.source_step.proofs.Sound.{tabulate-same}
@@ -91,13 +91,7 @@ module _ (n : ℕ) (marks : List ℕ) (numbers : List ℤ) (values : List ℤ) w
   pub none-outside : effectCountAt marks ≤ firstOutside n marks numbers values → staysIn n marks numbers values ≡ true
   none-outside h = leading-all _ (effectCountAt marks) h
 
--- ---- loops over the effects: e results are worked out; e results lie within their bounds
-pub record Worked (n : ℕ) (marks : List ℕ) (numbers values : List ℤ) (count : ℕ) (zs : List ℤ) (e : ℕ) : Type 0 where
-  pub bound : e ≤ count
-  pub counted : count ≡ effectCountAt marks
-  pub long : length zs ≡ EFFECTS
-  pub are : (j : ℕ) → j < e → integerAt zs j ≡ resultAt n marks numbers values j
-
+-- ---- the first e results lie within their bounds
 pub record Passed (marks : List ℕ) (numbers zs : List ℤ) (count e : ℕ) : Type 0 where
   pub bound : e ≤ count
   pub counted : count ≡ effectCountAt marks
@@ -111,26 +105,6 @@ one-more P e h p j l = go (ℕ-discrete j e)
     go (yes q) = rw q p
     go (no q) = h j (omega arith)
 
-module _ {n : ℕ} {marks : List ℕ} {numbers values : List ℤ} {count : ℕ} {zs : List ℤ} where
-  pub none-worked : count ≡ effectCountAt marks → length zs ≡ EFFECTS → Worked n marks numbers values count zs 0
-  none-worked c l = record { bound = omega arith; counted = c; long = l; are = λ j h. absurd (omega arith) }
-
-  pub one-worked : {e : ℕ} → Worked n marks numbers values count zs e → e < count → {z : ℤ} → z ≡ resultAt n marks numbers values e
-      → Worked n marks numbers values count (set zs e z) (e + 1)
-  one-worked {e} W h {z} q =
-      let c = W .counted in
-      let l = W .long in
-      record {
-        bound = omega arith;
-        counted = W .counted;
-        long = length-set zs e z ∙ W .long;
-        are = one-more (λ j. integerAt (set zs e z) j ≡ resultAt n marks numbers values j) e
-            (λ j m. getD-set-other zs e j z (pos 0) (λ t. omega arith) ∙ W .are j m) (getD-set-same zs e z (pos 0) (omega arith) ∙ q);
-      }
-
-  pub all-worked : {e : ℕ} → Worked n marks numbers values count zs e → count ≤ e → (length zs ≡ EFFECTS) × ResultsAre n marks numbers values zs
-  all-worked W h = (W .long, λ j l. W .are j (omega (arith, W .counted)))
-
 module _ {marks : List ℕ} {numbers zs : List ℤ} {count : ℕ} where
   pub none-passed : count ≡ effectCountAt marks → Passed marks numbers zs count 0
   none-passed c = record { bound = omega arith; counted = c; stay = λ j h. absurd (omega arith) }
@@ -142,3 +116,48 @@ module _ {marks : List ℕ} {numbers zs : List ℤ} {count : ℕ} where
       → (n : ℕ) (values : List ℤ) → ResultsAre n marks numbers values zs → e ≡ firstOutside n marks numbers values
   stopped {e} S q n values R = first-outside-is n marks numbers values zs R e (omega (arith, S .bound, S .counted)) (S .stay)
       (λ l. q (omega (arith, S .counted)))
+
+-- ---- results stored: of two effects at most, and of three
+module _ (n : ℕ) (marks : List ℕ) (numbers values : List ℤ) {a b : ℤ} (p : a ≡ resultAt n marks numbers values 0)
+    (q : b ≡ resultAt n marks numbers values 1) where
+  in-front : (zs : List ℤ) → (2 < effectCountAt marks → integerAt zs 0 ≡ resultAt n marks numbers values 2)
+      → ResultsAre n marks numbers values (a ∷ b ∷ zs)
+  in-front zs r zero l = p
+  in-front zs r (suc zero) l = q
+  in-front zs r (suc (suc zero)) l = r l
+  in-front zs r (suc (suc (suc e))) l = absurd (omega arith)
+
+  pub two-worked : (zs : List ℤ) → length zs ≡ EFFECTS → effectCountAt marks < 3
+      → (length (set (set zs 0 a) 1 b) ≡ EFFECTS) × ResultsAre n marks numbers values (set (set zs 0 a) 1 b)
+  two-worked [] l h = absurd (omega arith)
+  two-worked (x ∷ []) l h = absurd (omega arith)
+  two-worked (x ∷ y ∷ zs) l h = (l, in-front zs (λ m. absurd (omega arith)))
+
+  pub three-worked : (zs : List ℤ) → length zs ≡ EFFECTS → {c : ℤ} → c ≡ resultAt n marks numbers values 2
+      → (length (set (set (set zs 0 a) 1 b) 2 c) ≡ EFFECTS) × ResultsAre n marks numbers values (set (set (set zs 0 a) 1 b) 2 c)
+  three-worked [] l r = absurd (omega arith)
+  three-worked (x ∷ []) l r = absurd (omega arith)
+  three-worked (x ∷ y ∷ []) l r = absurd (omega arith)
+  three-worked (x ∷ y ∷ z ∷ zs) l {c} r = (l, in-front (c ∷ zs) (λ m. r))
+
+-- ---- targets set: as many as there are effects
+module _ (n : ℕ) (marks : List ℕ) (zs values : List ℤ) where
+  abbrev given : ℕ → List ℤ → List ℤ
+  given e l = setAt n l (targetAt marks e) (integerAt zs e)
+
+  pub none-set : effectCountAt marks ≡ 0 → values ≡ settled n (pairsOf marks zs) values
+  unfolding tabulate
+  none-set h = rw h refl
+
+  module _ {a : List ℤ} (p : a ≡ given 0 values) where
+    pub one-set : effectCountAt marks ≡ 1 → a ≡ settled n (pairsOf marks zs) values
+    unfolding tabulate
+    one-set h = rw h p
+
+    pub two-set : {b : List ℤ} → b ≡ given 1 a → effectCountAt marks ≡ 2 → b ≡ settled n (pairsOf marks zs) values
+    unfolding tabulate
+    two-set q h = rw h (q ∙ ap (given 1) p)
+
+    pub three-set : {b c : List ℤ} → b ≡ given 1 a → c ≡ given 2 b → effectCountAt marks ≡ 3 → c ≡ settled n (pairsOf marks zs) values
+    unfolding tabulate
+    three-set q r h = rw h (r ∙ ap (given 2) (q ∙ ap (given 1) p))

@@ -7,7 +7,7 @@ use mathlib.Core.Bool.{Bool, true, cond, _&&_}
 use mathlib.Core.List.{List, _++_}
 use lib.Dec.{eqb, leb}
 use lib.ListN.{length, take, drop}
-use lib.IntN.{ℤ, pos, natAbs}
+use lib.IntN.{ℤ, natAbs}
 use Rattle.integers.specs.Relation.{between}
 use Rattle.lists.specs.Each.{tabulate}
 use Rattle.lists.specs.Loops.{every}
@@ -84,6 +84,11 @@ pairsOf marks zs = tabulate (effectCountAt marks) (λ e. (targetAt marks e, inte
 abbrev pub ResultsAre : ℕ → List ℕ → List ℤ → List ℤ → List ℤ → Type 0
 ResultsAre n marks numbers values zs = (e : ℕ) → e < effectCountAt marks → integerAt zs e ≡ resultAt n marks numbers values e
 
+-- there is one effect at most, and a number is what it gives
+abbrev pub SingleIs : ℕ → List ℕ → List ℤ → List ℤ → ℤ → Type 0
+SingleIs n marks numbers values z =
+    (effectCountAt marks ≤ 1) × (effectCountAt marks ≡ 1 → z ≡ resultAt n marks numbers values 0)
+
 -- whether what effect e gives lies within the bounds of the row; how many effects stand before the first that leaves them, all where none does
 abbrev pub staysAt : ℕ → List ℕ → List ℤ → List ℤ → ℕ → Bool
 staysAt n marks numbers values e =
@@ -111,7 +116,6 @@ pub record Usable (n : ℕ) (marks : List ℕ) (numbers : List ℤ) : Type 0 whe
   pub constants : (e : ℕ) → e < EFFECTS → natAbs (constantAt numbers e) ≤ 10000
   pub weights : (e i : ℕ) → e < EFFECTS → i < 4 → natAbs (weightAt numbers e i) ≤ 10000
   pub divides : (e : ℕ) → e < EFFECTS → QUOTIENT ≤ kindAt marks e → 1 ≤ natAbs (constantAt numbers e)
-  pub unweighted : (e i : ℕ) → e < EFFECTS → i < 4 → termCountAt marks e ≤ i → weightAt numbers e i ≡ pos 0
 
 -- n values with which they do not
 pub record Reads (n : ℕ) (values : List ℤ) (marks : List ℕ) (numbers : List ℤ) : Type 0 where
@@ -142,6 +146,11 @@ takes n m marks numbers values modes = held n m marks numbers values modes && st
 
 abbrev pub valuesAfter : ℕ → List ℕ → List ℤ → List ℤ → List ℤ
 valuesAfter n marks numbers values = settled n (outcomesAt n marks numbers values) values
+
+-- whether the results lie within their bounds, and the values after, which have them where they do
+pub record Settled (n : ℕ) (marks : List ℕ) (numbers : List ℤ) (values : List ℤ) (r : Bool) (values′ : List ℤ) : Type 0 where
+  pub is : r ≡ staysIn n marks numbers values
+  pub valuesAre : values′ ≡ cond (staysIn n marks numbers values) (valuesAfter n marks numbers values) values
 
 -- the answer r, and the arrays after, where the rows are taken if a test holds
 pub record SteppedIf (test : Bool) (n m : ℕ) (marks : List ℕ) (numbers : List ℤ) (values : List ℤ) (modes : List ℕ) (r : Bool) (values′ : List ℤ)

@@ -4,6 +4,7 @@
 // variables and modes once, whatever conditions the action was written with. Rows are lent; what they mean is said in specs/Row.antt.
 // It never reads a file, and never finds an action by its number.
 use file_actions::EFFECTS;
+use file_actions::TERMS;
 ghost use mathlib.Core.Path.{_≡_};
 ghost use mathlib.Core.Bool.{_&&_};
 ghost use mathlib.Core.List.{List};
@@ -12,11 +13,13 @@ ghost use lib.Dec.{leb};
 ghost use lib.ListN.{length, take};
 ghost use lib.IntN.{ℤ, natAbs, _+ℤ_, _*ℤ_};
 ghost use Rattle.integers.specs.Parts.{Within};
+ghost use Rattle.integers.specs.Relation.{between};
 ghost use Rattle.model.specs.Steps.{integerAt, linear};
 ghost use Rattle.source_step.specs.Step.{setAt, settled};
 ghost use Rattle.source_step.specs.Row.{valuesIn, modesIn, modesAfter, KeepOrSet, effectCountAt, constantAt, variableAt, weightAt, termsAt};
-ghost use Rattle.source_step.specs.Row.{resultAt, ResultsAre, firstOutside, pairsOf, Reads, Usable, held, Stepped, Finished};
+ghost use Rattle.source_step.specs.Row.{resultAt, ResultsAre, SingleIs, firstOutside, pairsOf, Reads, Usable, held, Settled, Stepped, Finished};
 ghost use Rattle.source_step.specs.Sizes.{VARIABLES, MODES, EFFECTS};
+ghost use Rattle.source_step.specs.Layout.{BLOCK, LOWER, UPPER};
 
 // The most variables and modes that a source task declares.
 pub const VARIABLES: usize = 8;
@@ -210,7 +213,7 @@ pub fn effect_count(marks: &[u16; MARKS]) -> usize
     lesser(EFFECTS, wide16(marks[MANY]))
 }
 
-// A sum with one more term of effect e. A term that is not there weighs 0.
+// A sum with one more term of effect e.
 fn plus_term(
     z: i64,
     values: &[i64; VARIABLES],
@@ -240,18 +243,14 @@ pub fn linear_value(
     ensures { λ r. ⌜ (r ≡ linear (constantAt (now (numbers .entry)) e) (termsAt (now (marks .entry)) (now (numbers .entry)) e)
         (integerAt (take n (now (values .entry))))) × Within 1000000000 r ⌝ }
 {
-    let a = plus_term(
-        numbers[CONSTANT + BLOCK * e],
-        values,
-        n,
-        marks,
-        numbers,
-        e,
-        0,
-    );
-    let b = plus_term(a, values, n, marks, numbers, e, 1);
-    let c = plus_term(b, values, n, marks, numbers, e, 2);
-    plus_term(c, values, n, marks, numbers, e, 3)
+    let count = lesser(TERMS, wide16(marks[COUNT + BLOCK * e]));
+    let mut sum = numbers[CONSTANT + BLOCK * e];
+    let mut i: usize = 0;
+    while i < count {
+        sum = plus_term(sum, values, n, marks, numbers, e, i);
+        i += 1;
+    }
+    sum
 }
 
 // What effect e gives its target.
@@ -280,8 +279,8 @@ pub fn result_of(
     integers::residue(operand, constant)
 }
 
-// What each effect of an action gives its target, all from the values before.
-pub fn put_results(
+// What each of several effects gives its target, all from the values before.
+fn put_results(
     results: &mut [i64; EFFECTS],
     values: &[i64; VARIABLES],
     n: usize,
@@ -292,12 +291,24 @@ pub fn put_results(
     ensures { λ _. ⌜ (length (now (results .exit)) ≡ EFFECTS)
         × ResultsAre n (now (marks .entry)) (now (numbers .entry)) (now (values .entry)) (now (results .exit)) ⌝ }
 {
-    let count = effect_count(marks);
-    let mut e: usize = 0;
-    while e < count {
-        results[e] = result_of(values, n, marks, numbers, e);
-        e += 1;
+    results[0] = result_of(values, n, marks, numbers, 0);
+    results[1] = result_of(values, n, marks, numbers, 1);
+    if effect_count(marks) < 3 {
+        return;
     }
+    results[2] = result_of(values, n, marks, numbers, 2);
+}
+
+// Whether what effect e gives lies within the bounds of its target.
+fn stays(numbers: &[i64; NUMBERS], e: usize, result: i64) -> bool
+    requires { ⌜ e < EFFECTS ⌝ }
+    ensures { λ r. ⌜ r ≡ between (integerAt (now (numbers .entry)) (LOWER + BLOCK * e)) (integerAt (now (numbers .entry)) (UPPER + BLOCK * e)) result ⌝ }
+{
+    integers::is_between(
+        numbers[LOWER + BLOCK * e],
+        result,
+        numbers[UPPER + BLOCK * e],
+    )
 }
 
 // How many effects stand before the first whose result leaves the bounds of its target; all where none does.
@@ -310,16 +321,16 @@ pub fn first_outside(
         → r ≡ firstOutside n (now (marks .entry)) (now (numbers .entry)) values) ⌝ }
 {
     let count = effect_count(marks);
-    let mut e: usize = 0;
-    while e < count {
-        let least = numbers[LOWER + BLOCK * e];
-        let most = numbers[UPPER + BLOCK * e];
-        if !integers::is_between(least, results[e], most) {
-            return e;
-        }
-        e += 1;
+    if count < 1 || !stays(numbers, 0, results[0]) {
+        return 0;
     }
-    count
+    if count < 2 || !stays(numbers, 1, results[1]) {
+        return 1;
+    }
+    if count < 3 || !stays(numbers, 2, results[2]) {
+        return 2;
+    }
+    3
 }
 
 // Sets a variable, of n; nothing where it is not declared.
@@ -345,15 +356,65 @@ fn store_results(
     ensures { λ _. ⌜ now (values .exit) ≡ settled n (pairsOf (now (marks .entry)) (now (results .entry))) (now (values .entry)) ⌝ }
 {
     let count = effect_count(marks);
-    let mut e: usize = 0;
-    while e < count {
-        set_value(values, n, marks[TARGET + BLOCK * e], results[e]);
-        e += 1;
+    if count < 1 {
+        return;
     }
+    set_value(values, n, marks[TARGET], results[0]);
+    if count < 2 {
+        return;
+    }
+    set_value(values, n, marks[TARGET + BLOCK], results[1]);
+    if count < 3 {
+        return;
+    }
+    set_value(values, n, marks[TARGET + 2 * BLOCK], results[2]);
 }
 
-// The rest of a step behind the test of its rows, from what the effects give: where each result lies within its target's bounds, the targets
-// have them and the modes are set; else the state stays. Whether they do.
+// Gives the target of an action that has one effect at most what that gives, where it lies within the target's bounds. Whether it does.
+fn settle(
+    values: &mut [i64; VARIABLES],
+    n: usize,
+    marks: &[u16; MARKS],
+    numbers: &[i64; NUMBERS],
+    result: i64,
+) -> bool
+    requires { ⌜ (n ≤ VARIABLES) × SingleIs n (now marks) (now numbers) (now values) result ⌝ }
+    ensures { λ r. ⌜ Settled n (now (marks .entry)) (now (numbers .entry)) (now (values .entry)) r (now (values .exit)) ⌝ }
+{
+    if effect_count(marks) == 0 {
+        return true;
+    }
+    if !stays(numbers, 0, result) {
+        return false;
+    }
+    set_value(values, n, marks[TARGET], result);
+    true
+}
+
+// The rest of a step behind the test of its rows, for an action that has one effect at most, from what that gives: where it lies within its
+// target's bounds, the target has it and the modes are set; else the state stays. Whether it does.
+pub fn finish_single(
+    values: &mut [i64; VARIABLES],
+    modes: &mut [u16; MODES],
+    n: usize,
+    m: usize,
+    marks: &[u16; MARKS],
+    numbers: &[i64; NUMBERS],
+    result: i64,
+) -> bool
+    requires { ⌜ (n ≤ VARIABLES) × (m ≤ MODES) × (length (now modes) ≡ MODES) × KeepOrSet (now marks)
+        × SingleIs n (now marks) (now numbers) (now values) result ⌝ }
+    ensures { λ r. ⌜ Finished n m (now (marks .entry)) (now (numbers .entry)) (now (values .entry)) (now (modes .entry)) r
+        (now (values .exit)) (now (modes .exit)) ⌝ }
+{
+    if !settle(values, n, marks, numbers, result) {
+        return false;
+    }
+    set_modes(modes, m, marks);
+    true
+}
+
+// The same for any action, from what each effect gives: the results are all tested before one is stored.
 pub fn finish(
     values: &mut [i64; VARIABLES],
     modes: &mut [u16; MODES],
@@ -368,7 +429,11 @@ pub fn finish(
     ensures { λ r. ⌜ Finished n m (now (marks .entry)) (now (numbers .entry)) (now (values .entry)) (now (modes .entry)) r
         (now (values .exit)) (now (modes .exit)) ⌝ }
 {
-    if first_outside(marks, numbers, results) < effect_count(marks) {
+    let count = effect_count(marks);
+    if count < 2 {
+        return finish_single(values, modes, n, m, marks, numbers, results[0]);
+    }
+    if first_outside(marks, numbers, results) < count {
         return false;
     }
     store_results(values, n, marks, results);
@@ -376,8 +441,28 @@ pub fn finish(
     true
 }
 
-// Takes the action of two rows in a lent state where it applies, and else leaves the state as it was. Whether it applies. The results are all
-// worked out from the values before, then tested, then stored.
+// Takes the action of two rows, which has one effect at most, in a lent state where it applies, and else leaves the state as it was. Whether
+// it applies.
+pub fn take_single(
+    values: &mut [i64; VARIABLES],
+    modes: &mut [u16; MODES],
+    n: usize,
+    m: usize,
+    marks: &[u16; MARKS],
+    numbers: &[i64; NUMBERS],
+) -> bool
+    requires { ⌜ (n ≤ VARIABLES) × (m ≤ MODES) × (length (now modes) ≡ MODES) × Usable n (now marks) (now numbers) × (effectCountAt (now marks) ≤ 1) ⌝ }
+    ensures { λ r. ⌜ Stepped n m (now (marks .entry)) (now (numbers .entry)) (now (values .entry)) (now (modes .entry)) r
+        (now (values .exit)) (now (modes .exit)) ⌝ }
+{
+    if !holds(values, modes, n, m, marks, numbers) {
+        return false;
+    }
+    let result = result_of(values, n, marks, numbers, 0);
+    finish_single(values, modes, n, m, marks, numbers, result)
+}
+
+// The same of any action. The results of several effects are all worked out from the values before, then tested, then stored.
 pub fn take(
     values: &mut [i64; VARIABLES],
     modes: &mut [u16; MODES],
@@ -390,6 +475,9 @@ pub fn take(
     ensures { λ r. ⌜ Stepped n m (now (marks .entry)) (now (numbers .entry)) (now (values .entry)) (now (modes .entry)) r
         (now (values .exit)) (now (modes .exit)) ⌝ }
 {
+    if effect_count(marks) < 2 {
+        return take_single(values, modes, n, m, marks, numbers);
+    }
     if !holds(values, modes, n, m, marks, numbers) {
         return false;
     }

@@ -3,11 +3,11 @@ use borrow.Author.Needs.{needs}
 use Rattle.file_actions.proofs.no_effects.Statement.{statement}
 use Rattle.file_actions.proofs.no_effects.Tie as tie
 
-no-terms-requires : tie.Need-no-terms-requires
-no-terms-requires c κs = search needs
+no-effect-requires : tie.Need-no-effect-requires
+no-effect-requires c κs = search needs
 
 returns : tie.Need-returns
-returns c = rw (c .before .no-terms .ensures)
+returns c = rw (c .no-effect .ensures)
 
 pub no-effects-spec : {M : Type 1} → statement M
-no-effects-spec = tie.close (tie.spec no-terms-requires returns)
+no-effects-spec = tie.close (tie.spec no-effect-requires returns)

@@ -6,6 +6,7 @@ use denote.Ref.{now}
 use borrow.Author.Tests.{not-true, not-false}
 use Rattle.model.specs.Plans.{planNumbers}
 use Rattle.plan_strokes.specs.Made.{MacroIs}
+use Rattle.plan_strokes.proofs.Effects.{stays-few}
 use Rattle.plan_project.proofs.Advancing.{one-taken, one-refused}
 use borrow.Author.Needs.{needs}
 use Rattle.plan_project.proofs.advance.Statement.{statement}
@@ -14,15 +15,18 @@ use Rattle.plan_project.proofs.advance.Tie as tie
 makes-macro-requires : tie.Need-makes-macro-requires
 makes-macro-requires c κs = search needs
 
-take-requires : tie.Need-take-requires
-take-requires c κs = search needs
-
 add-t18 : tie.Need-add-t18
 add-t18 c = search needs
 
 -- its action stays one
 stays : (f : tie.Then1) → MacroIs (now (f .before .before .before .args .marks)) false
 stays f = subst (MacroIs (now (f .before .before .before .args .marks))) (not-true _ (f .if1 .taken)) (f .before .makes-macro .ensures)
+
+take-single-requires : tie.Need-take-single-requires
+take-single-requires c κs =
+    let f = c .before .before in
+    let s = f .before .before .before in
+    (s .pre .0 .0, s .pre .0 .1, s .pre .0 .2, s .pre .0 .4, stays-few (stays f))
 
 returns : tie.Need-returns
 returns c =
@@ -31,7 +35,7 @@ returns c =
     let s = f .before .before .before in (
       one-taken (s .args .n) (s .args .m) (now (s .args .marks)) (now (s .args .numbers)) (now (s .args .values)) (now (s .args .modes)) (s .args .total)
           (s .args .at) (planNumbers (now (s .args .plan))) (s .args .opening) (stays f)
-          (t .take .ensures) (s .pre .1 .3) (omega (arith, s .pre .1 .0, s .pre .1 .1)) (c .if2 .taken),
+          (t .take-single .ensures) (s .pre .1 .3) (omega (arith, s .pre .1 .0, s .pre .1 .1)) (c .if2 .taken),
       s .pre .0 .3,
     )
 
@@ -42,7 +46,7 @@ returns-2 c =
     let s = f .before .before .before in (
       one-refused (s .args .n) (s .args .m) (now (s .args .marks)) (now (s .args .numbers)) (now (s .args .values)) (now (s .args .modes)) (s .args .total)
           (s .args .at) (planNumbers (now (s .args .plan))) (s .args .opening) (stays f)
-          (t .take .ensures) (c .if2 .left),
+          (t .take-single .ensures) (c .if2 .left),
       s .pre .0 .3,
     )
 
@@ -62,7 +66,7 @@ advance-spec =
     tie.close
     (tie.spec
     makes-macro-requires
-    take-requires
+    take-single-requires
     add-t18
     returns
     returns-2

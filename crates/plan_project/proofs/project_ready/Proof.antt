@@ -1,5 +1,6 @@
 -- `plan_project::project_ready` meets its contract: the tables are those of the task's lowering, from whose start the plan is projected.
 -- Assumes nothing.
+use mathlib.Core.Path.{refl}
 use Prim.Native.Nat.{_≤_}
 use native.Mathlib.Omega.{arith}
 use denote.Ref.{now}
@@ -32,22 +33,23 @@ element-copy-out-wide16 c = let h = few (startOf c) in search (needs, arith)
 wide16-requires : tie.Need-wide16-requires
 wide16-requires c κs = search needs
 
-sources-of-requires : tie.Need-sources-of-requires
-sources-of-requires c κs = let o = c .before .before in openable (o .openings-of .ensures) (few (startOf o))
+put-openers-requires : tie.Need-put-openers-requires
+put-openers-requires c κs = let o = c .before .before .before .before .before in (refl, openable (o .openings-of .ensures) (few (startOf o)))
 
 project-rows-requires : tie.Need-project-rows-requires
 project-rows-requires c κs =
-    let g = c .before .before .before .before .before in
-    let o = g .before .before .before in
+    let g = c .before .before .before .before in
+    let w = g .before .before .before .before in
+    let o = w .before .before in
     let s = startOf o in
     let P = s .pre .0 in (
       (
         rows-ready s,
-        below (P .rows) (o .openings-of .ensures) (g .sources-of .ensures) (g .before .wide16 .ensures),
+        below (P .rows) (o .openings-of .ensures) (g .put-openers .ensures) (w .wide16 .ensures),
         s .pre .1 .0,
         P .inside .shaped .modesLong,
       ),
-      kept (P .rows) (o .openings-of .ensures) (g .sources-of .ensures) (g .before .wide16 .ensures) (P .inside) (P .start) (planNumbers (now (s .args .plan)))
+      kept (P .rows) (o .openings-of .ensures) (g .put-openers .ensures) (w .wide16 .ensures) (P .inside) (P .start) (planNumbers (now (s .args .plan)))
           (omega (arith, s .pre .1)),
     )
 
@@ -57,10 +59,11 @@ same-length c = search needs
 returns : tie.Need-returns
 returns c =
     let r = c .before .before in
-    let g = r .before .before .before .before .before .before in
-    let o = g .before .before .before in
+    let g = r .before .before .before .before .before in
+    let w = g .before .before .before .before in
+    let o = w .before .before in
     record {
-      meets = λ P. projected-so (P .rows) (o .openings-of .ensures) (g .sources-of .ensures) (g .before .wide16 .ensures) (P .inside) (P .start)
+      meets = λ P. projected-so (P .rows) (o .openings-of .ensures) (g .put-openers .ensures) (w .wide16 .ensures) (P .inside) (P .start)
           (planNumbers (now (startOf o .args .plan))) (r .project-rows .ensures);
     }
 
@@ -72,7 +75,7 @@ project-ready-spec =
     mul-wide16
     element-copy-out-wide16
     wide16-requires
-    sources-of-requires
+    put-openers-requires
     project-rows-requires
     same-length
     returns)

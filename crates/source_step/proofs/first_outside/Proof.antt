@@ -1,115 +1,104 @@
--- `source_step::first_outside` meets its contract. Assumes nothing.
+-- `source_step::first_outside` meets its contract: at each exit the results before it lie within their bounds, and the next doesn't or there is
+-- none. Assumes nothing.
 use native.Mathlib.Omega.{arith}
-use mathlib.Core.Path.{_≡_, sym, _∙_}
-use Prim.Native.Nat.{_+_, _*_, _-_}
+use mathlib.Core.Path.{sym, _∙_}
+use Prim.Native.Nat.{ℕ}
+use mathlib.Core.Logic.{⊎-elim}
 use denote.Ref.{now}
 use mir.Facts.{toZ-ofZ}
 use mir.Syntax.{w64}
 use mir.Val.{SFits}
 use borrow.Author.Tests.{not-true, not-false}
-use borrow.Author.Needs.{needs}
 use Rattle.model.specs.Steps.{integerAt}
-use Rattle.source_step.specs.Layout.{BLOCK, LOWER, UPPER}
-use Rattle.source_step.proofs.Results.{staysBy, Passed, none-passed, one-passed, stopped}
+use Rattle.source_step.proofs.Results.{Passed, none-passed, one-passed, stopped}
+use borrow.Author.Needs.{needs}
 use Rattle.source_step.proofs.first_outside.Statement.{statement}
 use Rattle.source_step.proofs.first_outside.Tie as tie
 
-abbrev Inv-loop : tie.InvT-loop
-Inv-loop marks numbers results count e₀ e = Passed marks numbers results count e
+-- the first e results lie within their bounds
+abbrev Are-passed : tie.After-effect-count → ℕ → Type 0
+Are-passed c e = Passed (now (c .before .args .marks)) (now (c .before .args .numbers)) (now (c .before .args .results)) (c .effect-count .result) e
 
-abbrev μ-loop : tie.MeasureT-loop
-μ-loop marks numbers results count e₀ e = count - e
+none : (c : tie.After-effect-count) → Are-passed c 0
+none c = none-passed (c .effect-count .ensures)
 
-effect-count-requires : tie.Need-effect-count-requires Inv-loop μ-loop
-effect-count-requires c κs = search (needs, arith)
+effect-count-requires : tie.Need-effect-count-requires
+effect-count-requires c κs = search needs
 
-loop-holds : tie.Need-loop-holds Inv-loop μ-loop
-loop-holds c = none-passed (c .effect-count .ensures)
+element-copy-out-stays : tie.Need-element-copy-out-stays
+element-copy-out-stays c = search needs
 
-mul-least : tie.Need-mul-least Inv-loop μ-loop
-mul-least c = search (needs, arith)
+stays-requires : tie.Need-stays-requires
+stays-requires c κs = search needs
 
-add-least : tie.Need-add-least Inv-loop μ-loop
-add-least c = search (needs, arith)
+returns : tie.Need-returns
+returns c =
+    stopped (none (c .before))
+    (λ l. ⊎-elim (λ w. absurd (omega (arith, l, w .taken)))
+    (λ w. let x : SFits w64 (integerAt (now (c .before .before .args .results)) 0) = search needs in
+    sym (rw (toZ-ofZ x) at (w .2 .ensures)) ∙ not-true _ (w .3 .taken)) (c .if1 .came))
 
-mul-least-2 : tie.Need-mul-least-2 Inv-loop μ-loop
-mul-least-2 c = search (needs, arith)
+one : (c : tie.Else2) → Are-passed (c .before .before .before .before) 1
+one c =
+    let b = c .before .before .before .before in
+    let x : SFits w64 (integerAt (now (b .before .args .results)) 0) = search needs in
+    one-passed (none b) (omega (arith, c .before .before .before .if1 .left))
+    (sym (rw (toZ-ofZ x) at (c .before .stays .ensures)) ∙ not-false _ (c .if2 .left))
 
-element-copy-out-least : tie.Need-element-copy-out-least Inv-loop μ-loop
-element-copy-out-least c = search (needs, arith)
+element-copy-out-stays-2 : tie.Need-element-copy-out-stays-2
+element-copy-out-stays-2 c = search needs
 
-mul-most : tie.Need-mul-most Inv-loop μ-loop
-mul-most c = search (needs, arith)
+stays-requires-2 : tie.Need-stays-requires-2
+stays-requires-2 c κs = search needs
 
-add-most : tie.Need-add-most Inv-loop μ-loop
-add-most c = search (needs, arith)
-
-mul-most-2 : tie.Need-mul-most-2 Inv-loop μ-loop
-mul-most-2 c = search (needs, arith)
-
-element-copy-out-most : tie.Need-element-copy-out-most Inv-loop μ-loop
-element-copy-out-most c = search (needs, arith)
-
-mul-is-between : tie.Need-mul-is-between Inv-loop μ-loop
-mul-is-between c = search (needs, arith)
-
-element-copy-out-is-between : tie.Need-element-copy-out-is-between Inv-loop μ-loop
-element-copy-out-is-between c = search (needs, arith)
-
-is-between-requires : tie.Need-is-between-requires Inv-loop μ-loop
-is-between-requires c κs = search (needs, arith)
-
--- what one turn tests
-turn : (c : tie.After-is-between Inv-loop μ-loop) → let h = c .before .before .before .before in let s = h .before .before .before in
-    staysBy (now (s .args .numbers)) (now (s .args .results)) (h .before .loop .e) ≡ c .is-between .result
-turn c =
-    let h = c .before .before .before .before in
-    let s = h .before .before .before in
-    let a : SFits w64 (integerAt (now (s .args .numbers)) (LOWER + BLOCK * h .before .loop .e)) = search needs in
-    let x : SFits w64 (integerAt (now (s .args .results)) (h .before .loop .e)) = search needs in
-    let b : SFits w64 (integerAt (now (s .args .numbers)) (UPPER + BLOCK * h .before .loop .e)) = search needs in
-    sym (simp (toZ-ofZ, a, x, b) at (c .is-between .ensures))
-
-returns : tie.Need-returns Inv-loop μ-loop
-returns c = let h = c .before .before .before .before .before in stopped (h .before .loop .inv) (λ l. turn (c .before) ∙ not-true _ (c .if1 .taken))
-
-add-e : tie.Need-add-e Inv-loop μ-loop
-add-e c = search (needs, arith)
-
-loop-less : tie.Need-loop-less Inv-loop μ-loop
-loop-less c = search (needs, arith)
-
-loop-again : tie.Need-loop-again Inv-loop μ-loop
-loop-again c = let h = c .before .before .before .before .before in one-passed (h .before .loop .inv) (h .loop-test .taken)
-    (turn (c .before) ∙ not-false _ (c .if1 .left))
-
-returns-2 : tie.Need-returns-2 Inv-loop μ-loop
+returns-2 : tie.Need-returns-2
 returns-2 c =
-    let I = c .before .loop .inv in
-    let e : c .before .loop .e ≡ c .before .before .effect-count .result = omega (arith, I .bound, c .loop-test .left) in
-    rw (← e) (stopped I (λ l. absurd (omega (arith, l, c .loop-test .left))))
+    let s = c .before .before .before .before .before .before in
+    stopped (one (c .before))
+    (λ l. ⊎-elim (λ w. absurd (omega (arith, l, w .taken)))
+    (λ w. let x : SFits w64 (integerAt (now (s .args .results)) 1) = search needs in
+    sym (rw (toZ-ofZ x) at (w .2 .ensures)) ∙ not-true _ (w .3 .taken)) (c .if3 .came))
+
+two : (c : tie.Else4) → Are-passed (c .before .before .before .before .before .before .before .before) 2
+two c =
+    let d = c .before .before .before in
+    let x : SFits w64 (integerAt (now (d .before .before .before .before .before .before .args .results)) 1) = search needs in
+    one-passed (one (d .before)) (omega (arith, d .if3 .left)) (sym (rw (toZ-ofZ x) at (c .before .stays2 .ensures)) ∙ not-false _ (c .if4 .left))
+
+element-copy-out-stays-3 : tie.Need-element-copy-out-stays-3
+element-copy-out-stays-3 c = search needs
+
+stays-requires-3 : tie.Need-stays-requires-3
+stays-requires-3 c κs = search needs
+
+returns-3 : tie.Need-returns-3
+returns-3 c =
+    let s = c .before .before .before .before .before .before .before .before .before .before in
+    stopped (two (c .before))
+    (λ l. ⊎-elim (λ w. absurd (omega (arith, l, w .taken)))
+    (λ w. let x : SFits w64 (integerAt (now (s .args .results)) 2) = search needs in
+    sym (rw (toZ-ofZ x) at (w .2 .ensures)) ∙ not-true _ (w .3 .taken)) (c .if5 .came))
+
+returns-4 : tie.Need-returns-4
+returns-4 c =
+    let d = c .before .before .before in
+    let b = d .before .before .before .before .before .before .before .before .before in
+    let x : SFits w64 (integerAt (now (b .before .args .results)) 2) = search needs in
+    stopped (one-passed (two (d .before)) (omega (arith, d .if5 .left)) (sym (rw (toZ-ofZ x) at (c .before .stays3 .ensures)) ∙ not-false _ (c .if6 .left)))
+    (λ l. absurd (omega (arith, l, b .effect-count .ensures)))
 
 pub first-outside-spec : {M : Type 1} → statement M
 first-outside-spec =
     tie.close
     (tie.spec
-    Inv-loop
-    μ-loop
     effect-count-requires
-    loop-holds
-    mul-least
-    add-least
-    mul-least-2
-    element-copy-out-least
-    mul-most
-    add-most
-    mul-most-2
-    element-copy-out-most
-    mul-is-between
-    element-copy-out-is-between
-    is-between-requires
+    element-copy-out-stays
+    stays-requires
     returns
-    add-e
-    loop-less
-    loop-again
-    returns-2)
+    element-copy-out-stays-2
+    stays-requires-2
+    returns-2
+    element-copy-out-stays-3
+    stays-requires-3
+    returns-3
+    returns-4)

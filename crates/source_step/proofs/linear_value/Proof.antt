@@ -1,92 +1,114 @@
--- `source_step::linear_value` meets its contract. Assumes nothing.
+-- `source_step::linear_value` meets its contract. The loop's invariant: the sum with the terms that are left is the sum of all terms, and each
+-- term adds 100,000,000 at most. Assumes nothing.
 use native.Mathlib.Omega.{arith}
-use Prim.Native.Nat.{_≤_}
+use Prim.Native.Nat.{_+_, _*_, _-_, _≤_}
 use denote.Ref.{now}
 use lib.IntN.{natAbs}
+use lib.ListN.{take}
 use mir.Facts.{toZ-ofZ}
 use mir.Syntax.{w64}
-use mir.Val.{SFits}
-use lib.ListN.{take}
-use Rattle.model.specs.Steps.{integerAt}
-use Rattle.source_step.specs.Row.{constantAt}
-use Rattle.source_step.proofs.Numbers.{four-terms}
+use mir.Val.{SFits, toZ}
+use Rattle.model.specs.Steps.{integerAt, linear}
+use Rattle.source_step.specs.Row.{constantAt, variableAt, weightAt, termsAt}
+use Rattle.source_step.proofs.Rows.{Left, left-start, left-next, left-none, row-tabulate}
 use borrow.Author.Needs.{needs}
 use Rattle.source_step.proofs.linear_value.Statement.{statement}
 use Rattle.source_step.proofs.linear_value.Tie as tie
 
-mul-plus-term : tie.Need-mul-plus-term
-mul-plus-term c = search needs
+abbrev Inv-loop : tie.InvT-loop
+Inv-loop values n marks numbers e count sum₀ i₀ sum i =
+    let v = integerAt (take n values) in
+    Left (termsAt marks numbers e) count (λ j. (variableAt marks e j, weightAt numbers e j)) i (λ ts. linear (toZ w64 sum) ts v)
+    (linear (constantAt numbers e) (termsAt marks numbers e) v)
+    × (natAbs (toZ w64 sum) ≤ 10000 + i * 100000000) × (count ≤ 4)
 
-add-plus-term : tie.Need-add-plus-term
-add-plus-term c = search needs
+abbrev μ-loop : tie.MeasureT-loop
+μ-loop values n marks numbers e count sum₀ i₀ sum i = count - i
 
-mul-plus-term-2 : tie.Need-mul-plus-term-2
-mul-plus-term-2 c = search needs
+mul-wide16 : tie.Need-mul-wide16 Inv-loop μ-loop
+mul-wide16 c = search needs
 
-element-copy-out-plus-term : tie.Need-element-copy-out-plus-term
-element-copy-out-plus-term c = search needs
+add-wide16 : tie.Need-add-wide16 Inv-loop μ-loop
+add-wide16 c = search needs
 
-plus-term-requires : tie.Need-plus-term-requires
-plus-term-requires c κs = let s = c .before in
+mul-wide16-2 : tie.Need-mul-wide16-2 Inv-loop μ-loop
+mul-wide16-2 c = search needs
+
+element-copy-out-wide16 : tie.Need-element-copy-out-wide16 Inv-loop μ-loop
+element-copy-out-wide16 c = search needs
+
+wide16-requires : tie.Need-wide16-requires Inv-loop μ-loop
+wide16-requires c κs = search needs
+
+lesser-requires : tie.Need-lesser-requires Inv-loop μ-loop
+lesser-requires c κs = search needs
+
+mul-sum : tie.Need-mul-sum Inv-loop μ-loop
+mul-sum c = search needs
+
+add-sum : tie.Need-add-sum Inv-loop μ-loop
+add-sum c = search needs
+
+mul-sum-2 : tie.Need-mul-sum-2 Inv-loop μ-loop
+mul-sum-2 c = search needs
+
+element-copy-out-sum : tie.Need-element-copy-out-sum Inv-loop μ-loop
+element-copy-out-sum c = search needs
+
+loop-holds : tie.Need-loop-holds Inv-loop μ-loop
+loop-holds c =
+    let s = c .before .before .before .before in
     let k : SFits w64 (constantAt (now (s .args .numbers)) (s .args .e)) = search needs in
-    (s .pre .0, s .pre .1, omega arith, rw (toZ-ofZ k) (record { within = omega (arith, s .pre .0 .usable .constants (s .args .e) (s .pre .1)) }))
+    let q = rw (c .before .before .wide16 .ensures) at (c .before .lesser .ensures) in
+    rw (toZ-ofZ k) (rw q (left-start _ (row-tabulate _ _)), omega (arith, s .pre .0 .usable .constants (s .args .e) (s .pre .1)), omega arith)
 
--- how large each sum is
-one : (c : tie.After-plus-term) → natAbs (c .plus-term .result) ≤ 100010000
-one c =
-    let s = c .before .before in
-    let k : SFits w64 (constantAt (now (s .args .numbers)) (s .args .e)) = search needs in
-    omega (arith, (simp (toZ-ofZ, k) at (c .plus-term .ensures)) .1, s .pre .0 .usable .constants (s .args .e) (s .pre .1))
+plus-term-requires : tie.Need-plus-term-requires Inv-loop μ-loop
+plus-term-requires c κs =
+    let s = c .before .before .before .before .before .before in
+    let l = c .before .loop .inv in
+    (s .pre .0, s .pre .1, omega (arith, l .2, c .loop-test .taken), record { within = omega (arith, l .1, l .2, c .loop-test .taken) })
 
-two : (c : tie.After-plus-term2) → natAbs (c .plus-term2 .result) ≤ 200010000
-two c =
-    let r : SFits w64 (c .before .plus-term .result) = search needs in
-    omega (arith, (rw (toZ-ofZ r) at (c .plus-term2 .ensures)) .1, one (c .before))
+add-i : tie.Need-add-i Inv-loop μ-loop
+add-i c = search needs
 
-three : (c : tie.After-plus-term3) → natAbs (c .plus-term3 .result) ≤ 300010000
-three c =
-    let r : SFits w64 (c .before .plus-term2 .result) = search needs in
-    omega (arith, (rw (toZ-ofZ r) at (c .plus-term3 .ensures)) .1, two (c .before))
+loop-less : tie.Need-loop-less Inv-loop μ-loop
+loop-less c = search needs
 
-plus-term-requires-2 : tie.Need-plus-term-requires-2
-plus-term-requires-2 c κs = let s = c .before .before in
+loop-again : tie.Need-loop-again Inv-loop μ-loop
+loop-again c =
+    let h = c .before in
+    let l = h .before .loop .inv in
     let r : SFits w64 (c .plus-term .result) = search needs in
-    (s .pre .0, s .pre .1, omega arith, rw (toZ-ofZ r) (record { within = omega (arith, one c) }))
-
-plus-term-requires-3 : tie.Need-plus-term-requires-3
-plus-term-requires-3 c κs = let s = c .before .before .before in
-    let r : SFits w64 (c .plus-term2 .result) = search needs in
-    (s .pre .0, s .pre .1, omega arith, rw (toZ-ofZ r) (record { within = omega (arith, two c) }))
-
-plus-term-requires-4 : tie.Need-plus-term-requires-4
-plus-term-requires-4 c κs = let s = c .before .before .before .before in
-    let r : SFits w64 (c .plus-term3 .result) = search needs in
-    (s .pre .0, s .pre .1, omega arith, rw (toZ-ofZ r) (record { within = omega (arith, three c) }))
-
-returns : tie.Need-returns
-returns c = let s = c .before .before .before .before .before in
-    let k : SFits w64 (constantAt (now (s .args .numbers)) (s .args .e)) = search needs in
-    let ra : SFits w64 (c .before .before .before .plus-term .result) = search needs in
-    let rb : SFits w64 (c .before .before .plus-term2 .result) = search needs in
-    let rc : SFits w64 (c .before .plus-term3 .result) = search needs in
-    let rd : SFits w64 (c .plus-term4 .result) = search needs in
-    let e = rw (toZ-ofZ rc) at (c .plus-term4 .ensures) in
-    rw (toZ-ofZ rd) (
-      four-terms (now (s .args .marks)) (now (s .args .numbers)) (s .pre .0 .usable) (integerAt (take (s .args .n) (now (s .args .values)))) (s .args .e) (s .pre .1)
-          ((rw (toZ-ofZ k) at (c .before .before .before .plus-term .ensures)) .0) ((rw (toZ-ofZ ra) at (c .before .before .plus-term2 .ensures)) .0) ((rw (toZ-ofZ rb) at (c .before .plus-term3 .ensures)) .0) (e .0),
-      record { within = omega (arith, e .1, three (c .before)) },
+    rw (toZ-ofZ r) (
+      left-next (l .0) _ (h .loop-test .taken) (λ rest. rw (c .plus-term .ensures .0)),
+      omega (arith, l .1, c .plus-term .ensures .1),
+      l .2,
     )
+
+returns : tie.Need-returns Inv-loop μ-loop
+returns c =
+    let l = c .before .loop .inv in
+    (left-none (l .0) (c .loop-test .left), record { within = omega (arith, l .0 .bound, l .1, l .2) })
 
 pub linear-value-spec : {M : Type 1} → statement M
 linear-value-spec =
     tie.close
     (tie.spec
-    mul-plus-term
-    add-plus-term
-    mul-plus-term-2
-    element-copy-out-plus-term
+    Inv-loop
+    μ-loop
+    mul-wide16
+    add-wide16
+    mul-wide16-2
+    element-copy-out-wide16
+    wide16-requires
+    lesser-requires
+    mul-sum
+    add-sum
+    mul-sum-2
+    element-copy-out-sum
+    loop-holds
     plus-term-requires
-    plus-term-requires-2
-    plus-term-requires-3
-    plus-term-requires-4
+    add-i
+    loop-less
+    loop-again
     returns)

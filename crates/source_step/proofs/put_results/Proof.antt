@@ -1,61 +1,67 @@
--- `source_step::put_results` meets its contract. Assumes nothing.
+-- `source_step::put_results` meets its contract: the results stored are those of the effects, of which there are three where the third is worked out,
+-- and else two at most. Assumes nothing.
 use native.Mathlib.Omega.{arith}
-use Prim.Native.Nat.{_-_}
+use denote.Ref.{now}
 use mir.Facts.{toZ-ofZ}
 use mir.Syntax.{w64}
 use mir.Val.{SFits}
 use borrow.Author.Needs.{needs}
-use Rattle.source_step.proofs.Results.{Worked, none-worked, one-worked, all-worked}
+use Rattle.source_step.proofs.Results.{two-worked, three-worked}
 use Rattle.source_step.proofs.put_results.Statement.{statement}
 use Rattle.source_step.proofs.put_results.Tie as tie
 
-abbrev Inv-loop : tie.InvT-loop
-Inv-loop results₀ values n marks numbers count e₀ results e = Worked n marks numbers values count results e
+result-of-requires : tie.Need-result-of-requires
+result-of-requires c κs = search needs
 
-abbrev μ-loop : tie.MeasureT-loop
-μ-loop results₀ values n marks numbers count e₀ results e = count - e
+element-set-from-results : tie.Need-element-set-from-results
+element-set-from-results c = search needs
 
-effect-count-requires : tie.Need-effect-count-requires Inv-loop μ-loop
-effect-count-requires c κs = search (needs, arith)
+result-of-requires-2 : tie.Need-result-of-requires-2
+result-of-requires-2 c κs = search needs
 
-loop-holds : tie.Need-loop-holds Inv-loop μ-loop
-loop-holds c = none-worked (c .effect-count .ensures) (c .before .pre .0)
+element-set-from-results-2 : tie.Need-element-set-from-results-2
+element-set-from-results-2 c = search needs
 
-result-of-requires : tie.Need-result-of-requires Inv-loop μ-loop
-result-of-requires c κs = search (needs, arith)
+effect-count-requires : tie.Need-effect-count-requires
+effect-count-requires c κs = search needs
 
-mul-t10 : tie.Need-mul-t10 Inv-loop μ-loop
-mul-t10 c = search (needs, arith)
+returns : tie.Need-returns
+returns c =
+    let w = c .before .before in
+    let s = w .before .before in
+    let a : SFits w64 (w .before .result-of .result) = search needs in
+    let b : SFits w64 (w .result-of2 .result) = search needs in
+    rw (toZ-ofZ a, toZ-ofZ b)
+    (two-worked (s .args .n) (now (s .args .marks)) (now (s .args .numbers)) (now (s .args .values)) (w .before .result-of .ensures .0)
+    (w .result-of2 .ensures .0) (now (s .args .results)) (s .pre .0) (omega (arith, c .before .effect-count .ensures, c .if1 .taken)))
 
-element-set-from-results : tie.Need-element-set-from-results Inv-loop μ-loop
-element-set-from-results c = search (needs, arith)
+result-of-requires-3 : tie.Need-result-of-requires-3
+result-of-requires-3 c κs = search needs
 
-add-e : tie.Need-add-e Inv-loop μ-loop
-add-e c = search (needs, arith)
+element-set-from-results-3 : tie.Need-element-set-from-results-3
+element-set-from-results-3 c = search needs
 
-loop-less : tie.Need-loop-less Inv-loop μ-loop
-loop-less c = search (needs, arith)
-
-loop-again : tie.Need-loop-again Inv-loop μ-loop
-loop-again c =
-    let r : SFits w64 (c .result-of .result) = search needs in
-    rw (toZ-ofZ r) (one-worked (c .before .before .loop .inv) (c .before .loop-test .taken) (c .result-of .ensures .0))
-
-returns : tie.Need-returns Inv-loop μ-loop
-returns c = all-worked (c .before .loop .inv) (c .loop-test .left)
+returns-2 : tie.Need-returns-2
+returns-2 c =
+    let w = c .before .before .before in
+    let s = w .before .before in
+    let a : SFits w64 (w .before .result-of .result) = search needs in
+    let b : SFits w64 (w .result-of2 .result) = search needs in
+    let d : SFits w64 (c .result-of3 .result) = search needs in
+    rw (toZ-ofZ a, toZ-ofZ b, toZ-ofZ d)
+    (three-worked (s .args .n) (now (s .args .marks)) (now (s .args .numbers)) (now (s .args .values)) (w .before .result-of .ensures .0)
+    (w .result-of2 .ensures .0) (now (s .args .results)) (s .pre .0) (c .result-of3 .ensures .0))
 
 pub put-results-spec : {M : Type 1} → statement M
 put-results-spec =
     tie.close
     (tie.spec
-    Inv-loop
-    μ-loop
-    effect-count-requires
-    loop-holds
     result-of-requires
-    mul-t10
     element-set-from-results
-    add-e
-    loop-less
-    loop-again
-    returns)
+    result-of-requires-2
+    element-set-from-results-2
+    effect-count-requires
+    returns
+    result-of-requires-3
+    element-set-from-results-3
+    returns-2)

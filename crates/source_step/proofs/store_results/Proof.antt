@@ -1,85 +1,117 @@
--- `source_step::store_results` meets its contract. Assumes nothing.
+-- `source_step::store_results` meets its contract: as many targets are set as there are effects. Assumes nothing.
 use native.Mathlib.Omega.{arith}
-use mathlib.Core.Path.{ap}
-use Prim.Native.Nat.{_-_}
 use denote.Ref.{now}
 use mir.Facts.{toZ-ofZ}
 use mir.Syntax.{w64}
 use mir.Val.{SFits}
 use Rattle.model.specs.Steps.{integerAt}
-use Rattle.source_step.specs.Step.{settled}
-use Rattle.source_step.specs.Row.{targetAt, pairsOf}
-use Rattle.source_step.proofs.Rows.{Left, left-start, left-next, left-none, row-tabulate}
+use Rattle.source_step.proofs.Results.{none-set, one-set, two-set, three-set}
 use borrow.Author.Needs.{needs}
 use Rattle.source_step.proofs.store_results.Statement.{statement}
 use Rattle.source_step.proofs.store_results.Tie as tie
 
-abbrev Inv-loop : tie.InvT-loop
-Inv-loop values₀ n marks results count e₀ values e =
-    Left (pairsOf marks results) count (λ j. (targetAt marks j, integerAt results j)) e (λ ps. settled n ps values) (settled n (pairsOf marks results) values₀)
+effect-count-requires : tie.Need-effect-count-requires
+effect-count-requires c κs = search needs
 
-abbrev μ-loop : tie.MeasureT-loop
-μ-loop values₀ n marks results count e₀ values e = count - e
+returns : tie.Need-returns
+returns c =
+    let s = c .before .before in
+    none-set (s .args .n) (now (s .args .marks)) (now (s .args .results)) (now (s .args .values))
+    (omega (arith, c .before .effect-count .ensures, c .if1 .taken))
 
-effect-count-requires : tie.Need-effect-count-requires Inv-loop μ-loop
-effect-count-requires c κs = search (needs, arith)
+element-copy-out-set-value : tie.Need-element-copy-out-set-value
+element-copy-out-set-value c = search needs
 
-loop-holds : tie.Need-loop-holds Inv-loop μ-loop
-loop-holds c = rw (c .effect-count .ensures) (left-start _ (row-tabulate _ _))
+element-copy-out-set-value-2 : tie.Need-element-copy-out-set-value-2
+element-copy-out-set-value-2 c = search needs
 
-mul-set-value : tie.Need-mul-set-value Inv-loop μ-loop
-mul-set-value c = search (needs, arith)
+set-value-requires : tie.Need-set-value-requires
+set-value-requires c κs = search needs
 
-add-set-value : tie.Need-add-set-value Inv-loop μ-loop
-add-set-value c = search (needs, arith)
+returns-2 : tie.Need-returns-2
+returns-2 c =
+    let b = c .before .before .before .before .before .before in
+    let s = b .before in
+    let x : SFits w64 (integerAt (now (s .args .results)) 0) = search needs in
+    one-set (s .args .n) (now (s .args .marks)) (now (s .args .results)) (now (s .args .values)) (rw (toZ-ofZ x) at (c .before .set-value .ensures))
+    (omega (arith, b .effect-count .ensures, c .before .before .before .before .before .if1 .left, c .if2 .taken))
 
-mul-set-value-2 : tie.Need-mul-set-value-2 Inv-loop μ-loop
-mul-set-value-2 c = search (needs, arith)
+add-set-value : tie.Need-add-set-value
+add-set-value c = search needs
 
-element-copy-out-set-value : tie.Need-element-copy-out-set-value Inv-loop μ-loop
-element-copy-out-set-value c = search (needs, arith)
+mul-set-value : tie.Need-mul-set-value
+mul-set-value c = search needs
 
-mul-set-value-3 : tie.Need-mul-set-value-3 Inv-loop μ-loop
-mul-set-value-3 c = search (needs, arith)
+element-copy-out-set-value-3 : tie.Need-element-copy-out-set-value-3
+element-copy-out-set-value-3 c = search needs
 
-element-copy-out-set-value-2 : tie.Need-element-copy-out-set-value-2 Inv-loop μ-loop
-element-copy-out-set-value-2 c = search (needs, arith)
+element-copy-out-set-value-4 : tie.Need-element-copy-out-set-value-4
+element-copy-out-set-value-4 c = search needs
 
-set-value-requires : tie.Need-set-value-requires Inv-loop μ-loop
-set-value-requires c κs = search (needs, arith)
+set-value-requires-2 : tie.Need-set-value-requires-2
+set-value-requires-2 c κs = search needs
 
-add-e : tie.Need-add-e Inv-loop μ-loop
-add-e c = search (needs, arith)
+returns-3 : tie.Need-returns-3
+returns-3 c =
+    let f = c .before .before .before .before .before in
+    let b = f .before .before .before .before .before .before in
+    let s = b .before in
+    let x : SFits w64 (integerAt (now (s .args .results)) 0) = search needs in
+    let y : SFits w64 (integerAt (now (s .args .results)) 1) = search needs in
+    two-set (s .args .n) (now (s .args .marks)) (now (s .args .results)) (now (s .args .values)) (rw (toZ-ofZ x) at (f .before .set-value .ensures))
+    (rw (toZ-ofZ y) at (c .before .set-value2 .ensures)) (omega (arith, b .effect-count .ensures, f .if2 .left, c .if3 .taken))
 
-loop-less : tie.Need-loop-less Inv-loop μ-loop
-loop-less c = search (needs, arith)
+mul-set-value-2 : tie.Need-mul-set-value-2
+mul-set-value-2 c = search needs
 
-loop-again : tie.Need-loop-again Inv-loop μ-loop
-loop-again c =
-    let h = c .before .before .before .before in
-    let s = h .before .before .before in
-    let x : SFits w64 (integerAt (now (s .args .results)) (h .before .loop .e)) = search needs in
-    left-next (h .before .loop .inv) _ (h .loop-test .taken) (λ rest. ap (settled (s .args .n) rest) (rw (toZ-ofZ x) at (c .set-value .ensures)))
+add-set-value-2 : tie.Need-add-set-value-2
+add-set-value-2 c = search needs
 
-returns : tie.Need-returns Inv-loop μ-loop
-returns c = left-none (c .before .loop .inv) (c .loop-test .left)
+mul-set-value-3 : tie.Need-mul-set-value-3
+mul-set-value-3 c = search needs
+
+element-copy-out-set-value-5 : tie.Need-element-copy-out-set-value-5
+element-copy-out-set-value-5 c = search needs
+
+element-copy-out-set-value-6 : tie.Need-element-copy-out-set-value-6
+element-copy-out-set-value-6 c = search needs
+
+set-value-requires-3 : tie.Need-set-value-requires-3
+set-value-requires-3 c κs = search needs
+
+returns-4 : tie.Need-returns-4
+returns-4 c =
+    let g = c .before .before .before .before in
+    let f = g .before .before .before .before .before in
+    let b = f .before .before .before .before .before .before in
+    let s = b .before in
+    let x : SFits w64 (integerAt (now (s .args .results)) 0) = search needs in
+    let y : SFits w64 (integerAt (now (s .args .results)) 1) = search needs in
+    let z : SFits w64 (integerAt (now (s .args .results)) 2) = search needs in
+    three-set (s .args .n) (now (s .args .marks)) (now (s .args .results)) (now (s .args .values)) (rw (toZ-ofZ x) at (f .before .set-value .ensures))
+    (rw (toZ-ofZ y) at (g .before .set-value2 .ensures)) (rw (toZ-ofZ z) at (c .set-value3 .ensures))
+    (omega (arith, b .effect-count .ensures, g .if3 .left))
 
 pub store-results-spec : {M : Type 1} → statement M
 store-results-spec =
     tie.close
     (tie.spec
-    Inv-loop
-    μ-loop
     effect-count-requires
-    loop-holds
-    mul-set-value
-    add-set-value
-    mul-set-value-2
+    returns
     element-copy-out-set-value
-    mul-set-value-3
     element-copy-out-set-value-2
     set-value-requires
-    add-e
-    loop-less
-    loop-again
-    returns)
+    returns-2
+    add-set-value
+    mul-set-value
+    element-copy-out-set-value-3
+    element-copy-out-set-value-4
+    set-value-requires-2
+    returns-3
+    mul-set-value-2
+    add-set-value-2
+    mul-set-value-3
+    element-copy-out-set-value-5
+    element-copy-out-set-value-6
+    set-value-requires-3
+    returns-4)

@@ -1,19 +1,19 @@
--- `plan_project::sources_of` meets its contract. The loop's invariant is `Filling`: the actions passed have their entries, and there are no others. Assumes nothing.
+-- `plan_project::put_openers` meets its contract. The loop's invariant is `Filling`: the actions passed have their entries, and there are no others. Assumes nothing.
 use Prim.Native.Nat.{_-_}
 use native.Mathlib.Omega.{arith}
 use Rattle.plan_project.proofs.Filling.{Filling, filling-start, filling-next, filling-end}
 use borrow.Author.Needs.{needs}
-use Rattle.plan_project.proofs.sources_of.Statement.{statement}
-use Rattle.plan_project.proofs.sources_of.Tie as tie
+use Rattle.plan_project.proofs.put_openers.Statement.{statement}
+use Rattle.plan_project.proofs.put_openers.Tie as tie
 
 abbrev Inv-loop : tie.InvT-loop
-Inv-loop count openings s₀ k₀ s k = Filling (openings .numbers) count (s .numbers) k
+Inv-loop sources₀ count openings k₀ sources k = Filling openings count sources k
 
 abbrev μ-loop : tie.MeasureT-loop
-μ-loop count openings s₀ k₀ s k = count - k
+μ-loop sources₀ count openings k₀ sources k = count - k
 
 loop-holds : tie.Need-loop-holds Inv-loop μ-loop
-loop-holds c = filling-start _ _
+loop-holds c = rw (c .pre .0) (filling-start _ _)
 
 mul-wide16 : tie.Need-mul-wide16 Inv-loop μ-loop
 mul-wide16 c = search needs
@@ -24,13 +24,13 @@ element-copy-out-wide16 c = search needs
 wide16-requires : tie.Need-wide16-requires Inv-loop μ-loop
 wide16-requires c κs = search needs
 
-cast-s : tie.Need-cast-s Inv-loop μ-loop
-cast-s c = search needs
+cast-sources : tie.Need-cast-sources Inv-loop μ-loop
+cast-sources c = search needs
 
-element-write-s : tie.Need-element-write-s Inv-loop μ-loop
-element-write-s c = let h = c .before .before in
+element-write-sources : tie.Need-element-write-sources Inv-loop μ-loop
+element-write-sources c = let h = c .before .before in
     let l = h .before in
-    omega (arith, c .wide16 .ensures, l .before .pre .small (l .loop .k) (h .loop-test .taken))
+    omega (arith, c .wide16 .ensures, l .before .pre .1 .small (l .loop .k) (h .loop-test .taken))
 
 add-k : tie.Need-add-k Inv-loop μ-loop
 add-k c = search needs
@@ -41,13 +41,13 @@ loop-less c = search needs
 loop-again : tie.Need-loop-again Inv-loop μ-loop
 loop-again c = let h = c .before .before in
     let l = h .before in
-    filling-next (l .before .pre) (l .loop .inv) (c .wide16 .ensures) (h .loop-test .taken)
+    filling-next (l .before .pre .1) (l .loop .inv) (c .wide16 .ensures) (h .loop-test .taken)
 
 returns : tie.Need-returns Inv-loop μ-loop
-returns c = let l = c .before in filling-end (l .before .pre) (l .loop .inv) (c .loop-test .left)
+returns c = let l = c .before in filling-end (l .before .pre .1) (l .loop .inv) (c .loop-test .left)
 
-pub sources-of-spec : {M : Type 1} → statement M
-sources-of-spec =
+pub put-openers-spec : {M : Type 1} → statement M
+put-openers-spec =
     tie.close
     (tie.spec
     Inv-loop
@@ -56,8 +56,8 @@ sources-of-spec =
     mul-wide16
     element-copy-out-wide16
     wide16-requires
-    cast-s
-    element-write-s
+    cast-sources
+    element-write-sources
     add-k
     loop-less
     loop-again
