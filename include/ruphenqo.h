@@ -16,13 +16,13 @@
  *
  *    reading, the place of an action, a start, a refusal's text        1 KB
  *    a step, the price of a step                                       4 KB
- *    lowering                                                          7 KB
+ *    lowering                                                          5 KB
  *    judging or pricing a source plan, expanding, listing             18 KB
- *    projecting                                                       25 KB
+ *    projecting                                                       21 KB
  *    judging a restricted plan                                       420 KB
  *
- * TIME. Every call reads the task's file anew, which is most of what a step by itself takes: some 5 microseconds with a source file of
- * 4,534 bytes, some 34 with its lowering of 28,297 (docs/PERFORMANCE.md). To check a plan judge it whole; don't take its steps one by one.
+ * TIME. Every call reads the task's file anew, which is most of what a step by itself takes: 3 to 5 microseconds with a source file
+ * of 4,534 bytes, 24 to 34 with its lowering of 28,297 (docs/PERFORMANCE.md). To check a plan judge it whole; don't take its steps one by one.
  *
  * ANSWERS. A function returns 0, or the number of the refusal:
  *
