@@ -22,7 +22,7 @@
  *    judging a restricted plan                                       420 KB
  *
  * TIME. Every call reads the task's file anew, which is most of what a step by itself takes: 3 to 5 microseconds with a source file
- * of 4,534 bytes, 24 to 34 with its lowering of 28,297 (docs/PERFORMANCE.md). To check a plan judge it whole; don't take its steps one by one.
+ * of 4,534 bytes, 24 to 31 with its lowering of 28,297 (docs/PERFORMANCE.md). To check a plan judge it whole; don't take its steps one by one.
  *
  * ANSWERS. A function returns 0, or the number of the refusal:
  *
