@@ -19,7 +19,7 @@ use Rattle.lists.proofs.Each.{length-tabulate}
 use Rattle.model.specs.Tasks.{NumericCondition, RestrictedAction}
 use Rattle.model.specs.Steps.{naturalAt}
 use Rattle.model.specs.Stages.{Stage, Name, leftOver, opposite, falling, rising, turn}
-use Rattle.model.specs.Lowering.{numberOfName, numberedAdditions, numberedConditions, allInFourRelations, numbered}
+use Rattle.model.specs.Lowering.{numberOfName, numberedAdditions, allInFourRelations, numbered}
 use Rattle.file_parts.specs.Layout.{MARKS, NUMBERS, conditionCount, modeConditionCount, modeEffectCount, additionCount}
 use Rattle.file_parts.specs.Row.{conditionIn, modeConditionIn, modeEffectIn, additionIn, rowIs, PartsFit, Says}
 use Rattle.file_parts.specs.With.{condition, withCondition, withAddition}

@@ -11,13 +11,21 @@ use lib.IntN.{ℤ}
 use Rattle.model.specs.Tasks.{SourceAction}
 use Rattle.model.specs.Stages.{opening, sourceNumber}
 
--- what the table has at a number; 32, which no source action has, past its end
+-- the restricted numbers that the table has room for
+abbrev pub OPENINGS : ℕ
+OPENINGS = 3200
+
+-- what stands in it for a number that opens no source action, and is the number of none
+abbrev pub NONE : ℕ
+NONE = 32
+
+-- what the table has at a number; NONE past its end
 abbrev pub entryAt : List ℕ → ℕ → ℕ
-entryAt numbers k = cond (ltb k 3200) (getD numbers k 0) 32
+entryAt numbers k = cond (ltb k OPENINGS) (getD numbers k 0) NONE
 
 -- a source action by its number, or none
 abbrev pub named : ℕ → Option ℕ
-named s = cond (ltb s 32) (some s) none
+named s = cond (ltb s NONE) (some s) none
 
 -- the source action that a restricted number opens
 abbrev pub sourceIn : List ℕ → ℕ → Option ℕ
@@ -34,7 +42,7 @@ OpenedBy opening numbers = (k a : ℕ) → sourceIn numbers k ≡ some a → ope
 -- the numbers of so many openings, which the table has room for
 pub record Openable (openings : List ℕ) (count : ℕ) : Type 0 where
   pub few : count ≤ 32
-  pub small : (k : ℕ) → k < count → getD openings k 0 < 3200
+  pub small : (k : ℕ) → k < count → getD openings k 0 < OPENINGS
 
 -- the table tells of every number what the definitions tell of it
 pub record Sourced (openings : List ℕ) (count : ℕ) (numbers : List ℕ) : Type 0 where

@@ -25,7 +25,7 @@ ghost use Rattle.model.specs.Judging.{projectBytes};
 ghost use Rattle.source_step.specs.Step.{state};
 ghost use Rattle.source_step.specs.Row.{Usable};
 ghost use Rattle.source_step.specs.Table.{table, Usables};
-ghost use Rattle.plan_project.specs.Sources.{entryAt, sourceIn, Below, Openable, Sourced};
+ghost use Rattle.plan_project.specs.Sources.{OPENINGS, NONE, entryAt, sourceIn, Below, Openable, Sourced};
 ghost use Rattle.plan_strokes.specs.Made.{MacroIs};
 ghost use Rattle.plan_project.specs.Following.{Answers, Further, strayedAt, pastAt, intoAt, strokesWalked, Advanced};
 ghost use Rattle.plan_project.specs.Following.{notedAt, Notes, PlanFollowed};
@@ -44,7 +44,7 @@ const NONE: u8 = 32;
 
 // Which source action each restricted number opens, into a table of NONE, from the numbers of the openings of so many actions.
 fn put_openers(sources: &mut [u8; OPENINGS], count: usize, openings: &[u16; ENTRIES])
-    requires { ⌜ (now sources ≡ replicate 3200 32) × Openable (now openings) count ⌝ }
+    requires { ⌜ (now sources ≡ replicate OPENINGS NONE) × Openable (now openings) count ⌝ }
     ensures { λ _. ⌜ Sourced (now (openings .entry)) count (now (sources .exit)) ⌝ }
 {
     let mut k: usize = 0;

@@ -15,7 +15,6 @@ use lib.IntN.{ℤ, pos, negsuc, _-ℤ_, _*ℤ_}
 use lib.Signed.{leZ}
 use Rattle.integers.specs.Division.{unitLess, floor, quotientOf}
 use Rattle.integers.proofs.Parts.{ints, sub, mul-up, mul-down}
-use Rattle.lists.specs.Each.{tabulate}
 use Rattle.lists.proofs.Each.{length-tabulate}
 use Rattle.model.specs.Tasks.{Effect}
 use Rattle.model.specs.Steps.{integerAt, result}
@@ -23,7 +22,7 @@ use Rattle.source_step.specs.Sizes.{EFFECTS}
 use Rattle.source_step.specs.Row.{targetAt, termCountAt, variableAt, weightAt, termsAt, effectAt, effectCountAt, effectsAt, resultAt, pairsOf, ResultsAre}
 use Rattle.source_step.specs.Row.{Reads}
 use Rattle.source_step.proofs.Results.{pairs-are}
-use Rattle.source_step.proofs.Rows.{Row, Left, left-start, left-next, left-none, row-tabulate}
+use Rattle.source_step.proofs.Rows.{Left, left-start, left-next, left-none, row-tabulate}
 use Rattle.plan_strokes.specs.Strokes.{STAGES, termStrokes, resultStrokes, heldStrokes, setStrokes, strokesOf}
 use Rattle.plan_strokes.specs.Made.{More, TermsMade, HeldMade, StrokesMade, MacroIs}
 use Rattle.plan_strokes.proofs.Effects.{stays-few, one-effect, several-effects, no-strokes, workStrokes, macro-strokes, one-held}
@@ -277,9 +276,6 @@ module _ {n : ℕ} {marks : List ℕ} {numbers : List ℤ} {values : List ℤ} (
 
         long : place ≡ length (resultStrokes only w) + 1
         long = g .counted ∙ ap length (sym (g .is) ∙ whole) ∙ length-append (resultStrokes only w) (result only w ∷ [])
-
-        pub held-some : 1 ≤ place
-        held-some = omega (arith, long)
 
         front : take (place - 1) times ≡ workStrokes (effectsAt marks numbers) w
         front =

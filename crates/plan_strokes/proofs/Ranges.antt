@@ -1,6 +1,6 @@
 -- How many strokes the effects of a row have, and how large they are, over values of a source file.
 -- Assumes nothing.
-use mathlib.Core.Path.{_≡_, refl, sym, ap, _∙_, subst}
+use mathlib.Core.Path.{_≡_, refl, sym, ap, subst}
 use Prim.Native.Nat.{ℕ, zero, suc, _+_, _*_, _≤_, _<_, zero-le}
 use native.Mathlib.Nat.{div-le-self}
 use native.Mathlib.Omega.{arith}
@@ -12,7 +12,7 @@ use Rattle.integers.specs.Division.{unitLess, floor, quotientOf, residueOf}
 use Rattle.integers.specs.Parts.{Within, EachWithin}
 use Rattle.lists.specs.Each.{tabulate}
 use Rattle.lists.proofs.Each.{length-tabulate}
-use Rattle.model.specs.Tasks.{Effect, addEffect, linearEffect, quotientEffect, residueEffect}
+use Rattle.model.specs.Tasks.{Effect}
 use Rattle.model.specs.Steps.{integerAt, linear, target, result, results}
 use Rattle.model.specs.Following.{makesMacro}
 use Rattle.model.proofs.StepBounds.{abs-sum}

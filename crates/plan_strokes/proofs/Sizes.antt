@@ -8,10 +8,10 @@ use mathlib.Core.Option.{some, Option·none-ne-some}
 use mathlib.Core.List.{List, [], _∷_}
 use lib.Dec.{T}
 use lib.ListN.{length, getElem?}
-use lib.IntN.{ℤ, pos}
+use lib.IntN.{ℤ}
 use Rattle.model.specs.Tasks.{Effect, addEffect, linearEffect, quotientEffect, residueEffect, SourceAction}
 use Rattle.model.specs.Stages.{Stage, countActions, drainTerms, resultStages, resultIn, moveToHold, nextAdditions, holdStages, unloadStages, setStages}
-use Rattle.model.specs.Stages.{helperA, helperB, stagesOf, macroSize, opening}
+use Rattle.model.specs.Stages.{helperA, stagesOf, macroSize, opening}
 use Rattle.model.specs.Following.{makesMacro}
 use Rattle.model.proofs.Pairing.{some-injective}
 

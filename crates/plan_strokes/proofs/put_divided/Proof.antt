@@ -10,7 +10,6 @@ use mathlib.Core.List.{[], _∷_}
 use lib.IntN.{ℤ, natAbs}
 use lib.ListN.{length, take}
 use Rattle.integers.specs.Division.{unitLess, floor, quotientOf, residueOf}
-use Rattle.integers.specs.Parts.{Within}
 use Rattle.model.specs.Steps.{integerAt}
 use Rattle.source_step.specs.Row.{operandAt, constantAt}
 use Rattle.source_step.proofs.InRange.{quotient-small}

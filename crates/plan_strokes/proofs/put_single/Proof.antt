@@ -1,6 +1,6 @@
 -- `plan_strokes::put_single` meets its contract: the strokes before Clear with the result behind them, as of the first of several effects; then
 -- Clear in the place of that result, and the Move. Assumes nothing.
-use mathlib.Core.Path.{_≡_, sym, _∙_}
+use mathlib.Core.Path.{sym}
 use Prim.Native.Nat.{_-_, _≤_}
 use native.Mathlib.Omega.{arith}
 use denote.Ref.{now}

@@ -1,8 +1,8 @@
 -- `plan_strokes::put_strokes` meets its contract: no strokes, those of a single effect, or of several those up to the holds and behind them
 -- those of the targets. Assumes nothing.
-use mathlib.Core.Path.{_≡_, sym, _∙_, subst}
+use mathlib.Core.Path.{sym, _∙_, subst}
 use native.Mathlib.Omega.{arith}
-use mathlib.Core.Bool.{true, false}
+use mathlib.Core.Bool.{true}
 use denote.Ref.{now}
 use mir.Facts.{toZ-ofZ}
 use mir.Syntax.{w64}
@@ -30,7 +30,8 @@ returns c =
     let s = t .before .before in
     let z : SFits w64 (c .result-of .result) = search needs in
     let m = subst (MacroIs (now (s .args .marks))) (not-true _ (t .if1 .taken)) (t .before .makes-macro .ensures) in
-    rw (toZ-ofZ z) (none-made (s .pre .2) m (s .pre .0) (first-given (s .args .n) (now (s .args .numbers)) (now (s .args .values)) (now (s .args .results)) _ m (s .pre .1) (c .result-of .ensures .0)))
+    let given = first-given (s .args .n) (now (s .args .numbers)) (now (s .args .values)) (now (s .args .results)) _ m (s .pre .1) (c .result-of .ensures .0) in
+    rw (toZ-ofZ z) (none-made (s .pre .2) m (s .pre .0) given)
 
 effect-count-requires : tie.Need-effect-count-requires
 effect-count-requires c κs = search needs

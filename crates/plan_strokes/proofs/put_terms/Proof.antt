@@ -1,7 +1,7 @@
 -- `plan_strokes::put_terms` meets its contract. The loop's invariant: the strokes made, and behind them those of the terms that are left, are
 -- those of all terms. Assumes nothing.
 use mathlib.Core.Path.{_≡_}
-use Prim.Native.Nat.{_-_, _*_}
+use Prim.Native.Nat.{_-_}
 use native.Mathlib.Omega.{arith}
 use denote.Ref.{now}
 use mir.Facts.{toZ-ofZ}

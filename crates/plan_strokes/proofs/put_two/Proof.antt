@@ -2,7 +2,6 @@
 use native.Mathlib.Omega.{arith}
 use mir.Facts.{toZ-ofZ}
 use Rattle.plan_strokes.proofs.Making.{then}
-use borrow.Author.Needs.{needs}
 use Rattle.plan_strokes.proofs.put_two.Statement.{statement}
 use Rattle.plan_strokes.proofs.put_two.Tie as tie
 

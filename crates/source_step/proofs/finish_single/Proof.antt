@@ -1,9 +1,6 @@
 -- `source_step::finish_single` meets its contract: the result, then the modes. Assumes nothing.
-use mathlib.Core.Path.{_≡_, subst}
-use denote.Ref.{now}
 use borrow.Author.Needs.{needs}
 use borrow.Author.Tests.{not-true, not-false}
-use Rattle.source_step.specs.Row.{Settled}
 use Rattle.source_step.proofs.Single.{leaves-all, settles-all}
 use Rattle.source_step.proofs.finish_single.Statement.{statement}
 use Rattle.source_step.proofs.finish_single.Tie as tie

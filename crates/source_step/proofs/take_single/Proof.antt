@@ -1,5 +1,5 @@
 -- `source_step::take_single` meets its contract: the tests of the rows, the result, then the rest of the step. Assumes nothing.
-use mathlib.Core.Path.{_≡_, refl, sym, _∙_}
+use mathlib.Core.Path.{_≡_, sym, _∙_}
 use mathlib.Core.Bool.{true}
 use native.Mathlib.Omega.{arith}
 use denote.Ref.{now}
