@@ -1,4 +1,5 @@
 pub mod Lines
 pub mod Lining
 pub mod Listing
+pub mod Longest
 pub mod Parts

@@ -1,8 +1,8 @@
 -- A part of a listing: the lines until its end, written behind the header or none, and behind them the goal's line or none; what it leaves
--- are the lines behind its end.
+-- are the lines behind its end. And a whole listing into output that is lent.
 -- Assumes nothing.
-use mathlib.Core.Path.{_≡_, refl, sym, ap, _∙_}
-use Prim.Native.Nat.{ℕ, zero, suc, _+_, _-_, _*_, _≤_, _<_}
+use mathlib.Core.Path.{_≡_, refl, sym, ap, ap₂, _∙_}
+use Prim.Native.Nat.{ℕ, zero, suc, _+_, _-_, _*_, _^_, _≤_, _<_}
 use native.Mathlib.Omega.{arith}
 use mathlib.Core.Bool.{Bool, true, false, cond}
 use mathlib.Core.List.{List, [], _∷_, _++_, append-nil, append-assoc}
@@ -11,8 +11,12 @@ use lib.ListN.{length, take, drop}
 use lib.Seq.{take-all, take-append-seam}
 use lib.IntN.{ℤ}
 use borrow.Author.Tests.{lt-ltb, le-ltb, ltb-true, ltb-false}
+use Rattle.lists.specs.Answer.{given}
 use Rattle.lists.specs.Writing.{Room, Wrote}
-use Rattle.lists.proofs.Writing.{Left, start, step, done, recast, room, long, splice-front, wrote-long}
+use Rattle.lists.specs.Written.{Lent}
+use Rattle.lists.specs.declared.Written.the-variants.{Bytes, Refused}
+use Rattle.lists.proofs.Lent.{too-short, written}
+use Rattle.lists.proofs.Writing.{Left, start, step, done, recast, room, room-by, long, splice-front, wrote-long}
 use Rattle.model.specs.Tasks.{State}
 use Rattle.model.specs.Plans.{planNumbers}
 use Rattle.model.specs.Listing.{goalLine, refusedLine, listing}
@@ -25,8 +29,9 @@ use Rattle.listing.specs.declared.Rest.{Rest}
 use Rattle.listing.specs.declared.Rest.the-variants.{Refusal, Lines, Nothing}
 use Rattle.listing.specs.declared.Part.{Part}
 use Rattle.listing.specs.Lines.{LINE, RoomFor}
-use Rattle.listing.specs.Listed.{Listable, LinedTo, linesBy, linesTo}
-use Rattle.listing.specs.Parts.{linesLeft, headerAt, partEnd, goalAt, leftOf, partOf, Unlisted, Pending, Begun, PutPart, NextPart}
+use Rattle.listing.specs.Listed.{Listable, LinedTo, linesBy, linesTo, pricesBy}
+use Rattle.listing.specs.Parts.{mostOf, neededOf, linesLeft, headerAt, partEnd, goalAt, totalOf, leftOf, partOf}
+use Rattle.listing.specs.Parts.{Unlisted, Pending, Begun, PutPart, NextPart}
 use Rattle.listing.proofs.Lines.{room-either, room-for-either}
 
 -- ---- the end of a part
@@ -87,18 +92,23 @@ module _ {S : Sheet} (most : ℕ) {p : List ℕ} {marks : List (List ℕ)} {numb
   abbrev until : ℕ
   until = partEnd (S .next) most (S .task .steps)
 
+  abbrev total : ℕ
+  total = totalOf S p marks numbers values modes
+
   abbrev text : List ℕ
   text = partOf (Lines S) most p marks numbers values modes
 
   between : (S .next ≤ until) × (until ≤ S .task .steps) × (until ≤ S .next + most)
   between = end-between (S .next) most (S .task .steps) (U .listable .ordered)
 
-  pub part-listable : Listable (tableOf (S .task) marks numbers) p (S .next) (partEnd (S .next) most (S .task .steps)) values modes
+  pub part-listable : Listable (tableOf (S .task) marks numbers) p (S .next) (partEnd (S .next) most (S .task .steps)) (S .spent)
+      values modes
   part-listable = record {
     usables = U .listable .usables;
     ordered = between .0;
     inPlan = omega (arith, between .1, U .stepsAre);
     few = omega (arith, between .1, U .listable .few);
+    cheap = U .listable .cheap;
     valuesLong = U .listable .valuesLong;
     modesLong = U .listable .modesLong;
   }
@@ -106,19 +116,19 @@ module _ {S : Sheet} (most : ℕ) {p : List ℕ} {marks : List (List ℕ)} {numb
   -- a part that ends with the last step is all that is left
   all-of-it : S .task .steps ≤ until → text ≡ leftOf (Lines S) p marks numbers values modes
   all-of-it h =
-      ap (λ (g : List ℕ). headerAt (S .next) ++ (linesTo T (S .next) until p x ++ g)) (goal-here (S .total) h)
-      ∙ ap (λ (q : List ℕ). headerAt (S .next) ++ (linesBy T (S .next) (drop (S .next) q) x ++ goalLine (S .total)))
+      ap (λ (g : List ℕ). headerAt (S .next) ++ (linesTo T (S .next) until p x ++ g)) (goal-here total h)
+      ∙ ap (λ (q : List ℕ). headerAt (S .next) ++ (linesBy T (S .next) (drop (S .next) q) x ++ goalLine total))
       (take-all until p (omega (arith, h, U .stepsAre)))
 
   module _ {old : List ℕ} (R : RoomFor old 0 (50 + LINE * most) (partOf (Lines S) most p marks numbers values modes)) where
-    begun : Left old 0 text old 0 (headerAt (S .next) ∷ linesTo T (S .next) until p x ∷ goalAt until (S .task .steps) (S .total) ∷ [])
+    begun : Left old 0 text old 0 (headerAt (S .next) ∷ linesTo T (S .next) until p x ∷ goalAt until (S .task .steps) total ∷ [])
     begun = start old 0 (rw append-nil)
 
     pub header-room : Room old 0 (headerAt (S .next))
     header-room = room-either (omega (arith, header-short (S .next))) refl (λ r. room r begun) R
 
     module _ {o₁ : List ℕ} {at : ℕ} (H : Wrote old 0 (headerAt (S .next)) o₁ at) where
-      behind-header : Left old 0 text o₁ at (linesTo T (S .next) until p x ∷ goalAt until (S .task .steps) (S .total) ∷ [])
+      behind-header : Left old 0 text o₁ at (linesTo T (S .next) until p x ∷ goalAt until (S .task .steps) total ∷ [])
       behind-header = step begun H
 
       pub lines-room : RoomFor o₁ at (LINE * (partEnd (S .next) most (S .task .steps) - S .next))
@@ -127,9 +137,10 @@ module _ {S : Sheet} (most : ℕ) {p : List ℕ} {marks : List (List ℕ)} {numb
           room-for-either (omega (arith, H .place, header-short (S .next), between .2, between .0)) (long behind-header) (λ r. room r behind-header) R
 
       module _ {o₂ : List ℕ} {lined : Lined} {values′ : List ℤ} {modes′ : List ℕ}
-          (L : LinedTo (tableOf (S .task) marks numbers) p (S .next) (partEnd (S .next) most (S .task .steps)) values modes o₁ at o₂ lined values′ modes′)
+          (L : LinedTo (tableOf (S .task) marks numbers) p (S .next) (partEnd (S .next) most (S .task .steps)) (S .spent) values modes o₁ at o₂
+          lined values′ modes′)
         where
-          behind-lines : Left old 0 text o₂ (lined .place) (goalAt until (S .task .steps) (S .total) ∷ [])
+          behind-lines : Left old 0 text o₂ (lined .place) (goalAt until (S .task .steps) total ∷ [])
           behind-lines = step behind-header (L .wrote)
 
           place-few : lined .place ≤ 24 + LINE * most
@@ -138,19 +149,22 @@ module _ {S : Sheet} (most : ℕ) {p : List ℕ} {marks : List (List ℕ)} {numb
           -- steps are left
           pub part-broken : 0 < most → partEnd (S .next) most (S .task .steps) < S .task .steps
               → PutPart (Lines S) most p marks numbers values modes old o₂
-              (record { count = lined .place; rest = Lines (record { task = S .task; total = S .total; next = lined .next }) }) values′ modes′
+              (record { count = lined .place; rest = Lines (record { task = S .task; spent = lined .spent; next = lined .next }) }) values′ modes′
           part-broken m h =
-              let none : goalAt until (S .task .steps) (S .total) ≡ [] = goal-later (S .total) h in
+              let none : goalAt until (S .task .steps) total ≡ [] = goal-later total h in
               let end : until ≡ S .next + most = end-broken (S .next) most (S .task .steps) h in
               let rest : List ℕ = linesBy T (lined .next) (drop (lined .next) p) (state values′ modes′) in
+              let left-to-pay : ℕ = pricesBy T (drop (lined .next) p) (state values′ modes′) in
+              let goal : List ℕ = goalLine (lined .spent + left-to-pay) in
+              let paid : total ≡ lined .spent + left-to-pay = omega (arith, L .sum, L .leftToPay) in
               record {
                 wrote = done (recast (ap (λ (g : List ℕ). g ++ []) none) behind-lines);
                 few = omega (arith, place-few);
                 left =
-                    ap (λ (l : List ℕ). headerAt (S .next) ++ (l ++ goalLine (S .total))) (L .left)
-                    ∙ in-two (headerAt (S .next)) (linesTo T (S .next) until p x) rest (goalLine (S .total))
-                    ∙ ap (λ (g : List ℕ). (headerAt (S .next) ++ (linesTo T (S .next) until p x ++ g)) ++ (rest ++ goalLine (S .total))) (sym none)
-                    ∙ ap (λ (g : List ℕ). text ++ (g ++ (rest ++ goalLine (S .total)))) (sym (no-header (lined .next) (omega (arith, L .further, end, m))));
+                    ap₂ (λ (l : List ℕ) (n : ℕ). headerAt (S .next) ++ (l ++ goalLine n)) (L .left) paid
+                    ∙ in-two (headerAt (S .next)) (linesTo T (S .next) until p x) rest goal
+                    ∙ ap (λ (g : List ℕ). (headerAt (S .next) ++ (linesTo T (S .next) until p x ++ g)) ++ (rest ++ goal)) (sym none)
+                    ∙ ap (λ (g : List ℕ). text ++ (g ++ (rest ++ goal))) (sym (no-header (lined .next) (omega (arith, L .further, end, m))));
                 pending = record {
                   stepsAre = U .stepsAre;
                   listable = record {
@@ -158,6 +172,7 @@ module _ {S : Sheet} (most : ℕ) {p : List ℕ} {marks : List (List ℕ)} {numb
                     ordered = omega (arith, L .inPlan, U .stepsAre);
                     inPlan = U .listable .inPlan;
                     few = U .listable .few;
+                    cheap = L .cheap;
                     valuesLong = L .valuesLong;
                     modesLong = L .modesLong;
                   };
@@ -167,13 +182,19 @@ module _ {S : Sheet} (most : ℕ) {p : List ℕ} {marks : List (List ℕ)} {numb
 
           -- the last step's line is written
           module _ (h : S .task .steps ≤ partEnd (S .next) most (S .task .steps)) where
-            behind-all : Left old 0 text o₂ (lined .place) (goalLine (S .total) ∷ [])
-            behind-all = recast (ap (λ (g : List ℕ). g ++ []) (goal-here (S .total) h)) behind-lines
+            -- all is paid
+            all-spent : total ≡ lined .spent
+            all-spent =
+                ap (λ (q : List ℕ). S .spent + pricesBy T (drop (S .next) q) x) (sym (take-all until p (omega (arith, h, U .stepsAre))))
+                ∙ sym (L .sum)
 
-            pub goal-room : RoomFor o₂ (lined .place) 26 (goalLine (S .total))
+            behind-all : Left old 0 text o₂ (lined .place) (goalLine (lined .spent) ∷ [])
+            behind-all = recast (ap (λ (g : List ℕ). g ++ []) (goal-here total h ∙ ap goalLine all-spent)) behind-lines
+
+            pub goal-room : RoomFor o₂ (lined .place) 26 (goalLine (lined .spent))
             goal-room = room-for-either (omega (arith, place-few)) (long behind-all) (λ r. room r behind-all) R
 
-            pub part-last : {o₃ : List ℕ} {count : ℕ} → Wrote o₂ (lined .place) (goalLine (S .total)) o₃ count → count ≤ lined .place + 26
+            pub part-last : {o₃ : List ℕ} {count : ℕ} → Wrote o₂ (lined .place) (goalLine (lined .spent)) o₃ count → count ≤ lined .place + 26
                 → PutPart (Lines S) most p marks numbers values modes old o₃ (record { count = count; rest = Nothing }) values′ modes′
             part-last g m = record {
               wrote = done (step behind-all g);
@@ -212,6 +233,62 @@ whole Nothing p marks numbers values modes P = refl
 pub listed : {file plan : List ℕ} {rest : Rest} {marks : List (List ℕ)} {numbers : List (List ℤ)} {values : List ℤ} {modes : List ℕ}
     → Begun file plan rest marks numbers values modes → listing file plan ≡ partOf rest 1_000_000 (planNumbers plan) marks numbers values modes
 listed {plan = plan} {rest} {marks} {numbers} {values} {modes} B = sym (whole rest (planNumbers plan) marks numbers values modes (B .pending) ∙ B .left)
+
+-- ---- how many bytes must be lent
+
+-- the most bytes are a number of 64 bits
+pub most-fits : (rest : Rest) (p : List ℕ) (marks : List (List ℕ)) (numbers : List (List ℤ)) (values : List ℤ) (modes : List ℕ)
+    → Pending rest p marks numbers values modes → mostOf rest < 2 ^ 64
+most-fits (Refusal number place) p marks numbers values modes P = omega arith
+most-fits (Lines S) p marks numbers values modes U = omega (arith, U .listable .few)
+most-fits Nothing p marks numbers values modes P = omega arith
+
+module _ (room : ℕ) (rest : Rest) where
+  pub need-none : (long : ℕ) → mostOf rest ≤ room → 0 ≡ neededOf room rest long
+  need-none long h = rw (le-ltb room (mostOf rest) h)
+
+  pub need-counted : {text none after : List ℕ} {n : ℕ} → room < mostOf rest → Wrote none 0 text after n
+      → n ≡ neededOf room rest (length text)
+  need-counted h w = rw (lt-ltb room (mostOf rest) h) (omega (arith, w .place))
+
+  -- where more is needed than there is, it is the text's length
+  need-all : {long : ℕ} → room < neededOf room rest long → neededOf room rest long ≡ long
+  need-all {long} h = go (ltb room (mostOf rest)) h
+    where
+      go : (b : Bool) → room < cond b long 0 → cond b long 0 ≡ long
+      go true l = refl
+      go false l = absurd (omega (arith, l))
+
+  -- where no more is needed, a text no longer than the most fits
+  need-met : {long : ℕ} → long ≤ mostOf rest → neededOf room rest long ≤ room → long ≤ room
+  need-met {long} m h = go (ltb room (mostOf rest)) refl h
+    where
+      go : (b : Bool) → ltb room (mostOf rest) ≡ b → cond b long 0 ≤ room → long ≤ room
+      go true e l = l
+      go false e l = omega (arith, m, ltb-false room (mostOf rest) e)
+
+-- so the listing is written, or not, as the bytes needed say
+module _ (old : List ℕ) {file plan : List ℕ} {rest : Rest} {marks : List (List ℕ)} {numbers : List (List ℤ)} {values : List ℤ} {modes : List ℕ}
+    (B : Begun file plan rest marks numbers values modes) {need : ℕ}
+    (is : need ≡ neededOf (length old) rest (length (partOf rest 1_000_000 (planNumbers plan) marks numbers values modes))) where
+  abbrev listing-text : List ℕ
+  listing-text = partOf rest 1_000_000 (planNumbers plan) marks numbers values modes
+
+  pub listing-short : length old < need → Lent old (given (listing file plan)) old (Refused 8 need)
+  listing-short h = too-short (ap given (listed B)) (is ∙ need-all (length old) rest (rw is at h)) h
+
+  listing-fits : need ≤ length old → length listing-text ≤ length old
+  listing-fits h = need-met (length old) rest (omega (arith, B .short, ap length (listed B))) (rw is at h)
+
+  pub listing-room : need ≤ length old → Room old 0 (partOf rest 1_000_000 (planNumbers plan) marks numbers values modes)
+  listing-room h = room-by (omega (arith, listing-fits h))
+
+  pub listing-written : need ≤ length old → {after : List ℕ} {count : ℕ}
+      → Wrote old 0 (partOf rest 1_000_000 (planNumbers plan) marks numbers values modes) after count
+      → Lent old (given (listing file plan)) after (Bytes count)
+  listing-written h {count = count} w =
+      let all : count ≡ length listing-text = omega (arith, w .place) in
+      written (ap given (listed B)) all (omega (arith, all, listing-fits h)) w
 
 -- ---- where no line is left, no byte is
 pub nothing-left : (rest : Rest) (p : List ℕ) (marks : List (List ℕ)) (numbers : List (List ℤ)) (values : List ℤ) (modes : List ℕ)

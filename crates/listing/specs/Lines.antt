@@ -15,7 +15,8 @@ field z = 32 ∷ decimalSigned z
 abbrev pub lineOf : ℕ → ℕ → ℕ → List ℤ → List ℕ
 lineOf i k price values = decimal i ++ fieldsOf (pos k ∷ pos price ∷ values)
 
--- the most bytes of the line of a step: three numbers of at most 20 digits, eight values of at most 20 characters, and what parts them
+-- room for the line of a step by the widths of its numbers alone: three of at most 20 digits, eight values of at most 20 characters, and what
+-- parts them. In the listing of a valid plan a line is shorter (`Parts.LONGEST`)
 abbrev pub LINE : ℕ
 LINE = 231
 

@@ -2,8 +2,8 @@
 // that names the refusal.
 //
 // It is written into output that a caller lends: whole by `list`, or part by part. `begin` judges the plan, and `put_part` writes the next part
-// of what is left, into as many bytes as hold every part. The functions that write store nothing into output of length 0 and only count there,
-// by which `list` knows the length first: it writes nothing where the text does not fit.
+// of what is left, into as many bytes as hold every part, and sums up what its steps cost. The functions that write store nothing into output
+// of length 0 and only count there. `list` counts so where the output lent may be too short: it writes nothing where the text does not fit.
 use plan_strokes::STAGES;
 use source_step::MARKS;
 use source_step::MODES;
@@ -11,8 +11,8 @@ use source_step::NUMBERS;
 use source_step::VARIABLES;
 use source_walk::ROWS;
 ghost use mathlib.Core.Path.{_≡_};
-ghost use Prim.Native.Nat.{_+_, _-_, _*_, _≤_, _<_};
-ghost use mathlib.Core.Bool.{true};
+ghost use Prim.Native.Nat.{_+_, _-_, _*_, _^_, _≤_, _<_};
+ghost use mathlib.Core.Bool.{false};
 ghost use lib.Dec.{ltb};
 ghost use lib.ListN.{length, take, replicate};
 ghost use lib.IntN.{pos};
@@ -29,7 +29,8 @@ ghost use Rattle.source_walk.specs.Opening.{tableOf};
 ghost use Rattle.source_walk.specs.Walk.{judgeBy};
 ghost use Rattle.listing.specs.Lines.{field, lineOf, LINE, RoomFor};
 ghost use Rattle.listing.specs.Listed.{Listable, LinedTo, linesTo};
-ghost use Rattle.listing.specs.Parts.{PART, linesLeft, restBy, Pending, Begun, headerAt, partEnd, partOf, PutPart, NextPart};
+ghost use Rattle.listing.specs.Parts.{PART, mostOf, neededOf, linesLeft, restBy, Pending, Begun, headerAt, partEnd, partOf, PutPart};
+ghost use Rattle.listing.specs.Parts.{NextPart};
 
 // The most lines of a plan: it has no more steps.
 const MOST_LINES: usize = 1_000_000;
@@ -115,19 +116,21 @@ fn put_refused_line(out: &mut [u8], at: usize, number: u64, place: u64) -> usize
     lists::put_number(out, end, 10, 1)
 }
 
-// Where a walk over a plan stands: the place behind the lines written, and the step that comes next.
+// Where a walk over a plan stands: the place behind the lines written, the price of the steps so far, and the step that comes next.
 struct Lined {
     place: usize,
+    spent: u64,
     next: usize,
 }
 
-// The lines of the steps from one on and until another, from a lent state on.
+// The lines of the steps from one on and until another, from a lent state on; their prices are added to that of the steps before.
 fn put_lines(
     out: &mut [u8],
     at: usize,
     plan: &[u8],
     from: usize,
     until: usize,
+    before: u64,
     count: usize,
     marks: &[[u16; MARKS]],
     numbers: &[[i64; NUMBERS]],
@@ -136,20 +139,22 @@ fn put_lines(
     values: &mut [i64; VARIABLES],
     modes: &mut [u16; MODES],
 ) -> Lined
-    requires { ⌜ Listable (table count (now marks) (now numbers) n m) (planNumbers (now plan)) from until (now values) (now modes) ⌝ }
+    requires { ⌜ Listable (table count (now marks) (now numbers) n m) (planNumbers (now plan)) from until before (now values) (now modes) ⌝ }
     requires { ⌜ RoomFor (now out) at (LINE * (until - from)) (linesTo (table count (now marks) (now numbers) n m) from until
         (planNumbers (now plan)) (state (now values) (now modes))) ⌝ }
-    ensures { λ r. ⌜ LinedTo (table count (now (marks .entry)) (now (numbers .entry)) n m) (planNumbers (now (plan .entry))) from until
+    ensures { λ r. ⌜ LinedTo (table count (now (marks .entry)) (now (numbers .entry)) n m) (planNumbers (now (plan .entry))) from until before
         (now (values .entry)) (now (modes .entry)) (now (out .entry)) at (now (out .exit)) r (now (values .exit)) (now (modes .exit)) ⌝ }
 {
     let mut times = [0i64; STAGES];
     let mut place = at;
+    let mut spent = before;
     let mut i: usize = from;
     while i < until {
         let k = source_step::wide16(plan_bytes::action_of(plan, i));
         if count <= k {
             return Lined {
                 place,
+                spent,
                 next: plan.len() / 2,
             };
         }
@@ -165,20 +170,26 @@ fn put_lines(
         if !turn.applied {
             return Lined {
                 place,
+                spent,
                 next: plan.len() / 2,
             };
         }
         place = put_step_line(out, place, i as u64, k as u64, turn.price, values, n);
+        spent += turn.price;
         i += 1;
     }
-    Lined { place, next: until }
+    Lined {
+        place,
+        spent,
+        next: until,
+    }
 }
 
-// What is left of the listing of a valid plan: what was opened, the total price, and the step whose line comes next. The header is left where
-// that is the first.
+// What is left of the listing of a valid plan: what was opened, the price of the steps whose lines are written, and the step whose line comes
+// next. The header is left where that is the first.
 pub struct Sheet {
     pub task: source_walk::Task,
-    pub total: u64,
+    pub spent: u64,
     pub next: usize,
 }
 
@@ -200,7 +211,7 @@ pub fn any_left(rest: Rest) -> bool
     }
 }
 
-// Judges a plan from a state on: what its listing is.
+// Judges a plan from a state on, without prices: what its listing is.
 fn judge(
     plan: &[u8],
     task: source_walk::Task,
@@ -211,8 +222,8 @@ fn judge(
 ) -> Rest
     requires { ⌜ Usables (tableOf task (now marks) (now numbers)) × (task .steps ≡ length (planNumbers (now plan))) × (task .steps ≤ 1000000)
         × (length (now modes) ≡ MODES) ⌝ }
-    ensures { λ r. ⌜ r ≡ restBy task (judgeBy (tableOf task (now (marks .entry)) (now (numbers .entry))) true (planNumbers (now (plan .entry)))
-        (state (now (values .entry)) (now (modes .entry)))) ⌝ }
+    ensures { λ r. ⌜ r ≡ restBy task (judgeBy (tableOf task (now (marks .entry)) (now (numbers .entry))) false (planNumbers (now (plan .entry)))
+        (state (now (values .entry)) (now (modes .entry))) .verdict) ⌝ }
 {
     let mut last_values = *values;
     let mut last_modes = *modes;
@@ -224,7 +235,7 @@ fn judge(
         numbers,
         task.variables,
         task.modes,
-        true,
+        false,
         &mut last_values,
         &mut last_modes,
     );
@@ -233,7 +244,7 @@ fn judge(
         source_walk::Verdict::Refused(number, place) => Rest::Refusal(number, place),
         source_walk::Verdict::Valid(_) => Rest::Lines(Sheet {
             task,
-            total: judged.price,
+            spent: 0,
             next: 0,
         }),
     }
@@ -312,6 +323,7 @@ fn put_sheet(
         plan,
         next,
         until,
+        sheet.spent,
         task.actions,
         marks,
         numbers,
@@ -325,13 +337,13 @@ fn put_sheet(
             count: lined.place,
             rest: Rest::Lines(Sheet {
                 task,
-                total: sheet.total,
+                spent: lined.spent,
                 next: lined.next,
             }),
         };
     }
     Part {
-        count: put_goal_line(out, lined.place, sheet.total),
+        count: put_goal_line(out, lined.place, lined.spent),
         rest: Rest::Nothing,
     }
 }
@@ -388,8 +400,58 @@ pub fn put_part(
     put_rest(out, plan, rest, PART_LINES, marks, numbers, values, modes)
 }
 
-// The whole listing of a task and a plan, a refusal's line included, its length counted first. The only refusal is 8: the output lent is
-// shorter than the text.
+// The most bytes of a step's line in a listing, and of the header and the goal's line, or of a refusal's.
+const LONGEST: usize = 73;
+
+const ENDS: usize = 42;
+
+// The most bytes of a listing of so many steps.
+fn most_of(rest: Rest) -> usize
+    requires { ⌜ mostOf rest < 2 ^ 64 ⌝ }
+    ensures { λ r. ⌜ r ≡ mostOf rest ⌝ }
+{
+    match rest {
+        Rest::Nothing => ENDS,
+        Rest::Refusal(_, _) => ENDS,
+        Rest::Lines(sheet) => ENDS + LONGEST * sheet.task.steps,
+    }
+}
+
+// How many bytes must be lent for what is left: its length, counted; 0 where the room holds any listing of so many steps.
+fn needed(
+    room: usize,
+    plan: &[u8],
+    rest: Rest,
+    marks: &[[u16; MARKS]],
+    numbers: &[[i64; NUMBERS]],
+    values: &[i64; VARIABLES],
+    modes: &[u16; MODES],
+) -> usize
+    requires { ⌜ Pending rest (planNumbers (now plan)) (now marks) (now numbers) (now values) (now modes) ⌝ }
+    ensures { λ r. ⌜ r ≡ neededOf room rest (length (partOf rest 1000000 (planNumbers (now (plan .entry)))
+        (now (marks .entry)) (now (numbers .entry)) (now (values .entry)) (now (modes .entry)))) ⌝ }
+{
+    if most_of(rest) <= room {
+        return 0;
+    }
+    let mut nothing: [u8; 0] = [];
+    let mut last_values = *values;
+    let mut last_modes = *modes;
+    let counted = put_rest(
+        &mut nothing,
+        plan,
+        rest,
+        MOST_LINES,
+        marks,
+        numbers,
+        &mut last_values,
+        &mut last_modes,
+    );
+    counted.count
+}
+
+// The whole listing of a task and a plan, a refusal's line included. The only refusal is 8: the output lent is shorter than the text, whose
+// length is counted first where that may be.
 pub fn list(file: &[u8], plan: &[u8], out: &mut [u8]) -> lists::Written
     ensures { λ r. ⌜ Lent (now (out .entry)) (given (listing (now (file .entry)) (now (plan .entry)))) (now (out .exit)) r ⌝ }
 {
@@ -405,23 +467,11 @@ pub fn list(file: &[u8], plan: &[u8], out: &mut [u8]) -> lists::Written
         &mut values,
         &mut modes,
     );
-    let mut counted_values = values;
-    let mut counted_modes = modes;
-    let counted = put_rest(
-        &mut out[..0],
-        plan,
-        rest,
-        MOST_LINES,
-        &marks,
-        &numbers,
-        &mut counted_values,
-        &mut counted_modes,
-    );
-    let need = counted.count;
+    let need = needed(out.len(), plan, rest, &marks, &numbers, &values, &modes);
     if out.len() < need {
         return lists::Written::Refused(8, need as u64);
     }
-    put_rest(
+    let part = put_rest(
         out,
         plan,
         rest,
@@ -431,5 +481,5 @@ pub fn list(file: &[u8], plan: &[u8], out: &mut [u8]) -> lists::Written
         &mut values,
         &mut modes,
     );
-    lists::Written::Bytes(need)
+    lists::Written::Bytes(part.count)
 }

@@ -13,7 +13,7 @@ use borrow.Author.Tests.{lt-ltb, le-ltb, ltb-true, ltb-false}
 use Rattle.model.specs.Listing.{digits, decimal}
 
 -- one number is below another, or it isn't
-either : {G : Type 0} (a b : ℕ) (t : Bool) → ltb a b ≡ t → (a < b → G) → (b ≤ a → G) → G
+pub either : {G : Type 0} (a b : ℕ) (t : Bool) → ltb a b ≡ t → (a < b → G) → (b ≤ a → G) → G
 either a b true e f g = f (ltb-true a b e)
 either a b false e f g = g (ltb-false a b e)
 

@@ -1,4 +1,5 @@
+pub mod Counting
 pub mod Digits
-pub mod Places
+pub mod Fronts
 pub mod Sign
 pub mod Worked

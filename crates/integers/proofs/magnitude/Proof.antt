@@ -33,10 +33,10 @@ cast-result c =
     simp (toZ-ofZ, c .before .fits .z) (omega (ints, h, abs (c .before .args .z), c .before .fits .z))
 
 add-result : tie.Need-add-result
-add-result c = simp (toZ-ofZ, c .before .fits .z) (fits-raised c)
+add-result c = simp (toZ-ofZ, c .before .fits .z) (omega (ints, negative c, c .before .fits .z))
 
 sub-result : tie.Need-sub-result
-sub-result c = simp (toZ-ofZ, c .before .fits .z, fits-raised c) (fits-turned c)
+sub-result c = simp (toZ-ofZ, c .before .fits .z, fits-raised c) (omega (ints, negative c, c .before .fits .z, add (z c) (pos 1)))
 
 cast-result-2 : tie.Need-cast-result-2
 cast-result-2 c =

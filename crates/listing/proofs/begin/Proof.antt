@@ -1,8 +1,12 @@
 -- `listing::begin` meets its contract: a refusal of the file or of the plan's bytes, or what judging the plan leaves. Assumes nothing.
+use mathlib.Core.Path.{ap}
+use native.Mathlib.Omega.{arith}
+use lib.ListN.{length}
 use denote.Ref.{now}
 use Rattle.source_step.proofs.Tables.{usables}
 use Rattle.source_walk.specs.Opening.{Started}
 use Rattle.listing.proofs.Listing.{refused-listing, begun}
+use Rattle.listing.proofs.Longest.{refused-most}
 use borrow.Author.Needs.{needs}
 use Rattle.listing.proofs.begin.Statement.{statement}
 use Rattle.listing.proofs.begin.Tie as tie
@@ -41,7 +45,10 @@ returns c =
     let s = startOf h .args in
     let e = c .before .number .given in
     let o = rw (e .1) at (h .«open» .ensures) in
-    record { left = refused-listing (now (s .file)) (now (s .plan)) (e .0 .0) (e .0 .1 .0) (o .0); pending = tt }
+    let text = refused-listing (now (s .file)) (now (s .plan)) (e .0 .0) (e .0 .1 .0) (o .0) in
+    let fits = rw (e .1) at (h .«open» .ok) in
+    let few = refused-most (e .0 .0) (e .0 .1 .0) (omega (arith, fits)) (omega (arith, fits)) in
+    record { left = text; pending = tt; short = omega (arith, few, ap length text) }
 
 same-length-3 : tie.Need-same-length-3
 same-length-3 c = search needs
@@ -50,7 +57,8 @@ same-length-4 : tie.Need-same-length-4
 same-length-4 c = search needs
 
 returns-2 : tie.Need-returns-2
-returns-2 c = begun (ready (c .before .before .before .before .before .before)) (c .judge .ensures)
+returns-2 c =
+    begun (ready (c .before .before .before .before .before .before)) (c .judge .ensures) (λ number place e. omega (arith, rw e at (c .judge .ok)))
 
 pub begin-spec : {M : Type 1} → statement M
 begin-spec =

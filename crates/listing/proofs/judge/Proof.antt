@@ -1,5 +1,6 @@
 -- `listing::judge` meets its contract, by the verdict on the plan. Assumes nothing.
 use mathlib.Core.Path.{ap}
+use Rattle.source_walk.specs.Walk.{Judging}
 use Rattle.listing.specs.Parts.{restBy}
 use borrow.Author.Needs.{needs}
 use Rattle.listing.proofs.judge.Statement.{statement}
@@ -19,13 +20,13 @@ returns c =
     let v = c .before in
     let j = v .before .before in
     let t = j .before .before .before .before .before .before .args .task in
-    rw (v .verdict .given .1) at (ap (restBy t) (j .judge-steps .ensures))
+    rw (v .verdict .given .1) at (ap (λ (judging : Judging). restBy t (judging .verdict)) (j .judge-steps .ensures))
 
 returns-2 : tie.Need-returns-2
 returns-2 c =
     let j = c .before .before in
     let t = j .before .before .before .before .before .before .args .task in
-    rw (c .enum-told .given .1) at (ap (restBy t) (j .judge-steps .ensures))
+    rw (c .enum-told .given .1) at (ap (λ (judging : Judging). restBy t (judging .verdict)) (j .judge-steps .ensures))
 
 pub judge-spec : {M : Type 1} → statement M
 judge-spec =

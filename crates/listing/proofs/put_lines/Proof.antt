@@ -1,4 +1,4 @@
--- `listing::put_lines` meets its contract. The loop's invariant is `Writing`: the lines left are still to be written. Assumes nothing.
+-- `listing::put_lines` meets its contract. The loop's invariant is `Writing`: what is left is still to be written, and to be paid. Assumes nothing.
 use mathlib.Core.Path.{_≡_, refl, sym, _∙_}
 use Prim.Native.Nat.{_-_}
 use native.Mathlib.Omega.{arith}
@@ -16,18 +16,19 @@ use Rattle.listing.proofs.put_lines.Statement.{statement}
 use Rattle.listing.proofs.put_lines.Tie as tie
 
 abbrev Inv-loop : tie.InvT-loop
-Inv-loop out₀ at plan from until count marks numbers n m values₀ modes₀ times₀ place₀ i₀ out values modes times place i =
-    lining.Writing (table count marks numbers n m) (planNumbers plan) from until (state values₀ modes₀) out₀ at values modes i out place × (length times ≡ 33)
+Inv-loop out₀ at plan from until before count marks numbers n m values₀ modes₀ times₀ place₀ spent₀ i₀ out values modes times place spent i =
+    lining.Writing (table count marks numbers n m) (planNumbers plan) from until before (state values₀ modes₀) out₀ at values modes i out place spent
+    × (length times ≡ 33)
 
 abbrev μ-loop : tie.MeasureT-loop
-μ-loop out₀ at plan from until count marks numbers n m values₀ modes₀ times₀ place₀ i₀ out values modes times place i = until - i
+μ-loop out₀ at plan from until before count marks numbers n m values₀ modes₀ times₀ place₀ spent₀ i₀ out values modes times place spent i = until - i
 
 loop-holds : tie.Need-loop-holds Inv-loop μ-loop
 loop-holds c =
     let s = c .before .before in (
       lining.writing-begins (table (s .args .count) (now (s .args .marks)) (now (s .args .numbers)) (s .args .n) (s .args .m))
-          (planNumbers (now (s .args .plan))) (s .args .from) (s .args .until) (now (s .args .values)) (now (s .args .modes)) (s .pre .0)
-          (now (s .args .out)) (s .args .at),
+          (planNumbers (now (s .args .plan))) (s .args .from) (s .args .until) (s .args .before) (now (s .args .values)) (now (s .args .modes))
+          (s .pre .0) (now (s .args .out)) (s .args .at),
       refl,
     )
 
@@ -105,6 +106,13 @@ put-step-line-requires c κs =
       lining.writing-room (s .pre .0) (a .loop .inv .0) k is i (e .if1 .left) t f (s .pre .1),
     )
 
+add-spent : tie.Need-add-spent Inv-loop μ-loop
+add-spent c =
+    let u = c .before .before .before .before .before .before .before .before in
+    let i = u .before .before .before .before .before .before .before .before .before in
+    let a = i .before in
+    omega (arith, a .loop .inv .0 .cheap, u .take-priced .ensures .0 .few, i .loop-test .taken, a .before .before .before .pre .0 .few)
+
 add-i : tie.Need-add-i Inv-loop μ-loop
 add-i c = search (needs, arith)
 
@@ -113,14 +121,15 @@ loop-less c = omega arith
 
 loop-again : tie.Need-loop-again Inv-loop μ-loop
 loop-again c =
-    let u = c .before .before .before .before .before .before .before in
+    let u = c .before .before .before .before .before .before .before .before in
     let e = u .before .before .before .before .before .before in
     let w = e .before in
     let a = w .before .before .before in
     let s = a .before .before .before in (
       lining.writing-next (s .pre .0) (a .loop .inv .0) (w .wide16 .result) (w .wide16 .ensures ∙ w .before .action-of .ensures)
-          (w .before .before .loop-test .taken) (e .if1 .left) (u .take-priced .ensures .0) (not-false _ (c .before .before .before .before .before .if2 .left))
-          (c .before .before .put-step-line .ensures .0) (c .before .before .put-step-line .ensures .1),
+          (w .before .before .loop-test .taken) (e .if1 .left) (u .take-priced .ensures .0)
+          (not-false _ (c .before .before .before .before .before .before .if2 .left))
+          (c .before .before .before .put-step-line .ensures .0) (c .before .before .before .put-step-line .ensures .1),
       u .take-priced .ensures .1,
     )
 
@@ -149,6 +158,7 @@ put-lines-spec =
     same-length-2
     returns-2
     put-step-line-requires
+    add-spent
     add-i
     loop-less
     loop-again
