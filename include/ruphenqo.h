@@ -32,13 +32,14 @@
  *    4  one more than a limit                             at the offset of the command, as are 5, 6 and 7
  *    5  undeclared variable or mode, value or start of a mode not below its size, relation over 4 (restricted: over 3)
  *    6  operand out of range, zero where barred, lower above upper, start of a variable outside its bounds
- *    7  second numeric effect on a target, second effect on a mode, a variable twice in the T of an L
+ *    7  second numeric effect on a target, second effect on a mode, a variable twice in the T of an L or a K
  *    8  the lent output is shorter than the result        the place is the bytes needed
  *    9  the expansion has over 1,000,000 steps            at the first source step passing it
  *   10  the plan's length is odd or over 2,000,000 bytes  the place is that length
  *   11  no such action                                    at the step (0 for a step by itself; k for the place of action k)
  *   12  the action does not apply                         at the step (0 for a step by itself)
  *   13  the goal is not met                               the place is the count of steps
+ *   14  a K has no T                                      at the offset of the next command
  *
  * The place of the refusal is stored in *place, and 0 where there is none. On a refusal nothing else is written: outputs, states,
  * counts and lengths are as they were.
@@ -62,7 +63,8 @@
  * BYTES. A task is a file as docs/FORMAT.md has it. A plan is action numbers of 16 bits, least byte first. A state is the values of the
  * variables and of the modes, in the order of their declarations; entries past the declared ones are not read. Where a source task has n
  * variables and m modes, a state of its lowering has these first, then A as variable n, B as variable n + 1, where some action has two or
- * more numeric effects three holds as variables n + 2 to n + 4, and control as mode m; between source steps all of these are 0.
+ * more numeric effects three holds as variables n + 2 to n + 4, and control as mode m; between source steps all of these are 0. Behind them
+ * stands a variable for each K, in file order: its value is the K's sum at every state that a plan reaches.
  *
  * A PLAN UNDER WAY. Pricing, expanding, projecting and listing ask for the goal, as judging does (13). To list or price the steps taken so
  * far, hand over the task with an empty goal: its bytes up to G, then G and Z. G stands at *end of the last action (ruphenqo_source_action), and
@@ -78,7 +80,7 @@ extern "C" {
 #endif
 
 /* The version of this header: major * 10000 + minor * 100 + patch. ruphenqo_version() answers that of the archive. */
-#define RUPHENQO_VERSION 10200
+#define RUPHENQO_VERSION 10300
 
 /* The answers by name; what each means stands above, and in a line of text by ruphenqo_refusal_text. */
 enum {
@@ -95,7 +97,8 @@ enum {
     RUPHENQO_BAD_PLAN_LENGTH = 10,
     RUPHENQO_NO_ACTION = 11,
     RUPHENQO_NOT_APPLICABLE = 12,
-    RUPHENQO_GOAL_NOT_MET = 13
+    RUPHENQO_GOAL_NOT_MET = 13,
+    RUPHENQO_NO_TERM = 14
 };
 
 /* The sizes of the arrays that hold a state. */
@@ -110,7 +113,8 @@ enum {
 uint32_t ruphenqo_version(void);
 
 /* ---- reading ----
- * Whether a file is accepted. counts: its variables, modes and actions. Refusals 1 to 7. */
+ * Whether a file is accepted. counts: its variables, modes and actions. Refusals 1 to 7 and, of a source file, 14: `1 to 7` below has it
+ * with them. */
 uint32_t ruphenqo_read_source(const uint8_t *task, size_t task_length, uint64_t counts[3], uint64_t *place);
 uint32_t ruphenqo_read_restricted(const uint8_t *task, size_t task_length, uint64_t counts[3], uint64_t *place);
 
@@ -159,7 +163,7 @@ uint32_t ruphenqo_price_plan(const uint8_t *task, size_t task_length, const uint
  * bytes needed: a call with out_length 0 asks for the length; it answers 0, with length 0, where the result is empty. Text has no byte 0 behind
  * it. */
 
-/* The restricted task's file, of at most 86,000 bytes. Refusals 1 to 7, 8. */
+/* The restricted task's file, of at most 132,100 bytes. Refusals 1 to 7, 8. */
 uint32_t ruphenqo_lower(const uint8_t *task, size_t task_length, uint8_t *out, size_t out_length, uint64_t *length, uint64_t *place);
 
 /* The restricted plan that a source plan becomes, of at most 2,000,000 bytes: a longer one gives 9. Refusals 1 to 7, 10 to 13 as by judging

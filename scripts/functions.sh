@@ -3,7 +3,7 @@
 archive=target/staticlib/libruphenqo.a
 
 # the library's level: document 01 is 99, with the change requests of document 02 up to M-u it is u (tests/vectors/README.md)
-level=101
+level=103
 
 # need COMMAND..      says which commands are missing, with the Debian package of each
 need() {

@@ -14,7 +14,7 @@ use Rattle.commands.specs.Reading.{commands}
 use Rattle.commands.specs.Encoding.{rowNumber, operands, byteOf, NoRefusal}
 use Rattle.commands.specs.declared.Command.{Command}
 use Rattle.commands.specs.declared.Command.the-variants.{Variable, Start, Mode, Action, Condition, ModeCondition, ModeEffect, Add, Linear, Term, Quotient}
-use Rattle.commands.specs.declared.Command.the-variants.{Residue, Goal, End, Refused}
+use Rattle.commands.specs.declared.Command.the-variants.{Residue, Goal, End, Sum, Refused}
 use Rattle.commands.proofs.Rows.{row-of-byte}
 
 -- it holds at each place of the list
@@ -42,6 +42,7 @@ module _ (P : Command → Type 0) (row : (x y z : ℕ) → All P (commands x y z
   every-command (Residue target operand divisor) = of target operand divisor 11
   every-command Goal = of 0 0 0 12
   every-command End = of 0 0 0 13
+  every-command (Sum relation constant) = of relation constant 0 14
   every-command (Refused number) = refusal number
 
 -- ---- what is said of the commands of all rows at once

@@ -26,7 +26,7 @@ without i (k ∷ ks) = cond (eqb k i) (without i ks) (k ∷ without i ks)
 
 -- the cases of a command other than that of row i: what the `else` of a `let` is told
 abbrev pub others : ℕ → List ℕ
-others i = without i (0 ∷ 1 ∷ 2 ∷ 3 ∷ 4 ∷ 5 ∷ 6 ∷ 7 ∷ 8 ∷ 9 ∷ 10 ∷ 11 ∷ 12 ∷ 13 ∷ 14 ∷ [])
+others i = without i (0 ∷ 1 ∷ 2 ∷ 3 ∷ 4 ∷ 5 ∷ 6 ∷ 7 ∷ 8 ∷ 9 ∷ 10 ∷ 11 ∷ 12 ∷ 13 ∷ 14 ∷ 15 ∷ [])
 
 -- what is read by row i is none of the others
 abbrev Own : List ℕ → ℕ → Type 0

@@ -7,7 +7,8 @@ use lib.ListN.{getD}
 use Rattle.integers.specs.Numbers.{bytesOf}
 use Rattle.commands.specs.Table.{rows, rowAt}
 use Rattle.commands.specs.declared.Command.{Command}
-use Rattle.commands.specs.declared.Command.the-variants.{Variable, Start, Mode, Action, Condition, ModeCondition, ModeEffect, Add, Linear, Term, Quotient, Residue, Goal, End, Refused}
+use Rattle.commands.specs.declared.Command.the-variants.{Variable, Start, Mode, Action, Condition, ModeCondition, ModeEffect, Add, Linear, Term, Quotient}
+use Rattle.commands.specs.declared.Command.the-variants.{Residue, Goal, End, Sum, Refused}
 
 -- the table's row of a command; a refusal has none
 abbrev pub rowNumber : Command → ℕ
@@ -25,7 +26,8 @@ rowNumber (Quotient target operand divisor) = 10
 rowNumber (Residue target operand divisor) = 11
 rowNumber Goal = 12
 rowNumber End = 13
-rowNumber (Refused number) = 14
+rowNumber (Sum relation constant) = 14
+rowNumber (Refused number) = 15
 
 abbrev pub operands : Command → List ℕ
 operands (Variable lower upper start) = lower ∷ upper ∷ start ∷ []
@@ -42,6 +44,7 @@ operands (Quotient target operand divisor) = target ∷ operand ∷ divisor ∷ 
 operands (Residue target operand divisor) = target ∷ operand ∷ divisor ∷ []
 operands Goal = []
 operands End = []
+operands (Sum relation constant) = relation ∷ constant ∷ []
 operands (Refused number) = []
 
 abbrev pub byteOf : Command → ℕ

@@ -8,7 +8,8 @@ use lib.ListN.{length, getD}
 use Rattle.integers.specs.Numbers.{numberAt}
 use Rattle.commands.specs.Table.{rows, rowOf, widthAt, sizeOfRow}
 use Rattle.commands.specs.declared.Command.{Command}
-use Rattle.commands.specs.declared.Command.the-variants.{Variable, Start, Mode, Action, Condition, ModeCondition, ModeEffect, Add, Linear, Term, Quotient, Residue, Goal, End, Refused}
+use Rattle.commands.specs.declared.Command.the-variants.{Variable, Start, Mode, Action, Condition, ModeCondition, ModeEffect, Add, Linear, Term, Quotient}
+use Rattle.commands.specs.declared.Command.the-variants.{Residue, Goal, End, Sum, Refused}
 
 -- the commands in the order of the table's rows, each with its operands among x, y and z
 abbrev pub commands : ℕ → ℕ → ℕ → List Command
@@ -27,6 +28,7 @@ commands x y z =
     ∷ Residue x y z
     ∷ Goal
     ∷ End
+    ∷ Sum x y
     ∷ []
 
 -- the command of row i at the front of s: its operands stand one behind another after its byte

@@ -49,6 +49,9 @@ letterG = 71
 abbrev pub letterZ : ℕ
 letterZ = 90
 
+abbrev pub letterK : ℕ
+letterK = 75
+
 pub record Row : Type 0 where
   pub byte : ℕ
   pub widths : List ℕ
@@ -56,7 +59,7 @@ pub record Row : Type 0 where
 abbrev pub row : ℕ → List ℕ → Row
 row b ws = record { byte = b; widths = ws }
 
--- one row a command, in the order V U M A C P E + L T Q R G Z
+-- one row a command, in the order V U M A C P E + L T Q R G Z K
 abbrev pub table : List Row
 table =
     row letterV (4 ∷ 4 ∷ 4 ∷ [])
@@ -73,11 +76,12 @@ table =
     ∷ row letterR (1 ∷ 1 ∷ 4 ∷ [])
     ∷ row letterG []
     ∷ row letterZ []
+    ∷ row letterK (1 ∷ 4 ∷ [])
     ∷ []
 
 -- how many rows
 abbrev pub rows : ℕ
-rows = 14
+rows = 15
 
 abbrev pub rowAt : ℕ → Row
 rowAt i = getD table i (row 0 [])

@@ -6,7 +6,7 @@ ghost use mathlib.Core.List.{map};
 ghost use Prim.Native.Nat.{_+_, _<_, _≤_};
 ghost use lib.ListN.{length, getD};
 ghost use Rattle.lists.specs.Writing.{Room, Wrote};
-ghost use Rattle.commands.specs.Table.{letterV, letterU, letterM, letterC, letterP, letterE, plusSign, letterL, letterT, letterQ, letterR};
+ghost use Rattle.commands.specs.Table.{letterV, letterU, letterM, letterC, letterP, letterE, plusSign, letterL, letterT, letterQ, letterR, letterK};
 ghost use Rattle.commands.specs.Table.{table, sizeOfByte};
 ghost use Rattle.commands.specs.Rows.{written, Narrow, sizeOfWidths, Read};
 ghost use Rattle.commands.specs.Reading.{commandAt};
@@ -30,12 +30,13 @@ pub enum Command {
     Residue(u8, u8, u32),
     Goal,
     End,
+    Sum(u8, u32),
     Refused(u8),
 }
 
 // The one list that reading and writing go by. A row for each command: its byte, how many operands follow, and the width of each in
 // bytes, 0 where there is no operand.
-const TABLE: [[u8; 5]; 14] = [
+const TABLE: [[u8; 5]; 15] = [
     [b'V', 3, 4, 4, 4],
     [b'U', 1, 4, 0, 0],
     [b'M', 2, 2, 2, 0],
@@ -50,6 +51,7 @@ const TABLE: [[u8; 5]; 14] = [
     [b'R', 3, 1, 1, 4],
     [b'G', 0, 0, 0, 0],
     [b'Z', 0, 0, 0, 0],
+    [b'K', 2, 1, 4, 0],
 ];
 
 // The rows by the command.
@@ -80,6 +82,8 @@ const RESIDUE: usize = 11;
 const GOAL: usize = 12;
 
 const END: usize = 13;
+
+const SUM: usize = 14;
 
 // The widths of the operands by the command, taken from the table when the crate is compiled.
 const VARIABLE_WIDTHS: [u8; 3] = [TABLE[VARIABLE][2], TABLE[VARIABLE][3], TABLE[VARIABLE][4]];
@@ -122,6 +126,8 @@ const GOAL_WIDTHS: [u8; 3] = [TABLE[GOAL][2], TABLE[GOAL][3], TABLE[GOAL][4]];
 
 const END_WIDTHS: [u8; 3] = [TABLE[END][2], TABLE[END][3], TABLE[END][4]];
 
+const SUM_WIDTHS: [u8; 3] = [TABLE[SUM][2], TABLE[SUM][3], TABLE[SUM][4]];
+
 // The byte of each command that a restricted file has, likewise.
 const START_BYTE: u8 = TABLE[START][0];
 
@@ -142,7 +148,7 @@ pub const GOAL_BYTE: u8 = TABLE[GOAL][0];
 const END_BYTE: u8 = TABLE[END][0];
 
 // The table is the definition's, checked here over all rows at once; reading and writing take what they need of it as constants.
-fn whole_table() -> [[u8; 5]; 14]
+fn whole_table() -> [[u8; 5]; 15]
     ensures { λ r. ⌜ r ≡ map written table ⌝ }
 {
     TABLE
@@ -316,6 +322,18 @@ pub fn read_residue(rest: &[u8]) -> Command
     Command::Residue(target, operand, divisor)
 }
 
+pub fn read_sum(rest: &[u8]) -> Command
+    requires { ⌜ (0 < length (now rest)) × (getD (now rest) 0 0 ≡ letterK) ⌝ }
+    ensures { λ r. ⌜ r ≡ commandAt (now (rest .entry)) ⌝ }
+{
+    if rest.len() < command_size(SUM_WIDTHS) {
+        return Command::Refused(2);
+    }
+    let relation = first_operand(rest, SUM_WIDTHS) as u8;
+    let constant = second_operand(rest, SUM_WIDTHS);
+    Command::Sum(relation, constant)
+}
+
 // The command at the front of what remains of a file; 1 where no command has the byte, 2 where nothing remains or operands are missing.
 pub fn read(rest: &[u8]) -> Command
     ensures { λ r. ⌜ r ≡ commandAt (now (rest .entry)) ⌝ }
@@ -338,6 +356,7 @@ pub fn read(rest: &[u8]) -> Command
         b'R' => read_residue(rest),
         b'G' => Command::Goal,
         b'Z' => Command::End,
+        b'K' => read_sum(rest),
         _ => Command::Refused(1),
     }
 }
@@ -361,6 +380,7 @@ pub fn size_of(byte: u8) -> usize
         b'R' => command_size(RESIDUE_WIDTHS),
         b'G' => command_size(GOAL_WIDTHS),
         b'Z' => command_size(END_WIDTHS),
+        b'K' => command_size(SUM_WIDTHS),
         _ => 1,
     }
 }

@@ -18,22 +18,25 @@ use Rattle.model.specs.Tasks.{NumericCondition, SourceAction, RestrictedAction,
 use Rattle.model.specs.Limits.{Limits, sourceLimits, restrictedLimits}
 use Rattle.model.specs.Steps.{sizesOf}
 use Rattle.model.specs.Reading.{Verdict, Accepted, Rejected, verdictOf, commandsOf}
-use Rattle.model.specs.Decoding.{actionsOf, goalOf as goalCommandsOf, conditionsOf, modeConditionsOf, sourceActionOf, restrictedActionOf}
-use Rattle.model.specs.Decoding.{sourceTaskOf, restrictedTaskOf, onVerdict, readSource, readRestricted}
+use Rattle.model.specs.Decoding.{actionsOf, goalOf as goalCommandsOf, conditionsOf, sourceConditionsOf, modeConditionsOf, sumConditionsOf}
+use Rattle.model.specs.Decoding.{sourceActionOf, restrictedActionOf, sourceTaskOf, restrictedTaskOf, onVerdict, readSource, readRestricted}
+use Rattle.model.specs.Sums.{sumsIn}
 use Rattle.model.specs.TaskOk.{SourceActionOk, RestrictedActionOk, SourceTaskOk, RestrictedTaskOk}
 use Rattle.model.specs.ActionBytes.{edgeOf, actionPart, decodeAction}
 use Rattle.model.proofs.AcceptedTrail.{Is}
 use Rattle.model.proofs.AcceptedOk.{accepted-source-ok, accepted-restricted-ok}
 use Rattle.model.proofs.ActionBytes.{action-decodes}
 use Rattle.model.proofs.StageWalk.{all-get}
-use Rattle.file_parts.specs.Row.{rowIs, Says}
+use Rattle.file_parts.specs.Row.{rowIs, conditionsIn, Says}
 use Rattle.file_parts.proofs.Pushing.{says-as}
 use Rattle.file_actions.specs.declared.Effects.{Effects}
+use Rattle.file_actions.specs.declared.SumConditions.{SumConditions}
 use Rattle.file_actions.specs.Places.{edgesOf, goalPart}
-use Rattle.file_actions.specs.Views.{sourceActionIs, SourceDecoded, fittingSource, fittingRestricted}
+use Rattle.file_actions.specs.Views.{sumRoom, effectsIs, sourceActionIs, plainActionOf, SourceDecoded, SumsDecoded, fittingSource, fittingRestricted}
 use Rattle.file_actions.specs.Within.{SourceWithin}
-use Rattle.file_actions.proofs.Fits.{source-fits, restricted-fits, source-is, source-within}
+use Rattle.file_actions.proofs.Fits.{restricted-fits, source-is, source-within}
 use Rattle.file_actions.proofs.GoalBytes.{edges-counted, goal-decodes, Quiet, goal-quiet}
+use Rattle.file_actions.proofs.Sums.{sums-counted, action-sums, goal-sums}
 
 -- ---- a slice of bytes, one by one
 pub bytes-of : (s : List ℕ) → ((i : ℕ) → getD s i 0 < 256) → Bytes s
@@ -69,33 +72,28 @@ module _ {Task Action : Type 0} (l : Limits) (taskOf : List Command → Task) (a
   edges-of : length (edgesOf file) ≡ suc (length (actions t))
   edges-of = edges-counted l file bytes verdict ∙ ap suc counted
 
-  -- what fits, and is decoded from the bytes of action k, is action k
-  module _ (Ok : Action → Type 0) (oks : All Ok (actions t)) (fitting : Action → Action) (fits : (a : Action) → Ok a → fitting a ≡ a) (k : ℕ) (below : k < length (actions t)) where
+  -- the bytes of action k give action k
+  module _ (k : ℕ) (below : k < length (actions t)) where
     action-is : getElem? (actions t) k ≡ some (actionOf (decodeAction (actionPart file k)))
     action-is =
         ap (λ (all : List Action). getElem? all k) (sym actions-are)
         ∙ get-map actionOf (actionsOf (commandsOf l file)) k (decodeAction (actionPart file k)) (action-decodes l file bytes verdict k (omega (arith, below, counted)))
 
-    action-ok : Ok (actionOf (decodeAction (actionPart file k)))
-    action-ok = all-get Ok (actions t) k (actionOf (decodeAction (actionPart file k))) oks action-is
-
-    decoded-is : (a : Action) → a ≡ fitting (actionOf (decodeAction (actionPart file k))) → getElem? (actions t) k ≡ some a
-    decoded-is a e = action-is ∙ ap some (sym (e ∙ fits (actionOf (decodeAction (actionPart file k))) action-ok))
-
-    decoded-ok : (a : Action) → a ≡ fitting (actionOf (decodeAction (actionPart file k))) → Ok a
-    decoded-ok a e = subst⁻¹ Ok (e ∙ fits (actionOf (decodeAction (actionPart file k))) action-ok) action-ok
+    action-ok : (Ok : Action → Type 0) → All Ok (actions t) → Ok (actionOf (decodeAction (actionPart file k)))
+    action-ok Ok oks = all-get Ok (actions t) k (actionOf (decodeAction (actionPart file k))) oks action-is
 
   -- the bytes of the goal have no effects
   goal-without : Quiet (decodeAction (goalPart file (length (actions t))))
   goal-without = subst (λ (n : ℕ). Quiet (decodeAction (goalPart file n))) counted (goal-quiet l file bytes verdict)
 
   -- what is decoded from them is the goal
-  module _ (goalOf : Task → List (ℕ × ℕ) × List (NumericCondition ℕ))
-      (goalIs : (cs : List Command) → goalOf (taskOf cs) ≡ (modeConditionsOf (goalCommandsOf cs), conditionsOf (goalCommandsOf cs))) where
-    goal-is : goalOf t ≡ (modeConditionsOf (decodeAction (goalPart file (length (actions t)))), conditionsOf (decodeAction (goalPart file (length (actions t)))))
+  module _ (conditions : List Command → List (NumericCondition ℕ)) (goalOf : Task → List (ℕ × ℕ) × List (NumericCondition ℕ))
+      (goalIs : (cs : List Command) → goalOf (taskOf cs) ≡ (modeConditionsOf (goalCommandsOf cs), conditions (goalCommandsOf cs))) where
+    goal-is : goalOf t ≡ (modeConditionsOf (decodeAction (goalPart file (length (actions t)))), conditions (decodeAction (goalPart file (length (actions t)))))
     goal-is =
         ap goalOf (sym task) ∙ goalIs (commandsOf l file)
-        ∙ ap (λ (cs : List Command). (modeConditionsOf cs, conditionsOf cs)) (goal-decodes l file bytes verdict ∙ ap (λ (n : ℕ). decodeAction (goalPart file n)) counted)
+        ∙ ap (λ (cs : List Command). (modeConditionsOf cs, conditions cs))
+        (goal-decodes l file bytes verdict ∙ ap (λ (n : ℕ). decodeAction (goalPart file n)) counted)
 
 -- ---- a source file
 module _ (file : List ℕ) (bytes : Bytes file) (t : SourceTask) (is : readSource file ≡ given t) where
@@ -108,22 +106,32 @@ module _ (file : List ℕ) (bytes : Bytes file) (t : SourceTask) (is : readSourc
   pub source-edges : length (edgesOf file) ≡ suc (length (t .actions))
   source-edges = edges-of sourceLimits sourceTaskOf sourceActionOf (λ u. u .actions) (λ d. refl) file bytes t is
 
-  module _ (k : ℕ) (below : k < length (t .actions)) (marks : List ℕ) (numbers : List ℤ) (r : Effects)
-      (decoded : SourceDecoded (fittingSource (sourceActionOf (decodeAction (actionPart file k)))) marks numbers r) where
-    -- it is action k of the task
-    pub source-action-decoded : getElem? (t .actions) k ≡ some (sourceActionIs marks numbers r)
-    source-action-decoded = decoded-is sourceLimits sourceTaskOf sourceActionOf (λ u. u .actions) (λ d. refl) file bytes t is
-        (SourceActionOk sourceLimits (length (t .variables)) (sizesOf (t .modes))) (sourceOk .actionsOk) fittingSource
-        (λ b h. source-fits (length (t .variables)) (sizesOf (t .modes)) b h sourceModes) k below (sourceActionIs marks numbers r) (source-is decoded)
+  module _ (k : ℕ) (below : k < length (t .actions)) where
+    abbrev action-commands : List Command
+    action-commands = decodeAction (actionPart file k)
 
-    -- and keeps to the rules
-    pub source-action-within : SourceWithin sourceLimits (length (t .variables)) (sizesOf (t .modes)) marks numbers r
-    source-action-within = source-within sourceLimits (length (t .variables)) (sizesOf (t .modes))
-        (fittingSource (sourceActionOf (decodeAction (actionPart file k)))) marks numbers r
-        (decoded-ok sourceLimits sourceTaskOf sourceActionOf (λ u. u .actions) (λ d. refl) file bytes t is
-        (SourceActionOk sourceLimits (length (t .variables)) (sizesOf (t .modes))) (sourceOk .actionsOk) fittingSource
-        (λ b h. source-fits (length (t .variables)) (sizesOf (t .modes)) b h sourceModes) k below
-        (fittingSource (sourceActionOf (decodeAction (actionPart file k)))) refl) decoded (decoded .few)
+    action-there : getElem? (t .actions) k ≡ some (sourceActionOf action-commands)
+    action-there = action-is sourceLimits sourceTaskOf sourceActionOf (λ u. u .actions) (λ d. refl) file bytes t is k below
+
+    source-action-ok : SourceActionOk sourceLimits (length (t .variables)) (sizesOf (t .modes)) (sourceActionOf action-commands)
+    source-action-ok = action-ok sourceLimits sourceTaskOf sourceActionOf (λ u. u .actions) (λ d. refl) file bytes t is k below
+        (SourceActionOk sourceLimits (length (t .variables)) (sizesOf (t .modes))) (sourceOk .actionsOk)
+
+    action-sums-few : length (sumConditionsOf action-commands) ≤ sumRoom
+    action-sums-few = omega (arith, sums-counted action-commands, action-sums t k (sourceActionOf action-commands) action-there, sourceOk .sumsFew)
+
+    module _ (marks : List ℕ) (numbers : List ℤ) (r : Effects) (s : SumConditions)
+        (decoded : SourceDecoded (fittingSource (plainActionOf (decodeAction (actionPart file k)))) marks numbers r)
+        (sums : SumsDecoded (sumConditionsOf (decodeAction (actionPart file k))) s) where
+      -- it is action k of the task
+      pub source-action-decoded : getElem? (t .actions) k ≡ some (sourceActionIs marks numbers r s)
+      source-action-decoded = action-there
+          ∙ ap some (sym (source-is (length (t .variables)) (sizesOf (t .modes)) action-commands source-action-ok sourceModes action-sums-few decoded sums))
+
+      -- and keeps to the rules
+      pub source-action-within : SourceWithin sourceLimits (length (t .variables)) (sizesOf (t .modes)) marks numbers r s
+      source-action-within =
+          source-within (length (t .variables)) (sizesOf (t .modes)) action-commands source-action-ok sourceModes action-sums-few decoded sums
 
   -- the goal as an action of the task, which has no effects
   abbrev pub goal-action : SourceAction
@@ -139,23 +147,59 @@ module _ (file : List ℕ) (bytes : Bytes file) (t : SourceTask) (is : readSourc
     targetsOnce = tt;
   }
 
-  -- what is decoded as an action from its bytes is that
-  pub source-goal-decoded : (marks : List ℕ) (numbers : List ℤ) (r : Effects)
-      → SourceDecoded (fittingSource (sourceActionOf (decodeAction (goalPart file (length (t .actions)))))) marks numbers r
-      → SourceDecoded goal-action marks numbers r
-  source-goal-decoded marks numbers r e =
-      let cs = decodeAction (goalPart file (length (t .actions))) in
-      let asks = goal-is sourceLimits sourceTaskOf sourceActionOf (λ u. u .actions) (λ d. refl) file bytes t is
+  abbrev goal-commands : List Command
+  goal-commands = decodeAction (goalPart file (length (t .actions)))
+
+  goal-there : sourceActionOf goal-commands ≡ goal-action
+  goal-there =
+      let asks = goal-is sourceLimits sourceTaskOf sourceActionOf (λ u. u .actions) (λ d. refl) file bytes t is sourceConditionsOf
       (λ u. (u .goalModes, u .goalConditions)) (λ d. refl) in
       let (modes, effects, none) = goal-without sourceLimits sourceTaskOf sourceActionOf (λ u. u .actions) (λ d. refl) file bytes t is in
-      let same : sourceActionOf cs ≡ goal-action = λ i. record {
+      λ i. record {
         modeConditions = sym (ap (λ z. z .0) asks) i;
         conditions = sym (ap (λ z. z .1) asks) i;
         modeEffects = modes i;
         effects = effects i;
-      } in
-      subst (λ (x : SourceAction). SourceDecoded x marks numbers r)
-      (ap fittingSource same ∙ source-fits (length (t .variables)) (sizesOf (t .modes)) goal-action goal-action-ok sourceModes) e
+      }
+
+  source-goal-ok : SourceActionOk sourceLimits (length (t .variables)) (sizesOf (t .modes)) (sourceActionOf goal-commands)
+  source-goal-ok = subst⁻¹ (SourceActionOk sourceLimits (length (t .variables)) (sizesOf (t .modes))) goal-there goal-action-ok
+
+  goal-sums-few : length (sumConditionsOf goal-commands) ≤ sumRoom
+  goal-sums-few =
+      let same = ap (λ (a : SourceAction). length (sumsIn (a .conditions))) goal-there in
+      omega (arith, sums-counted goal-commands, same, goal-sums t, sourceOk .sumsFew)
+
+  module _ (marks : List ℕ) (numbers : List ℤ) (r : Effects) (s : SumConditions)
+      (decoded : SourceDecoded (fittingSource (plainActionOf (decodeAction (goalPart file (length (t .actions)))))) marks numbers r)
+      (sums : SumsDecoded (sumConditionsOf (decodeAction (goalPart file (length (t .actions))))) s) where
+    -- what is decoded as an action from its bytes is that
+    pub source-goal-decoded : sourceActionIs marks numbers r s ≡ goal-action
+    source-goal-decoded =
+        source-is (length (t .variables)) (sizesOf (t .modes)) goal-commands source-goal-ok sourceModes goal-sums-few decoded sums ∙ goal-there
+
+    -- and keeps to the rules
+    pub source-goal-within : SourceWithin sourceLimits (length (t .variables)) (sizesOf (t .modes)) marks numbers r s
+    source-goal-within = source-within (length (t .variables)) (sizesOf (t .modes)) goal-commands source-goal-ok sourceModes goal-sums-few decoded sums
+
+    -- its row says the goal's P, and C but no K; it has no E
+    abbrev pub goal-row : RestrictedAction
+    goal-row = record { modeConditions = t .goalModes; conditions = conditionsIn marks numbers; modeEffects = []; additions = [] }
+
+    pub source-goal-row : Says goal-row marks numbers
+    source-goal-row = record {
+      marksLong = decoded .parts .marksLong;
+      numbersLong = decoded .parts .numbersLong;
+      is = λ i. record {
+        modeConditions = source-goal-decoded i .modeConditions;
+        conditions = conditionsIn marks numbers;
+        modeEffects = source-goal-decoded i .modeEffects;
+        additions = decoded .parts .is i .additions;
+      };
+    }
+
+    pub source-goal-effects : effectsIs r ≡ []
+    source-goal-effects = ap (λ (a : SourceAction). a .effects) source-goal-decoded
 
 -- ---- a restricted file
 module _ (file : List ℕ) (bytes : Bytes file) (t : RestrictedTask) (is : readRestricted file ≡ given t) where
@@ -187,16 +231,19 @@ module _ (file : List ℕ) (bytes : Bytes file) (t : RestrictedTask) (is : readR
     pub restricted-action-decoded : (k : ℕ) → k < length (t .actions)
         → Says (fittingRestricted (restrictedActionOf (decodeAction (actionPart file k)))) marks numbers
         → getElem? (t .actions) k ≡ some (rowIs marks numbers)
-    restricted-action-decoded k below decoded = decoded-is restrictedLimits restrictedTaskOf restrictedActionOf (λ u. u .actions) (λ d. refl) file bytes t is
-        (RestrictedActionOk restrictedLimits (length (t .starts)) (sizesOf (t .modes))) (restrictedOk .actionsOk) fittingRestricted
-        (λ b h. restricted-fits (length (t .starts)) (sizesOf (t .modes)) b h restrictedModes) k below (rowIs marks numbers) (decoded .is)
+    restricted-action-decoded k below decoded =
+        let a : RestrictedAction = restrictedActionOf (decodeAction (actionPart file k)) in
+        let ok = action-ok restrictedLimits restrictedTaskOf restrictedActionOf (λ u. u .actions) (λ d. refl) file bytes t is k below
+        (RestrictedActionOk restrictedLimits (length (t .starts)) (sizesOf (t .modes))) (restrictedOk .actionsOk) in
+        action-is restrictedLimits restrictedTaskOf restrictedActionOf (λ u. u .actions) (λ d. refl) file bytes t is k below
+        ∙ ap some (sym (decoded .is ∙ restricted-fits (length (t .starts)) (sizesOf (t .modes)) a ok restrictedModes))
 
     -- and what is decoded from those of the goal is the goal, as an action with no effects
     pub restricted-goal-decoded : Says (fittingRestricted (restrictedActionOf (decodeAction (goalPart file (length (t .actions)))))) marks numbers
         → Says restricted-goal marks numbers
     restricted-goal-decoded decoded =
         let cs = decodeAction (goalPart file (length (t .actions))) in
-        let asks = goal-is restrictedLimits restrictedTaskOf restrictedActionOf (λ u. u .actions) (λ d. refl) file bytes t is
+        let asks = goal-is restrictedLimits restrictedTaskOf restrictedActionOf (λ u. u .actions) (λ d. refl) file bytes t is conditionsOf
         (λ u. (u .goalModes, u .goalConditions)) (λ d. refl) in
         let (modes, effects, none) = goal-without restrictedLimits restrictedTaskOf restrictedActionOf (λ u. u .actions) (λ d. refl) file bytes t is in
         let same : restrictedActionOf cs ≡ restricted-goal = λ i. record {

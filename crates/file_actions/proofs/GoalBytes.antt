@@ -7,7 +7,7 @@ use mathlib.Core.List.{List, [], _∷_, _++_, append-assoc}
 use Prim.Native.Nat.{ℕ, zero, suc, _+_, _-_, _<_, _≤_}
 use native.Mathlib.Nat.{add-zero}
 use native.Mathlib.Omega.{arith}
-use lib.Dec.{eqb, leb, leb→le}
+use lib.Dec.{eqb, leb→le}
 use lib.ListN.{length, length-append, length-drop, take, drop, getD}
 use lib.Seq.{drop-drop, getD-drop, take-at}
 use borrow.Author.Tests.{ne-eqb}
@@ -15,7 +15,8 @@ use Rattle.integers.specs.All.{All}
 use Rattle.integers.specs.Numbers.{Bytes}
 use Rattle.commands.specs.Table.{letterA, letterG, sizeOfByte}
 use Rattle.commands.specs.declared.Command.{Command}
-use Rattle.commands.specs.declared.Command.the-variants.{Variable, Start, Mode, Action, Condition, ModeCondition, ModeEffect, Add, Linear, Term, Quotient, Residue, Goal, End, Refused}
+use Rattle.commands.specs.declared.Command.the-variants.{Variable, Start, Mode, Action, Condition, ModeCondition, ModeEffect, Add, Linear, Term}
+use Rattle.commands.specs.declared.Command.the-variants.{Quotient, Residue, Goal, End, Sum, Refused}
 use Rattle.commands.specs.Encoding.{byteOf, encode, encodeAll, Fits}
 use Rattle.model.specs.Limits.{Limits}
 use Rattle.model.specs.ReadingState.{ReadingState, Taken, Going, begin, goOn}
@@ -26,7 +27,7 @@ use Rattle.model.specs.Trail.{Trail}
 use Rattle.model.specs.ActionBytes.{edgeOf, commandsIn, decodeAction, allAlong}
 use Rattle.commands.proofs.Encoding.{read-encode, drop-encode}
 use Rattle.model.proofs.Walk.{count}
-use Rattle.model.proofs.ReadingLaws.{clash, holds, rule-none}
+use Rattle.model.proofs.ReadingLaws.{clash, holds, rule-none, own-goes, end-never-goes}
 use Rattle.model.proofs.AcceptedTrail.{Is, accepted-trail}
 use Rattle.model.proofs.FileBytes.{file-is-its-commands}
 use Rattle.file_actions.specs.Places.{edgesOf, goalPart}
@@ -64,14 +65,22 @@ kind (Term x y) = plain (record { goesOn = λ p. refl; section = λ p. refl; act
 kind (Quotient x y w) = plain (record { goesOn = λ p. refl; section = λ p. refl; actions = λ d. refl; goal = λ d. refl; noA = λ e. omega (arith, e); noG = λ e. omega (arith, e) })
 kind (Residue x y w) = plain (record { goesOn = λ p. refl; section = λ p. refl; actions = λ d. refl; goal = λ d. refl; noA = λ e. omega (arith, e); noG = λ e. omega (arith, e) })
 kind Goal = closes refl
-kind End = never (λ l p a g. let z : _≡_ {A = ℕ} 0 1 = cc in omega arith)
+kind End = never (λ l p a g. end-never-goes l p g)
+kind (Sum x y) = plain (record {
+  goesOn = λ p. refl;
+  section = λ p. refl;
+  actions = λ d. refl;
+  goal = λ d. refl;
+  noA = λ e. omega (arith, e);
+  noG = λ e. omega (arith, e);
+})
 kind (Refused n) = never (λ l p a g. clash (sym a))
 
 -- the commands that follow one that is taken
 onward : (l : Limits) (p : ReadingState) (c : Command) (cs : List Command) → onwards c (nextOf p c) ≡ goOn (nextOf p c) → ruleOf l p c .progress ≡ Going → Trail l (ruleOf l p c .state) cs → Trail l (nextOf p c) cs
 onward l p c cs n g t =
-    let (o, e) = rule-none p (testsOf l p c) (onwards c (nextOf p c)) g in
-    subst (λ (x : ReadingState). Trail l x cs) (ap (λ (x : Taken). x .state) (e ∙ n)) t
+    let (goes, own) = own-goes l p c g in
+    subst (λ (x : ReadingState). Trail l x cs) (ap (λ (x : Taken). x .state) (own ∙ rule-none p (testsOf l p c) (onwards c (nextOf p c)) goes .1 ∙ n)) t
 
 -- no action follows G
 none-after : (l : Limits) (cs : List Command) (p : ReadingState) → p .section ≡ 3 → Trail l p cs → length (actionsOf cs) ≡ 0
@@ -85,11 +94,11 @@ none-after l (c ∷ cs) p s (a, g, t) = go (kind c) (λ q s′ t′. none-after 
     go (closes e) f = absurd (omega (arith, leb→le (p .section) 2 (holds (subst (λ (d : Command). allowed l p (byteOf d) ≡ true) e a))))
     go (never n) f = absurd (n l p a g)
 
--- ---- and no effect: E and the numeric effects stand in an action, a T behind an L or T
+-- ---- and no effect: E and the numeric effects stand in an action
 abbrev pub Quiet : List Command → Type 0
 Quiet cs = (modeEffectsOf cs ≡ []) × (effectsOf cs ≡ []) × (additionsOf cs ≡ [])
 
-module _ (p : ReadingState) (s : p .section ≡ 3) (z : p .terms ≡ 0) where
+module _ (p : ReadingState) (s : p .section ≡ 3) where
   no-effect-here : eqb (p .section) 2 ≡ true → ⊥
   no-effect-here a = clash (sym (rw s at a))
 
@@ -97,27 +106,25 @@ module _ (p : ReadingState) (s : p .section ≡ 3) (z : p .terms ≡ 0) where
   no-source-effect-here true a = clash (sym a)
   no-source-effect-here false a = no-effect-here a
 
-  no-term-here : leb 1 (p .terms) ≡ true → ⊥
-  no-term-here a = clash (sym (rw z at a))
-
-quiet-after : (l : Limits) (cs : List Command) (p : ReadingState) → p .section ≡ 3 → p .terms ≡ 0 → Trail l p cs → Quiet (upTo cs)
+quiet-after : (l : Limits) (cs : List Command) (p : ReadingState) → p .section ≡ 3 → Trail l p cs → Quiet (upTo cs)
 unfolding testsOf nextOf
-quiet-after l [] p s z t = (refl, refl, refl)
-quiet-after l (Variable x y w ∷ cs) p s z (a, g, t) = quiet-after l cs (nextOf p (Variable x y w)) s refl (onward l p (Variable x y w) cs refl g t)
-quiet-after l (Start x ∷ cs) p s z (a, g, t) = quiet-after l cs (nextOf p (Start x)) s refl (onward l p (Start x) cs refl g t)
-quiet-after l (Mode x y ∷ cs) p s z (a, g, t) = quiet-after l cs (nextOf p (Mode x y)) s refl (onward l p (Mode x y) cs refl g t)
-quiet-after l (Action ∷ cs) p s z t = (refl, refl, refl)
-quiet-after l (Condition x y w ∷ cs) p s z (a, g, t) = quiet-after l cs (nextOf p (Condition x y w)) s refl (onward l p (Condition x y w) cs refl g t)
-quiet-after l (ModeCondition x y ∷ cs) p s z (a, g, t) = quiet-after l cs (nextOf p (ModeCondition x y)) s refl (onward l p (ModeCondition x y) cs refl g t)
-quiet-after l (ModeEffect x y ∷ cs) p s z (a, g, t) = absurd (no-effect-here p s z a)
-quiet-after l (Add x y ∷ cs) p s z (a, g, t) = absurd (no-effect-here p s z a)
-quiet-after l (Linear x y ∷ cs) p s z (a, g, t) = absurd (no-source-effect-here p s z (l .restricted) a)
-quiet-after l (Term x y ∷ cs) p s z (a, g, t) = absurd (no-term-here p s z a)
-quiet-after l (Quotient x y w ∷ cs) p s z (a, g, t) = absurd (no-source-effect-here p s z (l .restricted) a)
-quiet-after l (Residue x y w ∷ cs) p s z (a, g, t) = absurd (no-source-effect-here p s z (l .restricted) a)
-quiet-after l (Goal ∷ cs) p s z t = (refl, refl, refl)
-quiet-after l (End ∷ cs) p s z (a, g, t) = let e : _≡_ {A = ℕ} 0 1 = cc in absurd (omega arith)
-quiet-after l (Refused n ∷ cs) p s z (a, g, t) = absurd (clash (sym a))
+quiet-after l [] p s t = (refl, refl, refl)
+quiet-after l (Variable x y w ∷ cs) p s (a, g, t) = quiet-after l cs (nextOf p (Variable x y w)) s (onward l p (Variable x y w) cs refl g t)
+quiet-after l (Start x ∷ cs) p s (a, g, t) = quiet-after l cs (nextOf p (Start x)) s (onward l p (Start x) cs refl g t)
+quiet-after l (Mode x y ∷ cs) p s (a, g, t) = quiet-after l cs (nextOf p (Mode x y)) s (onward l p (Mode x y) cs refl g t)
+quiet-after l (Action ∷ cs) p s t = (refl, refl, refl)
+quiet-after l (Condition x y w ∷ cs) p s (a, g, t) = quiet-after l cs (nextOf p (Condition x y w)) s (onward l p (Condition x y w) cs refl g t)
+quiet-after l (ModeCondition x y ∷ cs) p s (a, g, t) = quiet-after l cs (nextOf p (ModeCondition x y)) s (onward l p (ModeCondition x y) cs refl g t)
+quiet-after l (ModeEffect x y ∷ cs) p s (a, g, t) = absurd (no-effect-here p s a)
+quiet-after l (Add x y ∷ cs) p s (a, g, t) = absurd (no-effect-here p s a)
+quiet-after l (Linear x y ∷ cs) p s (a, g, t) = absurd (no-source-effect-here p s (l .restricted) a)
+quiet-after l (Term x y ∷ cs) p s (a, g, t) = quiet-after l cs (nextOf p (Term x y)) s (onward l p (Term x y) cs refl g t)
+quiet-after l (Quotient x y w ∷ cs) p s (a, g, t) = absurd (no-source-effect-here p s (l .restricted) a)
+quiet-after l (Residue x y w ∷ cs) p s (a, g, t) = absurd (no-source-effect-here p s (l .restricted) a)
+quiet-after l (Goal ∷ cs) p s t = (refl, refl, refl)
+quiet-after l (End ∷ cs) p s (a, g, t) = absurd (end-never-goes l p g)
+quiet-after l (Sum x y ∷ cs) p s (a, g, t) = quiet-after l cs (nextOf p (Sum x y)) s (onward l p (Sum x y) cs refl g t)
+quiet-after l (Refused n ∷ cs) p s (a, g, t) = absurd (clash (sym a))
 
 -- ---- the walk to G
 record Found (file : List ℕ) (left : List Command) (edges : List ℕ) : Type 0 where
@@ -133,7 +140,7 @@ record Found (file : List ℕ) (left : List Command) (edges : List ℕ) : Type 0
 module _ (l : Limits) (file : List ℕ) where
   find : (left : List Command) (p : ReadingState) (at : ℕ) (edges : List ℕ) → p .section ≤ 2 → Trail l p left → All Fits left → drop at file ≡ encodeAll left ++ encode End → EdgesLeft file at edges → Found file left edges
   unfolding testsOf nextOf
-  find [] p at edges s t o w e = absurd (omega (arith, s, t))
+  find [] p at edges s t o w e = absurd (omega (arith, s, t .0))
   find (c ∷ cs) p at edges s (a, g, t) (o, os) w e = go (kind c) (λ q at′ edges′ s′ t′ w′ e′. find cs q at′ edges′ s′ t′ os w′ e′)
     where
       w₁ : drop at file ≡ encode c ++ (encodeAll cs ++ encode End)
@@ -192,7 +199,7 @@ module _ (l : Limits) (file : List ℕ) where
             last = λ d. ap (λ (z : List ℕ). getD z (length (actionsOf cs)) d) is ∙ ap (λ (n : ℕ). getD (at ∷ []) n d) none;
             long = ap length is ∙ ap suc (sym none);
             goal = refl;
-            quiet = quiet-after l cs (nextOf p Goal) refl refl after;
+            quiet = quiet-after l cs (nextOf p Goal) refl after;
           })
       go (never n) f = absurd (n l p a g)
 

@@ -1,11 +1,14 @@
 pub mod Accepted
 pub mod Distinct
 pub mod Edges
+pub mod Filling
 pub mod Fits
 pub mod Gathering
 pub mod GoalBytes
 pub mod NumericPart
 pub mod Parts
 pub mod Refusals
+pub mod SumPart
+pub mod Sums
 pub mod Taking
 pub mod Walking

@@ -3,30 +3,28 @@
 -- Assumes nothing.
 use mathlib.Core.Path.{_≡_, refl, _∙_, sym, ap, subst}
 use mathlib.Core.Bool.{Bool, true, false, cond}
-use mathlib.Core.List.{List, [], _∷_, _++_, append-assoc, append-nil, map, map-append}
+use mathlib.Core.List.{List, [], _∷_, _++_, append-assoc, map, map-append}
 use mathlib.Core.Logic.{inl, inr}
-use Prim.Native.Nat.{ℕ, zero, suc, _+_, _<_, _≤_}
+use Prim.Native.Nat.{ℕ, _+_, _<_, _≤_}
 use native.Mathlib.Omega.{arith}
-use native.Mathlib.Numerals.{add-one}
 use denote.Enum.Declared.{tagOf}
 use lib.Dec.{ltb, lit<}
 use lib.IntN.{ℤ}
 use lib.ListN.{length, getD, take, set, length-set, length-append, length-take, length-map}
-use lib.Seq.{take-suc-set, take-append-le, take-all}
+use lib.Seq.{take-all}
 use borrow.Author.Tests.{ltb-true, ltb-false}
 use types.Run.{OneOf, miss}
-use Rattle.integers.specs.All.{All}
-use Rattle.commands.specs.Table.{rows, rowAt, letterA, letterC, letterE, letterG, letterP, letterT}
+use Rattle.commands.specs.Table.{rows, rowAt, letterA, letterC, letterE, letterG, letterK, letterP, letterT}
 use Rattle.commands.specs.Reading.{commandAt, readRow}
 use Rattle.commands.specs.declared.Command.{Command}
 use Rattle.commands.specs.declared.Command.the-variants.{Variable, Start, Mode, Action, Condition, ModeCondition, ModeEffect, Add, Linear, Term}
-use Rattle.commands.specs.declared.Command.the-variants.{Quotient, Residue, Goal, End, Refused}
+use Rattle.commands.specs.declared.Command.the-variants.{Quotient, Residue, Goal, End, Sum, Refused}
 use Rattle.commands.proofs.Command.{the-type}
 use Rattle.commands.proofs.Encoding.{byte-read}
 use Rattle.commands.proofs.Known.{others}
 use Rattle.model.specs.Tasks.{Effect}
 use Rattle.model.specs.Rules.{constant}
-use Rattle.model.specs.Decoding.{isEdge, upTo, effectsOf, termsOf, sourceActionOf}
+use Rattle.model.specs.Decoding.{isEdge, upTo, effectsOf, termsOf}
 use Rattle.model.specs.ActionBytes.{decodeAction}
 use Rattle.file_parts.specs.Row.{Says}
 use Rattle.file_actions.specs.declared.Terms.{Terms}
@@ -36,40 +34,12 @@ use Rattle.file_actions.specs.declared.Given.{Given}
 use Rattle.file_actions.specs.Places.{bodyStart}
 use Rattle.file_actions.specs.Taking.{CommandsLeft, partsOf}
 use Rattle.file_actions.specs.Views.{effectRoom, termRoom, termIs, termsIs, numericIs, effectsIs, fittingEffect}
-use Rattle.file_actions.specs.Views.{fittingSource, fittingRestricted, SourceDecoded}
+use Rattle.file_actions.specs.Views.{plainActionOf, fittingSource, fittingRestricted, SourceDecoded}
 use Rattle.file_actions.specs.Numeric.{term, withTerm, TermsRead, noTerms}
 use Rattle.file_actions.specs.Numeric.{noEffects, givingNone, givenIs, effectIn, FewTerms, EffectGiven}
+use Rattle.file_actions.proofs.Filling.{front-enough, whole, stored, filled, stored-with, dropped-with, taken-few, all-set}
 use Rattle.file_actions.proofs.Taking.{of-row, other-inside}
 use Rattle.file_actions.proofs.Walking.{Turn, next-command, no-command-left, all-passed, Left, left-begin, left-end, some, left-edge, left-next}
-
--- ---- lists that are filled as far as there is room
-module _ {A : Type 0} (room : ℕ) where
-  -- the front of a list is enough for its front with more behind it
-  front-enough : (xs ys : List A) → take room (take room xs ++ ys) ≡ take room (xs ++ ys)
-  front-enough xs ys = go room xs
-    where
-      go : (n : ℕ) (xs : List A) → take n (take n xs ++ ys) ≡ take n (xs ++ ys)
-      go zero xs = refl
-      go (suc n) [] = refl
-      go (suc n) (x ∷ xs) = ap (λ (z : List A). x ∷ z) (go n xs)
-
-  whole : (xs : List A) → length xs ≤ room → xs ≡ take room (xs ++ [])
-  whole xs h = sym (ap (take room) (append-nil xs) ∙ take-all room xs h)
-
--- the first n of a row of places, read by f, with one more behind them
-module _ {A B : Type 0} (f : A → B) (room : ℕ) (places : List A) (n : ℕ) (x : A) (long : length places ≡ room) where
-  stored : n < room → map f (take (n + 1) (set places n x)) ≡ map f (take n places) ++ (f x ∷ [])
-  stored h =
-      ap (λ (k : ℕ). map f (take k (set places n x))) (add-one n) ∙ ap (map f) (take-suc-set places n x (omega (arith, long)))
-      ∙ map-append f (take n places) (x ∷ [])
-
-  filled : room ≤ n → (ys : List B) → take room (map f (take n places) ++ ys) ≡ map f (take n places)
-  filled h ys =
-      let l : length (map f (take n places)) ≡ room = omega (arith, length-map (take n places) f, length-take n places, long) in
-      take-append-le room (map f (take n places)) ys (omega (arith, l)) ∙ take-all room (map f (take n places)) (omega (arith, l))
-
-taken-few : {A B : Type 0} (f : A → B) (n : ℕ) (places : List A) (room : ℕ) → n ≤ room → length (map f (take n places)) ≤ room
-taken-few f n places room h = omega (arith, length-map (take n places) f, length-take n places)
 
 -- ---- terms
 -- the T's read, with those that are left from an offset on, are all of them
@@ -107,13 +77,8 @@ module _ (r : Terms) (v : ℕ) (w : ℤ) where
     where
       go : (t : Bool) → ltb (r .count) termRoom ≡ t
           → take termRoom (termsIs (cond t one-more r .count) (cond t one-more r .places) ++ rest) ≡ take termRoom (termsIs (r .count) (r .places) ++ ((v, w) ∷ rest))
-      go true e =
-          ap (λ (z : List (ℕ × ℤ)). take termRoom (z ++ rest)) (stored termIs termRoom (r .places) (r .count) (term v w) long (ltb-true (r .count) termRoom e))
-          ∙ ap (take termRoom) (append-assoc (termsIs (r .count) (r .places)) ((v, w) ∷ []) rest)
-      go false e =
-          let full = ltb-false (r .count) termRoom e in
-          filled termIs termRoom (r .places) (r .count) (term v w) long full rest
-          ∙ sym (filled termIs termRoom (r .places) (r .count) (term v w) long full ((v, w) ∷ rest))
+      go true e = stored-with termIs termRoom (r .places) (r .count) (term v w) long rest (ltb-true (r .count) termRoom e)
+      go false e = dropped-with termIs termRoom (r .places) (r .count) (term v w) long rest (ltb-false (r .count) termRoom e)
 
 -- a command that is no T ends them
 no-term : (c : Command) (more : List Command) → OneOf (others 9) (tagOf the-type c) → termsOf (c ∷ more) ≡ []
@@ -131,6 +96,7 @@ no-term (Quotient a b d) more h = refl
 no-term (Residue a b d) more h = refl
 no-term Goal more h = refl
 no-term End more h = refl
+no-term (Sum a b) more h = refl
 no-term (Refused a) more h = refl
 
 module _ {s : List ℕ} {from at : ℕ} {r : Terms} (g : TermsFrom s from at r) where
@@ -175,11 +141,6 @@ module _ {s : List ℕ} {from at : ℕ} {r : Terms} (g : TermsFrom s from at r) 
     }
 
 -- ---- effects
-all-set : {A : Type 0} (P : A → Type 0) (xs : List A) (i : ℕ) (x : A) → P x → All P xs → All P (set xs i x)
-all-set P [] i x p a = tt
-all-set P (y ∷ xs) zero x p (q, qs) = (p, qs)
-all-set P (y ∷ xs) (suc i) x p (q, qs) = (q, all-set P xs i x p qs)
-
 abbrev Few : NumericEffect → Type 0
 Few e = e .«term_count» ≤ termRoom
 
@@ -232,10 +193,11 @@ effects-behind (Quotient a b d) cs = refl
 effects-behind (Residue a b d) cs = refl
 effects-behind Goal cs = refl
 effects-behind End cs = refl
+effects-behind (Sum a b) cs = refl
 effects-behind (Refused a) cs = refl
 
 -- an A or G is no T: the T's that are left are those left of the action
-terms-inside : (cs : List Command) → termsOf cs ≡ termsOf (upTo cs)
+pub terms-inside : (cs : List Command) → termsOf cs ≡ termsOf (upTo cs)
 terms-inside [] = refl
 terms-inside (Variable a b d ∷ cs) = refl
 terms-inside (Start a ∷ cs) = refl
@@ -251,6 +213,7 @@ terms-inside (Quotient a b d ∷ cs) = refl
 terms-inside (Residue a b d ∷ cs) = refl
 terms-inside (Goal ∷ cs) = refl
 terms-inside (End ∷ cs) = refl
+terms-inside (Sum a b ∷ cs) = refl
 terms-inside (Refused a ∷ cs) = refl
 
 -- the effects taken, with those that `rest` gives, are the action's
@@ -270,7 +233,7 @@ effects-begin s = left-begin s (EffectsFrom s noEffects) (record {
 
 -- after the last command, with rows that say the other parts
 pub effects-end : {s : List ℕ} {at : ℕ} {n : Effects} {marks : List ℕ} {numbers : List ℤ} → EffectsLeft s at n → length s ≤ at
-    → Says (fittingRestricted (partsOf false (decodeAction s))) marks numbers → SourceDecoded (fittingSource (sourceActionOf (decodeAction s))) marks numbers n
+    → Says (fittingRestricted (partsOf false (decodeAction s))) marks numbers → SourceDecoded (fittingSource (plainActionOf (decodeAction s))) marks numbers n
 effects-end {s} {at} {n} g h parts =
     let p = left-end (EffectsFrom s n) g h in
     record { parts = parts; effects = all-taken (p .held) ∙ p .are; few = p .held .few; termsFew = p .held .termsFew }
@@ -301,7 +264,7 @@ module _ {s : List ℕ} {at : ℕ} {n : Effects} {rest : List ℕ} {size : ℕ} 
             ∙ p .are;
       })
 
-  -- a C, E, P or T gives none
+  -- a C, E, K, P or T gives none
   plain : (i : ℕ) → i < rows → getD rest 0 0 ≡ rowAt i .byte → isEdge (readRow rest i) ≡ false → ((terms : List (ℕ × ℤ)) → effectIn (readRow rest i) terms ≡ [])
       → EffectsLeft s (at + size) n
   plain i few b inside none =
@@ -314,11 +277,12 @@ module _ {s : List ℕ} {at : ℕ} {n : Effects} {rest : List ℕ} {size : ℕ} 
         are = all-taken h ∙ ap (λ (z : List Effect). take effectRoom (effectsIs n ++ map fittingEffect z)) (sym (gives (termsOf left)));
       })
 
-  pub effects-pass : OneOf (letterC ∷ letterE ∷ letterP ∷ letterT ∷ []) (getD rest 0 0) → EffectsLeft s (at + size) n
+  pub effects-pass : OneOf (letterC ∷ letterE ∷ letterK ∷ letterP ∷ letterT ∷ []) (getD rest 0 0) → EffectsLeft s (at + size) n
   effects-pass (inl b) = plain 4 (lit< tt) b refl (λ terms. refl)
   effects-pass (inr (inl b)) = plain 6 (lit< tt) b refl (λ terms. refl)
-  effects-pass (inr (inr (inl b))) = plain 5 (lit< tt) b refl (λ terms. refl)
-  effects-pass (inr (inr (inr b))) = plain 9 (lit< tt) b refl (λ terms. refl)
+  effects-pass (inr (inr (inl b))) = plain 14 (lit< tt) b refl (λ terms. refl)
+  effects-pass (inr (inr (inr (inl b)))) = plain 5 (lit< tt) b refl (λ terms. refl)
+  effects-pass (inr (inr (inr (inr b)))) = plain 9 (lit< tt) b refl (λ terms. refl)
 
   -- any other command that is no A or G: it gives none, or one that is kept or dropped
   module _ (noEdge : OneOf (letterA ∷ letterG ∷ []) (getD rest 0 0) → ⊥) {r : Given} (e : EffectGiven s (at + size) (commandAt rest) r) where
@@ -340,7 +304,7 @@ module _ {s : List ℕ} {at : ℕ} {n : Effects} {rest : List ℕ} {size : ℕ} 
 -- ---- a command that gives no effect
 -- its cases: all but those of +, L, Q and R
 abbrev pub plainCases : List ℕ
-plainCases = 0 ∷ 1 ∷ 2 ∷ 3 ∷ 4 ∷ 5 ∷ 6 ∷ 9 ∷ 12 ∷ 13 ∷ 14 ∷ []
+plainCases = 0 ∷ 1 ∷ 2 ∷ 3 ∷ 4 ∷ 5 ∷ 6 ∷ 9 ∷ 12 ∷ 13 ∷ 14 ∷ 15 ∷ []
 
 no-effect : (c : Command) (terms : List (ℕ × ℤ)) → OneOf plainCases (tagOf the-type c) → effectIn c terms ≡ []
 no-effect (Variable a b d) terms h = refl
@@ -357,6 +321,7 @@ no-effect (Quotient a b d) terms h = absurd (miss plainCases 10 tt h)
 no-effect (Residue a b d) terms h = absurd (miss plainCases 11 tt h)
 no-effect Goal terms h = refl
 no-effect End terms h = refl
+no-effect (Sum a b) terms h = refl
 no-effect (Refused a) terms h = refl
 
 pub gives-none : (s : List ℕ) (behind : ℕ) (c : Command) → OneOf plainCases (tagOf the-type c) → EffectGiven s behind c givingNone

@@ -1,4 +1,4 @@
--- The refusals of a file: their numbers are 1 to 7, so 0 stands for none; and what a place that is told with its bytes says.
+-- The refusals of a file: their numbers are 1 to 7 and 14, so 0 stands for none; and what a place that is told with its bytes says.
 -- Assumes nothing.
 use mathlib.Core.Path.{_≡_, refl, sym, ap, _∙_}
 use Prim.Native.Nat.{ℕ, zero, suc, _+_, _≤_, _<_}
@@ -7,18 +7,19 @@ use mathlib.Core.Bool.{Bool, true, false, cond, _&&_}
 use mathlib.Core.List.{List, [], _∷_}
 use lib.Dec.{eqb, leb, ltb}
 use lib.ListN.{length, getD}
-use borrow.Author.Tests.{leb-true, ne-eqb, ltb-true, ltb-false}
+use borrow.Author.Tests.{eqb-true, leb-true, ne-eqb, ltb-true, ltb-false}
 use Rattle.integers.specs.All.{All}
 use Rattle.lists.proofs.Loops.{and-left, and-right}
 use Rattle.lists.specs.Answer.{Answer, given, refused, then}
 use Rattle.integers.specs.Numbers.{numberAt}
-use Rattle.commands.specs.Table.{rows, rowOf, widthAt, sizeOfRow, sizeOfByte}
+use Rattle.commands.specs.Table.{rows, rowOf, widthAt, sizeOfRow, sizeOfByte, letterT}
+use Rattle.commands.specs.Encoding.{byteOf}
 use Rattle.commands.specs.Reading.{commands, readRow, commandAt}
 use Rattle.commands.specs.declared.Command.{Command}
 use Rattle.commands.specs.declared.Command.the-variants.{Refused}
 use Rattle.model.specs.Limits.{Limits}
 use Rattle.model.specs.ReadingState.{ReadingState, Taken, Progress, Going, Ended, Stopped, stop, rule, begin}
-use Rattle.model.specs.Rules.{allowed, testsOf, nextOf, onwards, ruleOf, takeOf}
+use Rattle.model.specs.Rules.{isOneOf, allowed, testsOf, nextOf, onwards, ownRuleOf, sumTests, ruleOf, takeOf}
 use Rattle.model.specs.Reading.{remainders, Verdict, Accepted, Rejected, acceptedWith, afterCommand, verdictAlong, verdictOf}
 use Rattle.model.specs.Decoding.{onVerdict}
 use Rattle.model.specs.ActionBytes.{edgeOf, actionPart, ofVerdict, actionPlace, partAt}
@@ -26,7 +27,18 @@ use Rattle.file_actions.specs.Places.{bytesTold, BytesOfAction, stepPlac
 
 -- ---- the numbers
 abbrev few : ℕ → Bool
-few number = leb 1 number && leb number 7
+few number = cond (eqb number 14) true (leb 1 number && leb number 7)
+
+-- neither 0 nor 11
+few-apart : (number : ℕ) → few number ≡ true → (number ≡ 0 → ⊥) × (number ≡ 11 → ⊥)
+few-apart number = by (eqb number 14) refl
+  where
+    by : (b : Bool) → eqb number 14 ≡ b → cond b true (leb 1 number && leb number 7) ≡ true → (number ≡ 0 → ⊥) × (number ≡ 11 → ⊥)
+    by true e h = let is : number ≡ 14 = eqb-true number 14 e in (λ z. omega (arith, is), λ z. omega (arith, is))
+    by false e h = (
+      λ z. omega (arith, leb-true 1 number (and-left (leb 1 number) (leb number 7) h)),
+      λ z. omega (arith, leb-true number 7 (and-right (leb 1 number) (leb number 7) h)),
+    )
 
 abbrev fewIn : List (Bool × ℕ) → Bool
 fewIn [] = true
@@ -79,6 +91,14 @@ module _ (l : Limits) (p : ReadingState) where
       by false false true r = r
       by false false false r = (refl, tt)
 
+  sum-ruled : (c : Command) → fewIn (sumTests l p c) ≡ true
+  sum-ruled c = by (l .restricted) (isOneOf (byteOf c) (letterT ∷ 0 ∷ []))
+    where
+      by : (x y : Bool) → fewIn (cond x [] (cond y [] ((leb 1 (p .bareSum), 14) ∷ []))) ≡ true
+      by true y = refl
+      by false true = refl
+      by false false = refl
+
   take-numbered : (rest : List ℕ) → Numbered (takeOf l p rest .progress)
   unfolding takeOf
   take-numbered rest = by (eqb (length rest) 0) (allowed l p (getD rest 0 0))
@@ -88,7 +108,7 @@ module _ (l : Limits) (p : ReadingState) where
       by false true =
           let c = commandAt rest in
           let (tests, goes) = command-ruled rest in
-          rule-numbered p (testsOf l p c) (onwards c (nextOf p c)) tests goes
+          rule-numbered p (sumTests l p c) (ownRuleOf l p c) (sum-ruled c) (rule-numbered p (testsOf l p c) (onwards c (nextOf p c)) tests goes)
       by false false = refl
 
 -- ---- of a whole file
@@ -146,7 +166,7 @@ module _ (l : Limits) (file : List ℕ) (k : ℕ) where
 
       by : (v : Verdict) → NumberedVerdict v → NotZero (ofVerdict v file k)
       by (Accepted variables modes actions) h = within (ltb k actions)
-      by (Rejected number place) h = λ e. omega (arith, leb-true 1 number (and-left (leb 1 number) (leb number 7) h))
+      by (Rejected number place) h = few-apart number h .0
 
   -- ---- what is told: 0 and the bytes
   pub told-given : {number place : ℕ} {bytes : List ℕ} → bytesTold (actionPlace l file k) file ≡ (number, place, bytes) → number ≡ 0
@@ -208,4 +228,4 @@ module _ (l : Limits) (file : List ℕ) (k : ℕ) where
       by (Rejected n at) q h e =
           let same : n ≡ number = cc in
           let there : at ≡ place = cc in
-          rw (same, there, ne-eqb number 11 (λ z. omega (arith, leb-true n 7 (and-right (leb 1 n) (leb n 7) h))))
+          rw (same, there, ne-eqb number 11 (λ z. few-apart n h .1 (same ∙ z)))

@@ -19,12 +19,12 @@ use Rattle.commands.proofs.Known.{read-as}
 use Rattle.model.specs.Rules.{constant}
 use Rattle.model.specs.Tasks.{NumericCondition, RestrictedAction}
 use Rattle.model.specs.Steps.{naturalAt}
-use Rattle.model.specs.Decoding.{those, isEdge, conditionOf, pairOf, amountOf, additionsOf, sourceActionOf}
+use Rattle.model.specs.Decoding.{those, isEdge, conditionOf, pairOf, amountOf, additionsOf}
 use Rattle.file_parts.specs.Layout.{conditionRoom, modeConditionRoom, modeEffectRoom, additionRoom, conditionCount, modeConditionCount, modeEffectCount, additionCount}
 use Rattle.file_parts.specs.Row.{rowIs, Says}
-use Rattle.file_parts.specs.With.{condition, blankAction, withCondition, withModeCondition, withModeEffect, withAddition, sourcePart}
+use Rattle.file_parts.specs.With.{condition, blankAction, withCondition, withModeCondition, withModeEffect, withAddition}
 use Rattle.file_parts.proofs.Pushing.{Sized, pushed, says-as, conditions-counted, mode-conditions-counted, mode-effects-counted, additions-counted}
-use Rattle.file_actions.specs.Views.{fittingSource, fittingRestricted}
+use Rattle.file_actions.specs.Views.{fittingRestricted}
 use Rattle.file_actions.specs.Taking.{partsOf, Takes}
 
 -- ---- the parts of commands, and of more
@@ -223,17 +223,6 @@ module _ (marks : List ℕ) (numbers : List ℤ) (v bits : ℕ) where
   pub addition-dropped : additionRoom ≤ naturalAt marks additionCount → Takes true (Add v bits) marks numbers marks numbers
   addition-dropped all = kept true (Add v bits) refl marks numbers (λ p h. full-additions p _ (omega (arith, all, additions-counted h)))
 
--- the parts of a source action, which has no +
-pub source-parts : (cs : List Command) → fittingRestricted (partsOf false cs) ≡ sourcePart (fittingSource (sourceActionOf cs))
-source-parts cs = ap
-    (λ (z : List (ℕ × ℤ)). record {
-      modeConditions = fittingRestricted (partsOf false cs) .modeConditions;
-      conditions = fittingRestricted (partsOf false cs) .conditions;
-      modeEffects = fittingRestricted (partsOf false cs) .modeEffects;
-      additions = z;
-    })
-    (take-nil additionRoom)
-
 -- ---- by the byte
 
 -- the byte of row i: the command is that row's, or it is cut short
@@ -261,7 +250,7 @@ addition-passed s some b marks numbers =
 
 -- any other byte; a command that is refused has none
 module _ (b : ℕ) (c : Command) (byte : NoRefusal c → byteOf c ≡ b) where
-  not-byte : (x : ℕ) → 0 < x → (b ≡ x → ⊥) → eqb (byteOf c) x ≡ false
+  pub not-byte : (x : ℕ) → 0 < x → (b ≡ x → ⊥) → eqb (byteOf c) x ≡ false
   not-byte x h n = ne-eqb (byteOf c) x (λ e. go (ltb (rowNumber c) rows) refl e)
     where
       go : (t : Bool) → ltb (rowNumber c) rows ≡ t → byteOf c ≡ x → ⊥

@@ -1,4 +1,5 @@
--- The numeric effects of a source action while its commands are read: as many as there is room for, an L with the T's directly behind it.
+-- The numeric effects and the conditions on sums of a source action while its commands are read: as many as there is room for, an L or a K with the
+-- T's directly behind it.
 -- Assumes nothing.
 use mathlib.Core.Path.{_≡_}
 use Prim.Native.Nat.{ℕ, _+_, _≤_}
@@ -11,7 +12,7 @@ use Rattle.integers.specs.All.{All}
 use Rattle.commands.specs.declared.Command.{Command}
 use Rattle.commands.specs.declared.Command.the-variants.{Variable, Start, Mode, Action, Condition, ModeCondition, ModeEffect, Add as AddCommand}
 use Rattle.commands.specs.declared.Command.the-variants.{Linear as LinearCommand, Term as TermCommand, Quotient as QuotientCommand}
-use Rattle.commands.specs.declared.Command.the-variants.{Residue as ResidueCommand, Goal, End, Refused}
+use Rattle.commands.specs.declared.Command.the-variants.{Residue as ResidueCommand, Goal, End, Sum, Refused}
 use Rattle.model.specs.Tasks.{Effect, addEffect, linearEffect, quotientEffect, residueEffect}
 use Rattle.model.specs.Rules.{constant}
 use Rattle.model.specs.Decoding.{termsOf}
@@ -22,8 +23,10 @@ use Rattle.file_actions.specs.declared.Effect.the-variants.{None}
 use Rattle.file_actions.specs.declared.NumericEffect.{NumericEffect}
 use Rattle.file_actions.specs.declared.Effects.{Effects}
 use Rattle.file_actions.specs.declared.Given.{Given}
+use Rattle.file_actions.specs.declared.SumCondition.{SumCondition}
+use Rattle.file_actions.specs.declared.SumConditions.{SumConditions}
 use Rattle.file_actions.specs.Taking.{CommandsLeft}
-use Rattle.file_actions.specs.Views.{effectRoom, termRoom, termsIs, numericIs, fittingEffect}
+use Rattle.file_actions.specs.Views.{effectRoom, sumRoom, termRoom, termsIs, numericIs, fittingEffect}
 
 -- ---- terms
 abbrev pub term : ℕ → ℤ → Term
@@ -78,6 +81,7 @@ effectIn (ModeCondition m x) terms = []
 effectIn (ModeEffect m x) terms = []
 effectIn Goal terms = []
 effectIn End terms = []
+effectIn (Sum r k) terms = []
 effectIn (Refused number) terms = []
 
 -- none has more terms than there is room for
@@ -88,3 +92,14 @@ FewTerms r = All (λ (e : NumericEffect). e .«term_count» ≤ termRoom) (r .pl
 pub record EffectGiven (s : List ℕ) (behind : ℕ) (c : Command) (r : Given) : Type 0 where
   pub termsFew : r .place .«term_count» ≤ termRoom
   pub are : (left : List Command) → CommandsLeft s behind left → givenIs r ≡ map fittingEffect (effectIn c (termsOf left))
+
+-- ---- conditions on sums
+abbrev pub sumCondition : ℕ → ℤ → Terms → SumCondition
+sumCondition r k ts = record { relation = r; constant = k; «term_count» = ts .count; terms = ts .places }
+
+abbrev pub noSums : SumConditions
+noSums = record { count = 0; places = replicate sumRoom (sumCondition 0 (pos 0) noTerms) }
+
+-- one behind the others, where there is room
+abbrev pub withSum : SumConditions → ℕ → ℤ → Terms → SumConditions
+withSum s r k ts = cond (ltb (s .count) sumRoom) (record { count = s .count + 1; places = set (s .places) (s .count) (sumCondition r k ts) }) s

@@ -8,11 +8,12 @@ use Rattle.integers.specs.All.{All}
 use Rattle.model.specs.Steps.{integerAt, naturalAt}
 use Rattle.model.specs.Limits.{Limits}
 use Rattle.model.specs.InTask.{targets}
-use Rattle.model.specs.TaskOk.{Distinct, EffectOk}
+use Rattle.model.specs.TaskOk.{Distinct, ConditionOk, EffectOk}
 use Rattle.file_parts.specs.Layout.{conditionCount, conditionVariable, modeConditionCount, modeConditionMode, modeConditionValue}
 use Rattle.file_parts.specs.Layout.{modeEffectCount, modeEffectMode, modeEffectValue, additionCount, additionVariable, additionAmount}
 use Rattle.file_actions.specs.declared.Effects.{Effects}
-use Rattle.file_actions.specs.Views.{effectsIs}
+use Rattle.file_actions.specs.declared.SumConditions.{SumConditions}
+use Rattle.file_actions.specs.Views.{effectsIs, sumsIs}
 
 -- the conditions of a parts row, in a task of n variables
 pub record ConditionsWithin (l : Limits) (n : ℕ) (marks : List ℕ) (numbers : List ℤ) : Type 0 where
@@ -40,9 +41,11 @@ pub record RowWithin (l : Limits) (n : ℕ) (sizes : List ℕ) (marks : List ℕ
   pub modeEffects : ModesWithin (length sizes) sizes modeEffectCount modeEffectMode modeEffectValue marks
   pub additions : AdditionsWithin l n marks numbers
 
--- the row and the effects of a source action
-pub record SourceWithin (l : Limits) (n : ℕ) (sizes : List ℕ) (marks : List ℕ) (numbers : List ℤ) (r : Effects) : Type 0 where
+-- the row, the effects and the conditions on sums of a source action: C and K count together
+pub record SourceWithin (l : Limits) (n : ℕ) (sizes : List ℕ) (marks : List ℕ) (numbers : List ℤ) (r : Effects) (s : SumConditions) : Type 0 where
   pub row : RowWithin l n sizes marks numbers
+  pub conditionsFew : naturalAt marks conditionCount + s .count ≤ l .conditions
   pub few : r .count ≤ l .numericEffects
   pub effects : All (EffectOk l n) (effectsIs r)
   pub targetsOnce : Distinct (targets (effectsIs r))
+  pub sums : All (ConditionOk l n) (sumsIs s)

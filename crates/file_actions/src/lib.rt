@@ -23,19 +23,21 @@ ghost use Rattle.lists.specs.Writing.{splice};
 ghost use Rattle.commands.specs.Table.{letterC, letterP, letterE, plusSign};
 ghost use Rattle.commands.specs.Reading.{commandAt};
 ghost use Rattle.model.specs.Rules.{constant};
-ghost use Rattle.model.specs.Decoding.{sourceActionOf, restrictedActionOf};
+ghost use Rattle.model.specs.Decoding.{sumConditionsOf, restrictedActionOf};
 ghost use Rattle.model.specs.ActionBytes.{edgeOf, ofVerdict, actionPlace, decodeAction};
 ghost use Rattle.model.specs.Limits.{sourceLimits, restrictedLimits};
 ghost use Rattle.file_parts.specs.Layout.{MARKS, NUMBERS};
 ghost use Rattle.file_parts.specs.Row.{PartsFit, Says};
 ghost use Rattle.file_check.specs.Views.{verdictIs};
 ghost use Rattle.file_actions.specs.Places.{edgesOf, Found, bodyStart, partOf, placedIs, bytesTold, stepPlace, goalFrom, goalPart};
-ghost use Rattle.file_actions.specs.Numeric.{noTerms, withTerm, TermsRead, noEffect, noEffects, giving, EffectGiven};
+ghost use Rattle.file_actions.specs.Numeric.{noTerms, withTerm, TermsRead, noEffect, noEffects, giving, EffectGiven, noSums, withSum};
 ghost use Rattle.file_actions.specs.Taking.{partsOf, Takes};
-ghost use Rattle.file_actions.specs.Views.{SourceDecoded, fittingSource, fittingRestricted};
+ghost use Rattle.file_actions.specs.Views.{plainActionOf, SourceDecoded, SumsDecoded, fittingSource, fittingRestricted};
 
-// Room for the numeric effects of a source action, and for the T of each.
+// Room for the numeric effects of a source action, for the K of one or of the goal, and for the T of each of either.
 pub const EFFECTS: usize = 3;
+
+pub const SUMS: usize = 4;
 
 pub const TERMS: usize = 4;
 
@@ -63,10 +65,24 @@ pub struct NumericEffect {
 }
 
 // The numeric effects of a source action: the first `count` places, in the order of the file. Its C, P and E stand beside them, as a parts row that
-// has no +.
+// has no +, and its K as sum conditions.
 pub struct Effects {
     pub count: usize,
     pub places: [NumericEffect; EFFECTS],
+}
+
+// A K: a condition on the sum of its terms, of which the first `term_count` count.
+pub struct SumCondition {
+    pub relation: u8,
+    pub constant: i64,
+    pub term_count: usize,
+    pub terms: [Term; TERMS],
+}
+
+// The K of a source action or goal: the first `count` places, in the order of the file.
+pub struct SumConditions {
+    pub count: usize,
+    pub places: [SumCondition; SUMS],
 }
 
 // From an offset on, the offset of the one of the commands A and, last, G before which so many of them stand; the file's length where there
@@ -358,7 +374,7 @@ fn gather_parts(
     }
 }
 
-// The T of an L: the first `count` places.
+// The T of an L or a K: the first `count` places.
 struct Terms {
     count: usize,
     places: [Term; TERMS],
@@ -487,16 +503,16 @@ pub fn decode_restricted(bytes: &[u8], marks: &mut [u16; MARKS], numbers: &mut [
     gather_parts(bytes, true, marks, numbers);
 }
 
-// The source action, or the goal of a source file, whose bytes these are: its C, P and E in rows that the caller lends and that may hold
-// anything, its effects by value, taken one by one up to the next A or G. Of more commands than there is room for, which no accepted file has,
-// the first are taken.
+// The source action, or the goal of a source file, whose bytes these are, but for its K: its C, P and E in rows that the caller lends and that
+// may hold anything, its effects by value, taken one by one up to the next A or G. Of more commands than there is room for, which no accepted
+// file has, the first are taken.
 pub fn decode_source(
     bytes: &[u8],
     marks: &mut [u16; MARKS],
     numbers: &mut [i64; NUMBERS],
 ) -> Effects
     requires { ⌜ (length (now marks) ≡ MARKS) × (length (now numbers) ≡ NUMBERS) ⌝ }
-    ensures { λ r. ⌜ SourceDecoded (fittingSource (sourceActionOf (decodeAction (now (bytes .entry)))))
+    ensures { λ r. ⌜ SourceDecoded (fittingSource (plainActionOf (decodeAction (now (bytes .entry)))))
         (now (marks .exit)) (now (numbers .exit)) r ⌝ }
 {
     gather_parts(bytes, false, marks, numbers);
@@ -507,7 +523,7 @@ pub fn decode_source(
         let byte = rest[0];
         at += commands::size_of(byte);
         match byte {
-            b'C' | b'P' | b'E' | b'T' => {}
+            b'C' | b'K' | b'P' | b'E' | b'T' => {}
             b'A' | b'G' => at = bytes.len(),
             _ => {
                 let read = effect_given(commands::read(rest), bytes, at);
@@ -524,4 +540,65 @@ pub fn decode_source(
         }
     }
     effects
+}
+
+fn no_sums() -> SumConditions
+    ensures { λ r. ⌜ r ≡ noSums ⌝ }
+{
+    let none = no_terms();
+    let terms = none.places;
+    let place = SumCondition {
+        relation: 0,
+        constant: 0,
+        term_count: 0,
+        terms,
+    };
+    let places = [place; SUMS];
+    SumConditions { count: 0, places }
+}
+
+// A K behind the others, with the terms that were read for it, where there is room.
+fn with_sum(sums: SumConditions, relation: u8, bits: u32, read: Terms) -> SumConditions
+    ensures { λ r. ⌜ r ≡ withSum sums relation (constant bits) read ⌝ }
+{
+    let constant = integers::signed(bits);
+    let count = sums.count;
+    if count < SUMS {
+        let terms = read.places;
+        let mut more = sums;
+        more.places[count] = SumCondition {
+            relation,
+            constant,
+            term_count: read.count,
+            terms,
+        };
+        more.count = count + 1;
+        return more;
+    }
+    sums
+}
+
+// The K of the source action, or of the goal of a source file, whose bytes these are, each with the T directly behind it, taken one by one up to
+// the next A or G. A K that is cut short is not taken. Of more K or T than there is room for, which no accepted file has, the first are taken.
+pub fn decode_sums(bytes: &[u8]) -> SumConditions
+    ensures { λ r. ⌜ SumsDecoded (sumConditionsOf (decodeAction (now (bytes .entry)))) r ⌝ }
+{
+    let mut sums = no_sums();
+    let mut at = body_start(bytes);
+    while at < bytes.len() {
+        let rest = &bytes[at..];
+        let byte = rest[0];
+        at += commands::size_of(byte);
+        match byte {
+            b'K' => {
+                let Command::Sum(relation, bits) = commands::read_sum(rest) else {
+                    continue;
+                };
+                sums = with_sum(sums, relation, bits, terms_at(bytes, at));
+            }
+            b'A' | b'G' => at = bytes.len(),
+            _ => {}
+        }
+    }
+    sums
 }

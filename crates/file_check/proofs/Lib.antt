@@ -1,3 +1,4 @@
 pub mod Tests
 pub mod Taking
+pub mod Bare
 pub mod Runs

@@ -10,7 +10,7 @@ use Rattle.commands.specs.Reading.{commandAt}
 use Rattle.commands.specs.declared.Command.{Command}
 use Rattle.model.specs.Limits.{Limits}
 use Rattle.model.specs.ReadingState.{ReadingState, Taken, rule, stop}
-use Rattle.model.specs.Rules.{testsOf, nextOf, onwards, ruleOf, allowed, takeOf}
+use Rattle.model.specs.Rules.{testsOf, nextOf, onwards, ownRuleOf, ruleOf, allowed, takeOf}
 use Rattle.model.proofs.ReadingLaws.{Off, rule-go}
 
 -- the first of the tests that holds is number i
@@ -32,13 +32,13 @@ rule-stop p (t ∷ ts) q (suc i) (o, f) = rw o (rule-stop p ts q i f)
 
 -- x, as it was read, is the command c
 module _ (l : Limits) (p : ReadingState) {x c : Command} (e : x ≡ c) where
-  pub reads : {t : Taken} → t ≡ ruleOf l p c → t ≡ ruleOf l p x
-  reads h = h ∙ ap (ruleOf l p) (sym e)
+  pub reads : {t : Taken} → t ≡ ownRuleOf l p c → t ≡ ownRuleOf l p x
+  reads h = h ∙ ap (ownRuleOf l p) (sym e)
 
-  pub stops : (i : ℕ) → FirstAt i (testsOf l p c) → stop p (refusal i (testsOf l p c)) ≡ ruleOf l p x
+  pub stops : (i : ℕ) → FirstAt i (testsOf l p c) → stop p (refusal i (testsOf l p c)) ≡ ownRuleOf l p x
   stops i f = reads (sym (rule-stop p (testsOf l p c) (onwards c (nextOf p c)) i f))
 
-  pub goes : Off (testsOf l p c) → onwards c (nextOf p c) ≡ ruleOf l p x
+  pub goes : Off (testsOf l p c) → onwards c (nextOf p c) ≡ ownRuleOf l p x
   goes o = reads (sym (rule-go p (testsOf l p c) (onwards c (nextOf p c)) o))
 
 -- the command at the front of what remains: 2 where nothing does, 1 where its byte may not stand there, else its rule

@@ -1,12 +1,15 @@
 -- What the code's types mean in the definitions: limits, the state of a reading, what comes of a command, the answer to a file.
 -- Assumes nothing.
 use Prim.Native.Nat.{ℕ}
+use mathlib.Core.Bool.{Bool, false, cond, not}
 use mathlib.Core.List.{List}
 use mathlib.Core.Path.{_≡_}
+use lib.Dec.{eqb, leb}
+use Rattle.commands.specs.Table.{letterT}
 use Rattle.commands.specs.declared.Command.{Command}
 use Rattle.model.specs.Limits.{Limits as ModelLimits}
 use Rattle.model.specs.ReadingState.{ReadingState, Taken as ModelTaken, Progress as ModelProgress, Going as going, Ended as ended, Stopped as stopped}
-use Rattle.model.specs.Rules.{ruleOf}
+use Rattle.model.specs.Rules.{ownRuleOf}
 use Rattle.model.specs.Reading.{Verdict as ModelVerdict, Accepted as accepted, Rejected as rejected}
 use Rattle.file_check.specs.declared.Limits.{Limits}
 use Rattle.file_check.specs.declared.Counts.{Counts}
@@ -29,6 +32,8 @@ limitsOf l = record {
   terms = l .terms;
   constant = l .constant;
   relations = l .relations;
+  sums = l .sums;
+  sumConstant = l .«sum_constant»;
 }
 
 -- the counts, and beside them the lists that the code keeps in lent arrays: `sizes`, `modesSet`, `targetsSeen`
@@ -37,7 +42,9 @@ abbrev pub stateOf : Counts → List ℕ → List ℕ → List ℕ → List ℕ 
 stateOf p sizes set targets terms = record {
   section = p .section;
   terms = p .terms;
+  bareSum = p .«bare_sum»;
   actions = p .actions;
+  sums = p .sums;
   declared = record { variables = p .variables; modes = p .modes; sizes = sizes };
   counts = record { conditions = p .conditions; modeConditions = p .«mode_conditions»; numericEffects = p .«numeric_effects» };
   marks = record { modesSet = set; targetsSeen = targets; termsSeen = terms };
@@ -51,10 +58,14 @@ progressOf (Stopped number) = stopped number
 abbrev pub takenOf : Taken → List ℕ → List ℕ → List ℕ → List ℕ → ModelTaken
 takenOf t sizes set targets terms = record { state = stateOf (t .counts) sizes set targets terms; progress = progressOf (t .progress) }
 
--- what comes of a command that touches none of the lists: what its rule says, whatever they hold
+-- what comes of a command that touches none of the lists: what its own rule says, whatever they hold
 abbrev pub Ruled : Taken → Limits → Counts → Command → Type 0
 Ruled t l p c =
-    (sizes set targets terms : List ℕ) → takenOf t sizes set targets terms ≡ ruleOf (limitsOf l) (stateOf p sizes set targets terms) c
+    (sizes set targets terms : List ℕ) → takenOf t sizes set targets terms ≡ ownRuleOf (limitsOf l) (stateOf p sizes set targets terms) c
+
+-- whether a command with the byte stands where a T must: the K before it has none yet, in a file that is not restricted
+abbrev pub lacksTerm : Bool → ℕ → ℕ → Bool
+lacksTerm restricted bareSum byte = cond (leb 1 bareSum) (cond restricted false (not (eqb byte letterT))) false
 
 abbrev pub verdictIs : Verdict → ModelVerdict
 verdictIs (Accepted variables modes actions) = accepted variables modes actions

@@ -1,27 +1,30 @@
 // Whether a file is a task: the rules on a file of either kind, taken command by command up to the first refusal or Z.
 //
 // One reader serves both kinds; they differ in their limits. A command's byte is looked at first (1), then the command is read from what
-// remains of the file and taken apart (2), then tested in the order 4, 5, 6, 7. The crate makes no task of the file and keeps nothing of an
-// action but counts and marks; every run of bytes has its answer. The definitions are crate `model`'s; specs/Views says what the types
+// remains of the file and taken apart (2), then tested in the order 14, 4, 5, 6, 7. The crate makes no task of the file and keeps nothing of
+// an action but counts and marks; every run of bytes has its answer. The definitions are crate `model`'s; specs/Views says what the types
 // here mean in them.
 use commands::Command;
 ghost use mathlib.Core.Path.{_≡_};
+ghost use mathlib.Core.Bool.{true};
 ghost use mathlib.Core.List.{List};
 ghost use Prim.Native.Nat.{ℕ, _+_, _<_, _^_};
 ghost use lib.Dec.{leb, ltb};
 ghost use lib.ListN.{getD, set, length};
 ghost use lib.IntN.{natAbs};
-ghost use Rattle.commands.specs.Table.{letterV, letterU, letterM, letterC, letterP, letterE, plusSign, letterL, letterT, letterQ, letterR};
+ghost use Rattle.commands.specs.Table.{letterV, letterU, letterM, letterC, letterP, letterE, plusSign, letterL, letterT, letterQ, letterR, letterK};
+ghost use Rattle.commands.specs.Table.{rows, rowOf};
 ghost use Rattle.commands.specs.Reading.{commandAt};
 ghost use Rattle.commands.specs.declared.Command.the-variants.{Action, Goal, End, Quotient};
 ghost use Rattle.model.specs.Limits.{sourceLimits, restrictedLimits};
-ghost use Rattle.model.specs.ReadingState.{stop, goOn, opened, withNumericEffect, noModes, noVariables, begin};
-ghost use Rattle.model.specs.Rules.{allowed, constant, isZero, ruleOf, takeOf};
+ghost use Rattle.model.specs.ReadingState.{stop, goOn, opened, withNumericEffect, withSum, noModes, noVariables, begin};
+ghost use Rattle.model.specs.Rules.{allowed, constant, isZero, ownRuleOf, ruleOf, takeOf};
 ghost use Rattle.model.specs.Reading.{refusedAt, endedAt, verdictOf};
-ghost use Rattle.file_check.specs.Views.{limitsOf, stateOf, takenOf, verdictIs, Ruled};
+ghost use Rattle.file_check.specs.Views.{limitsOf, stateOf, takenOf, lacksTerm, verdictIs, Ruled};
 
-// What a kind of file allows. `size` is of a mode; `conditions` and `mode_conditions` are C and P of an action or goal, `numeric_effects`
-// of an action, which in a restricted one are its +, `terms` T of an L. Every constant lies within ± `constant`; `relations` is the largest relation.
+// What a kind of file allows. `size` is of a mode; `conditions` are C and K of an action or goal, `mode_conditions` its P, `numeric_effects`
+// of an action, which in a restricted one are its +, `terms` T of an L or a K, `sums` K of a file. Every constant lies within ± `constant`, that
+// of a K within ± `sum_constant`; `relations` is the largest relation.
 pub struct Limits {
     pub restricted: bool,
     pub variables: u32,
@@ -34,12 +37,17 @@ pub struct Limits {
     pub terms: u32,
     pub constant: u32,
     pub relations: u32,
+    pub sums: u32,
+    pub sum_constant: u32,
 }
 
-// What a reading has counted so far: variables, modes and actions in the file, the others in the action or goal. `terms` is 0 where no
-// T may stand, else 1 plus the T's since their L; it passes its limit by one, and is wider for that. The three that an answer gives
-// stand apart: side by side two of them become one number in the compiled loop, and a command takes more than twice the time.
+// What a reading has counted so far: variables, modes, actions and `sums`, its K, in the file, the others in the action or goal. `terms` is 0
+// where no T may stand, else 1 plus the T's since their L or K; it passes its limit by one, and is wider for that. `bare_sum` is 1 from a K on
+// until its first T, else 0. The three that an answer gives stand apart: side by side two of them become one number in the compiled loop, and
+// a command takes more than twice the time.
 pub struct Counts {
+    pub sums: u32,
+    pub bare_sum: u32,
     pub section: u32,
     pub variables: u32,
     pub conditions: u32,
@@ -100,6 +108,8 @@ fn source_limits() -> Limits
         terms: 4,
         constant: 10_000,
         relations: SOURCE_RELATIONS,
+        sums: 4,
+        sum_constant: 1_000_000_000,
     }
 }
 
@@ -118,6 +128,8 @@ fn restricted_limits() -> Limits
         terms: 0,
         constant: 1_000_000_000,
         relations: RESTRICTED_RELATIONS,
+        sums: 0,
+        sum_constant: 0,
     }
 }
 
@@ -207,6 +219,7 @@ fn is_allowed(l: Limits, p: Counts, byte: u8) -> bool
         b'R' => !l.restricted && p.section == IN_ACTION,
         b'T' => 1 <= p.terms,
         b'Z' => p.section == IN_GOAL,
+        b'K' => !l.restricted && IN_ACTION <= p.section,
         _ => false,
     }
 }
@@ -267,7 +280,7 @@ fn take_start(l: Limits, p: Counts, rest: &[u8]) -> Taken
 fn take_mode(l: Limits, p: Counts, rest: &[u8], sizes: &mut [u16; MODES]) -> Taken
     requires { ⌜ (0 < length (now rest)) × (getD (now rest) 0 0 ≡ letterM) ⌝ }
     ensures { λ r. ⌜ ((set targets terms : List ℕ) → takenOf r (now (sizes .exit)) set targets terms
-        ≡ ruleOf (limitsOf l) (stateOf p (now (sizes .entry)) set targets terms) (commandAt (now (rest .entry)))) ⌝ }
+        ≡ ownRuleOf (limitsOf l) (stateOf p (now (sizes .entry)) set targets terms) (commandAt (now (rest .entry)))) ⌝ }
 {
     let Command::Mode(size, start) = commands::read_mode(rest) else {
         return refuse(p, 2);
@@ -302,6 +315,8 @@ fn open(p: Counts, section: u32, actions: u32) -> Counts
         mode_conditions: 0,
         numeric_effects: 0,
         terms: 0,
+        sums: p.sums,
+        bare_sum: p.bare_sum,
     }
 }
 
@@ -314,7 +329,7 @@ fn take_action(
     terms_seen: &mut [u8; VARIABLES],
 ) -> Taken
     ensures { λ r. ⌜ ((sizes : List ℕ) → takenOf r sizes (now («modes_set» .exit)) (now («targets_seen» .exit)) (now («terms_seen» .exit))
-        ≡ ruleOf (limitsOf l) (stateOf p sizes (now («modes_set» .entry)) (now («targets_seen» .entry)) (now («terms_seen» .entry))) Action) ⌝ }
+        ≡ ownRuleOf (limitsOf l) (stateOf p sizes (now («modes_set» .entry)) (now («targets_seen» .entry)) (now («terms_seen» .entry))) Action) ⌝ }
 {
     if l.actions <= p.actions {
         return refuse(p, 4);
@@ -325,6 +340,13 @@ fn take_action(
     go_on(open(p, IN_ACTION, p.actions + 1))
 }
 
+// Whether a condition, C or K, is one too many.
+fn has_no_room_for_condition(l: Limits, p: Counts) -> bool
+    ensures { λ r. ⌜ r ≡ leb (l .conditions) (p .conditions) ⌝ }
+{
+    l.conditions <= p.conditions
+}
+
 // C variable, relation, constant.
 fn take_condition(l: Limits, p: Counts, rest: &[u8]) -> Taken
     requires { ⌜ (0 < length (now rest)) × (getD (now rest) 0 0 ≡ letterC) ⌝ }
@@ -333,7 +355,7 @@ fn take_condition(l: Limits, p: Counts, rest: &[u8]) -> Taken
     let Command::Condition(variable, relation, constant) = commands::read_condition(rest) else {
         return refuse(p, 2);
     };
-    if l.conditions <= p.conditions {
+    if has_no_room_for_condition(l, p) {
         return refuse(p, 4);
     }
     if p.variables <= variable as u32 {
@@ -351,11 +373,55 @@ fn take_condition(l: Limits, p: Counts, rest: &[u8]) -> Taken
     go_on(q)
 }
 
+// The counts after a K: a condition more, of which no T is read yet.
+fn with_sum(p: Counts) -> Counts
+    requires { ⌜ (p .conditions + 1 < 2 ^ 32) × (p .sums + 1 < 2 ^ 32) ⌝ }
+    ensures { λ r. ⌜ ((sizes set targets terms : List ℕ) → stateOf r sizes set targets noVariables ≡ withSum (stateOf p sizes set targets terms)) ⌝ }
+{
+    Counts {
+        section: p.section,
+        variables: p.variables,
+        conditions: p.conditions + 1,
+        modes: p.modes,
+        mode_conditions: p.mode_conditions,
+        actions: p.actions,
+        numeric_effects: p.numeric_effects,
+        terms: 1,
+        sums: p.sums + 1,
+        bare_sum: 1,
+    }
+}
+
+// K relation, constant; T must follow.
+fn take_sum(l: Limits, p: Counts, rest: &[u8], terms_seen: &mut [u8; VARIABLES]) -> Taken
+    requires { ⌜ (0 < length (now rest)) × (getD (now rest) 0 0 ≡ letterK) ⌝ }
+    ensures { λ r. ⌜ ((sizes set targets : List ℕ) → takenOf r sizes set targets (now («terms_seen» .exit))
+        ≡ ownRuleOf (limitsOf l) (stateOf p sizes set targets (now («terms_seen» .entry))) (commandAt (now (rest .entry)))) ⌝ }
+{
+    let Command::Sum(relation, constant) = commands::read_sum(rest) else {
+        return refuse(p, 2);
+    };
+    if has_no_room_for_condition(l, p) {
+        return refuse(p, 4);
+    }
+    if l.sums <= p.sums {
+        return refuse(p, 4);
+    }
+    if l.relations < relation as u32 {
+        return refuse(p, 5);
+    }
+    if is_outside(l.sum_constant, constant) {
+        return refuse(p, 6);
+    }
+    *terms_seen = [0; VARIABLES];
+    go_on(with_sum(p))
+}
+
 // P mode, value.
 fn take_mode_condition(l: Limits, p: Counts, rest: &[u8], sizes: &[u16; MODES]) -> Taken
     requires { ⌜ (0 < length (now rest)) × (getD (now rest) 0 0 ≡ letterP) ⌝ }
     ensures { λ r. ⌜ ((set targets terms : List ℕ) → takenOf r (now (sizes .entry)) set targets terms
-        ≡ ruleOf (limitsOf l) (stateOf p (now (sizes .entry)) set targets terms) (commandAt (now (rest .entry)))) ⌝ }
+        ≡ ownRuleOf (limitsOf l) (stateOf p (now (sizes .entry)) set targets terms) (commandAt (now (rest .entry)))) ⌝ }
 {
     let Command::ModeCondition(mode, value) = commands::read_mode_condition(rest) else {
         return refuse(p, 2);
@@ -385,7 +451,7 @@ fn take_mode_effect(
 ) -> Taken
     requires { ⌜ (0 < length (now rest)) × (getD (now rest) 0 0 ≡ letterE) ⌝ }
     ensures { λ r. ⌜ ((targets terms : List ℕ) → takenOf r (now (sizes .entry)) (now («modes_set» .exit)) targets terms
-        ≡ ruleOf (limitsOf l) (stateOf p (now (sizes .entry)) (now («modes_set» .entry)) targets terms) (commandAt (now (rest .entry)))) ⌝ }
+        ≡ ownRuleOf (limitsOf l) (stateOf p (now (sizes .entry)) (now («modes_set» .entry)) targets terms) (commandAt (now (rest .entry)))) ⌝ }
 {
     let Command::ModeEffect(mode, value) = commands::read_mode_effect(rest) else {
         return refuse(p, 2);
@@ -442,7 +508,7 @@ fn take_add(
 ) -> Taken
     requires { ⌜ (0 < length (now rest)) × (getD (now rest) 0 0 ≡ plusSign) ⌝ }
     ensures { λ r. ⌜ ((sizes set : List ℕ) → takenOf r sizes set (now («targets_seen» .exit)) (now («terms_seen» .exit))
-        ≡ ruleOf (limitsOf l) (stateOf p sizes set (now («targets_seen» .entry)) (now («terms_seen» .entry))) (commandAt (now (rest .entry)))) ⌝ }
+        ≡ ownRuleOf (limitsOf l) (stateOf p sizes set (now («targets_seen» .entry)) (now («terms_seen» .entry))) (commandAt (now (rest .entry)))) ⌝ }
 {
     let Command::Add(variable, constant) = commands::read_add(rest) else {
         return refuse(p, 2);
@@ -475,7 +541,7 @@ fn take_linear(
 ) -> Taken
     requires { ⌜ (0 < length (now rest)) × (getD (now rest) 0 0 ≡ letterL) ⌝ }
     ensures { λ r. ⌜ ((sizes set : List ℕ) → takenOf r sizes set (now («targets_seen» .exit)) (now («terms_seen» .exit))
-        ≡ ruleOf (limitsOf l) (stateOf p sizes set (now («targets_seen» .entry)) (now («terms_seen» .entry))) (commandAt (now (rest .entry)))) ⌝ }
+        ≡ ownRuleOf (limitsOf l) (stateOf p sizes set (now («targets_seen» .entry)) (now («terms_seen» .entry))) (commandAt (now (rest .entry)))) ⌝ }
 {
     let Command::Linear(target, constant) = commands::read_linear(rest) else {
         return refuse(p, 2);
@@ -499,7 +565,7 @@ fn take_linear(
 fn take_term(l: Limits, p: Counts, rest: &[u8], terms_seen: &mut [u8; VARIABLES]) -> Taken
     requires { ⌜ (0 < length (now rest)) × (getD (now rest) 0 0 ≡ letterT) ⌝ }
     ensures { λ r. ⌜ ((sizes set targets : List ℕ) → takenOf r sizes set targets (now («terms_seen» .exit))
-        ≡ ruleOf (limitsOf l) (stateOf p sizes set targets (now («terms_seen» .entry))) (commandAt (now (rest .entry)))) ⌝ }
+        ≡ ownRuleOf (limitsOf l) (stateOf p sizes set targets (now («terms_seen» .entry))) (commandAt (now (rest .entry)))) ⌝ }
 {
     let Command::Term(variable, weight) = commands::read_term(rest) else {
         return refuse(p, 2);
@@ -522,6 +588,7 @@ fn take_term(l: Limits, p: Counts, rest: &[u8], terms_seen: &mut [u8; VARIABLES]
     put_mark(terms_seen, variable as usize);
     let mut q = p;
     q.terms = p.terms + 1;
+    q.bare_sum = 0;
     go_on(q)
 }
 
@@ -536,7 +603,7 @@ fn take_division(
     terms_seen: &mut [u8; VARIABLES],
 ) -> Taken
     ensures { λ r. ⌜ ((sizes set : List ℕ) → takenOf r sizes set (now («targets_seen» .exit)) (now («terms_seen» .exit))
-        ≡ ruleOf (limitsOf l) (stateOf p sizes set (now («targets_seen» .entry)) (now («terms_seen» .entry))) (Quotient target operand divisor)) ⌝ }
+        ≡ ownRuleOf (limitsOf l) (stateOf p sizes set (now («targets_seen» .entry)) (now («terms_seen» .entry))) (Quotient target operand divisor)) ⌝ }
 {
     if has_no_room(l, p) {
         return refuse(p, 4);
@@ -569,7 +636,7 @@ fn take_quotient(
 ) -> Taken
     requires { ⌜ (0 < length (now rest)) × (getD (now rest) 0 0 ≡ letterQ) ⌝ }
     ensures { λ r. ⌜ ((sizes set : List ℕ) → takenOf r sizes set (now («targets_seen» .exit)) (now («terms_seen» .exit))
-        ≡ ruleOf (limitsOf l) (stateOf p sizes set (now («targets_seen» .entry)) (now («terms_seen» .entry))) (commandAt (now (rest .entry)))) ⌝ }
+        ≡ ownRuleOf (limitsOf l) (stateOf p sizes set (now («targets_seen» .entry)) (now («terms_seen» .entry))) (commandAt (now (rest .entry)))) ⌝ }
 {
     let Command::Quotient(target, operand, divisor) = commands::read_quotient(rest) else {
         return refuse(p, 2);
@@ -587,7 +654,7 @@ fn take_residue(
 ) -> Taken
     requires { ⌜ (0 < length (now rest)) × (getD (now rest) 0 0 ≡ letterR) ⌝ }
     ensures { λ r. ⌜ ((sizes set : List ℕ) → takenOf r sizes set (now («targets_seen» .exit)) (now («terms_seen» .exit))
-        ≡ ruleOf (limitsOf l) (stateOf p sizes set (now («targets_seen» .entry)) (now («terms_seen» .entry))) (commandAt (now (rest .entry)))) ⌝ }
+        ≡ ownRuleOf (limitsOf l) (stateOf p sizes set (now («targets_seen» .entry)) (now («terms_seen» .entry))) (commandAt (now (rest .entry)))) ⌝ }
 {
     let Command::Residue(target, operand, divisor) = commands::read_residue(rest) else {
         return refuse(p, 2);
@@ -604,7 +671,7 @@ fn take_goal(
     terms_seen: &mut [u8; VARIABLES],
 ) -> Taken
     ensures { λ r. ⌜ ((sizes : List ℕ) → takenOf r sizes (now («modes_set» .exit)) (now («targets_seen» .exit)) (now («terms_seen» .exit))
-        ≡ ruleOf (limitsOf l) (stateOf p sizes (now («modes_set» .entry)) (now («targets_seen» .entry)) (now («terms_seen» .entry))) Goal) ⌝ }
+        ≡ ownRuleOf (limitsOf l) (stateOf p sizes (now («modes_set» .entry)) (now («targets_seen» .entry)) (now («terms_seen» .entry))) Goal) ⌝ }
 {
     *modes_set = [0; MODES];
     *targets_seen = [0; VARIABLES];
@@ -622,9 +689,33 @@ fn take_end(l: Limits, p: Counts) -> Taken
     }
 }
 
-// The command at the front of what remains of a file: 1 by its byte alone, then what its own rule says, 2 first. The arrays are what
-// the state has beside its counts: the sizes of the modes, the modes that have their effect, the
-// variables that are a target, those in a T of the last L.
+// Whether a command with the byte stands where a T must: the K before it has none yet, in a file that is not restricted.
+fn lacks_term(l: Limits, p: Counts, byte: u8) -> bool
+    ensures { λ r. ⌜ r ≡ lacksTerm (l .restricted) (p .«bare_sum») byte ⌝ }
+{
+    if p.bare_sum == 0 {
+        return false;
+    }
+    !l.restricted && byte != b'T'
+}
+
+// A command that stands where a T must: 14, and before it 2 where the command is cut short.
+fn refuse_bare(l: Limits, p: Counts, rest: &[u8]) -> Taken
+    requires { ⌜ (0 < length (now rest)) × (rowOf (getD (now rest) 0 0) < rows)
+        × (lacksTerm (l .restricted) (p .«bare_sum») (getD (now rest) 0 0) ≡ true) ⌝ }
+    ensures { λ r. ⌜ ((sizes set targets terms : List ℕ) → takenOf r sizes set targets terms
+        ≡ ruleOf (limitsOf l) (stateOf p sizes set targets terms) (commandAt (now (rest .entry)))) ⌝ }
+{
+    if rest.len() < commands::size_of(rest[0]) {
+        refuse(p, 2)
+    } else {
+        refuse(p, 14)
+    }
+}
+
+// The command at the front of what remains of a file: 1 by its byte alone, 14 where it stands in the place of a T, else what its own rule
+// says; 2 goes before 14 and all of that rule. The arrays are what the state has beside its counts: the sizes of the modes, the modes that
+// have their effect, the variables that are a target, those in a T of the last L or K.
 fn take(
     l: Limits,
     p: Counts,
@@ -646,6 +737,9 @@ fn take(
     if !is_allowed(l, p, byte) {
         return refuse(p, 1);
     }
+    if lacks_term(l, p, byte) {
+        return refuse_bare(l, p, rest);
+    }
     match byte {
         b'V' => take_variable(l, p, rest),
         b'U' => take_start(l, p, rest),
@@ -661,6 +755,7 @@ fn take(
         b'R' => take_residue(l, p, rest, targets_seen, terms_seen),
         b'G' => take_goal(l, p, modes_set, targets_seen, terms_seen),
         b'Z' => take_end(l, p),
+        b'K' => take_sum(l, p, rest, terms_seen),
         _ => refuse(p, 1),
     }
 }
@@ -678,6 +773,8 @@ fn begun() -> Counts
         mode_conditions: 0,
         numeric_effects: 0,
         terms: 0,
+        sums: 0,
+        bare_sum: 0,
     }
 }
 

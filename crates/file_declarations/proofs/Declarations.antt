@@ -6,7 +6,7 @@ use Prim.Native.Nat.{ℕ, zero, suc, _≤_}
 use native.Mathlib.Omega.{arith}
 use mathlib.Core.Bool.{Bool, true, false, cond}
 use mathlib.Core.List.{List, [], _∷_}
-use lib.Dec.{eqb, eqb→eq, leb→le}
+use lib.Dec.{eqb, eqb→eq, leb, leb→le}
 use lib.IntN.{ℤ}
 use lib.ListN.{length, getD, drop}
 use Rattle.lists.specs.Answer.{given}
@@ -14,7 +14,8 @@ use Rattle.commands.specs.Table.{letterV, letterU, letterM, letterA, letterG, s
 use Rattle.commands.specs.Encoding.{byteOf}
 use Rattle.commands.specs.Reading.{commandAt}
 use Rattle.commands.specs.declared.Command.{Command}
-use Rattle.commands.specs.declared.Command.the-variants.{Variable, Start, Mode, Action, Condition, ModeCondition, ModeEffect, Add, Linear, Term, Quotient, Residue, Goal, End, Refused}
+use Rattle.commands.specs.declared.Command.the-variants.{Variable, Start, Mode, Action, Condition, ModeCondition, ModeEffect, Add, Linear, Term}
+use Rattle.commands.specs.declared.Command.the-variants.{Quotient, Residue, Goal, End, Sum, Refused}
 use Rattle.commands.proofs.Encoding.{byte-read}
 use Rattle.model.specs.Tasks.{SourceVariable, SourceTask, RestrictedTask}
 use Rattle.model.specs.Limits.{Limits, sourceLimits, restrictedLimits}
@@ -23,8 +24,7 @@ use Rattle.model.specs.Rules.{isOneOf, allowed, constant, testsOf, nextOf, onwa
 use Rattle.model.specs.Reading.{Verdict, Accepted, Rejected, verdictOf, gather, commandsFrom, commandsOf, commandsAlong, remainders}
 use Rattle.model.specs.Trail.{Trail}
 use Rattle.model.specs.Decoding.{variablesOf, startsOf, modesOf, sourceTaskOf, restrictedTaskOf, onVerdict, readSource, readRestricted}
-use Rattle.model.proofs.ReadingLaws.{clash, holds, Goes, rule-none}
-use Rattle.model.proofs.CommandFacts.{Alive}
+use Rattle.model.proofs.ReadingLaws.{clash, holds, Alive, rule-none, own-goes, end-never-goes}
 use Rattle.model.proofs.AcceptedTrail.{take-inv, Is, accepted-trail}
 use Rattle.file_declarations.specs.Declarations.{declaring, commandsWith, declarations, lettersAlong}
 
@@ -37,7 +37,9 @@ declared cs = (variablesOf cs, startsOf cs, modesOf cs)
 
 -- the state after a command that is taken, other than Z
 next : (l : Limits) (p : ReadingState) (c : Command) → onwards c (nextOf p c) ≡ goOn (nextOf p c) → ruleOf l p c .progress ≡ Going → nextOf p c ≡ ruleOf l p c .state
-next l p c n g = sym (ap (λ (x : Taken). x .state) (rule-none p (testsOf l p c) (onwards c (nextOf p c)) g .1 ∙ n))
+next l p c n g =
+    let (goes, own) = own-goes l p c g in
+    sym (ap (λ (x : Taken). x .state) (own ∙ rule-none p (testsOf l p c) (onwards c (nextOf p c)) goes .1 ∙ n))
 
 -- ---- bytes that stand in files of one kind
 source-only : (r b : Bool) → cond r false b ≡ true → (r ≡ false) × (b ≡ true)
@@ -75,7 +77,8 @@ module _ (l : Limits) where
   quiet p (Quotient x y z) s a g = (still p (Quotient x y z) refl g s, λ d. refl)
   quiet p (Residue x y z) s a g = (still p (Residue x y z) refl g s, λ d. refl)
   quiet p Goal s a g = (still p Goal refl g (omega arith), λ d. refl)
-  quiet p End s a g = absurd (subst Goes (sym g) tt)
+  quiet p End s a g = absurd (end-never-goes l p g)
+  quiet p (Sum x y) s a g = (still p (Sum x y) refl g s, λ d. refl)
   quiet p (Refused number) s a g = absurd (clash (sym a))
 
   none-declared : (cs : List Command) (p : ReadingState) → inAction ≤ p .section → Trail l p cs → declared cs ≡ ([], [], [])
@@ -126,13 +129,15 @@ module _ (l : Limits) where
   declared-first p (Quotient x y z) more cs (s, t) a g tr ih = absurd (omega (arith, s, is-equal (p .section) inAction (source-only (l .restricted) (eqb (p .section) inAction) a .1)))
   declared-first p (Residue x y z) more cs (s, t) a g tr ih = absurd (omega (arith, s, is-equal (p .section) inAction (source-only (l .restricted) (eqb (p .section) inAction) a .1)))
   declared-first p Goal more cs (s, t) a g tr ih = rw (neither-G (l .restricted)) (sym (none-declared cs (ruleOf l p Goal .state) (still p Goal refl g (omega arith)) tr))
-  declared-first p End more cs (s, t) a g tr ih = absurd (subst Goes (sym g) tt)
+  declared-first p End more cs (s, t) a g tr ih = absurd (end-never-goes l p g)
+  declared-first p (Sum x y) more cs (s, t) a g tr ih =
+      absurd (omega (arith, s, leb→le inAction (p .section) (holds (source-only (l .restricted) (leb inAction (p .section)) a .1))))
   declared-first p (Refused number) more cs (s, t) a g tr ih = absurd (clash (sym a))
 
   -- ---- along the file
   declared-along : (most : ℕ) (p : ReadingState) (s : List ℕ) → Early p → Trail l p (commandsFrom l most p s) → declared (commandsWith (declaring (l .restricted)) most s) ≡ declared (commandsFrom l most p s)
   unfolding remainders lettersAlong commandsAlong
-  declared-along zero p s (e, _) t = absurd (omega (arith, e, t))
+  declared-along zero p s (e, _) t = absurd (omega (arith, e, t .0))
   declared-along (suc most) p s early t =
       step (takeOf l p s .state) (takeOf l p s .progress) refl refl t (λ q early′ t′. declared-along most q (drop (sizeOfByte (getD s 0 0)) s) early′ t′)
     where
@@ -150,8 +155,8 @@ module _ (l : Limits) where
           let is : ruleOf l p (commandAt s) .state ≡ q = sym (ap (λ (t : Taken). t .state) b) ∙ e in
           subst (λ (x : ℕ). declared (cond (isOneOf x (declaring (l .restricted))) (commandAt s ∷ more) []) ≡ declared (commandAt s ∷ behind q)) (byte-read s kn)
           (declared-first p (commandAt s) more (behind q) early a g t (λ early′. ih q (subst Early is early′) (subst (λ (x : ReadingState). Trail l x (behind q)) is t)))
-      step q Ended e f t ih = absurd (omega (arith, early .0, t))
-      step q (Stopped n) e f t ih = absurd (omega (arith, early .0, t))
+      step q Ended e f t ih = absurd (omega (arith, early .0, t .0))
+      step q (Stopped n) e f t ih = absurd (omega (arith, early .0, t .0))
 
   -- THE LAW: the declarations at the front of an accepted file are what all its commands declare
   all-declared : (file : List ℕ) → Is (verdictOf l file) → declared (declarations (l .restricted) file) ≡ declared (commandsOf l file)

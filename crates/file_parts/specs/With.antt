@@ -1,7 +1,7 @@
 -- Restricted actions made part by part.
 -- Assumes nothing.
 use Prim.Native.Nat.{ℕ}
-use mathlib.Core.List.{[], _∷_, _++_}
+use mathlib.Core.List.{List, [], _∷_, _++_}
 use lib.IntN.{ℤ}
 use Rattle.integers.specs.Relation.{relationOf}
 use Rattle.model.specs.Tasks.{variable, NumericCondition, SourceAction, RestrictedAction}
@@ -44,6 +44,13 @@ withAddition a e = record {
   modeEffects = a .modeEffects;
   additions = a .additions ++ (e ∷ []);
 }
+
+-- several more
+abbrev pub withConditions : RestrictedAction → List (NumericCondition ℕ) → RestrictedAction
+withConditions a cs = record { modeConditions = a .modeConditions; conditions = a .conditions ++ cs; modeEffects = a .modeEffects; additions = a .additions }
+
+abbrev pub withAdditions : RestrictedAction → List (ℕ × ℤ) → RestrictedAction
+withAdditions a es = record { modeConditions = a .modeConditions; conditions = a .conditions; modeEffects = a .modeEffects; additions = a .additions ++ es }
 
 -- of a source action what it shares with a restricted one: its conditions and mode effects
 abbrev pub sourcePart : SourceAction → RestrictedAction

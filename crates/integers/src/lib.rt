@@ -13,7 +13,7 @@ ghost use Rattle.integers.specs.Numbers.{numberAt, bitsOf, signedOf};
 ghost use Rattle.integers.specs.Relation.{relationOf, related, between, withinLimit};
 
 // Whether a value stands in a relation, given by its number, to a constant. A number over 4 is read as 4.
-pub fn relation_holds(value: i64, relation: u8, constant: i64) -> bool
+pub fn relation_holds(value: i64, relation: u16, constant: i64) -> bool
     ensures { λ r. ⌜ r ≡ related (relationOf relation) value constant ⌝ }
 {
     match relation {

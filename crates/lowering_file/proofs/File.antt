@@ -31,12 +31,16 @@ use Rattle.model.proofs.LoweredOk.{lowered-task-ok}
 use Rattle.file_parts.specs.Row.{rowIs}
 use Rattle.file_parts.specs.With.{withModeCondition}
 use Rattle.file_actions.proofs.Distinct.{few-distinct}
-use Rattle.lowering_rows.specs.Bytes.{modeConditionBytes, conditionBytes, modeEffectBytes, additionBytes, restrictedActionBytes, inFour, rowBytes}
+use Rattle.model.specs.FourRelations.{inFour}
+use Rattle.lowering_sums.specs.Views.{startBytes}
+use Rattle.lowering_rows.specs.Bytes.{modeConditionBytes, conditionBytes, modeEffectBytes, additionBytes, restrictedActionBytes, rowBytes}
 use Rattle.lowering_rows.proofs.Parts.{run-bytes, mode-conditions-bytes, conditions-bytes, actions-bytes}
 use Rattle.lowering_rows.proofs.Writing.{action-row}
 use Rattle.lowering_file.specs.declared.Declarations.{Declarations}
-use Rattle.lowering_file.specs.Parts.{startBytes, modeBytes, modesIn, holdsOf}
-use Rattle.lowering_file.specs.Held.{taskOf, Declares, GoalOf, Told, startsPart, modesPart, actionsPart, goalEnd, inFileOrder, actionsFirst}
+use Rattle.lowering_file.specs.declared.Kept.{Kept}
+use Rattle.lowering_file.specs.Parts.{modeBytes, modesIn, holdsOf, startsIn}
+use Rattle.lowering_file.proofs.Keeping.{starts-kept}
+use Rattle.lowering_file.specs.Held.{taskOf, KeptOf, Declares, GoalOf, Told, startsPart, modesPart, actionsPart, goalEnd, inFileOrder, actionsFirst}
 
 -- ---- the starts, the modes, and the whole file
 starts-bytes : (zs : List ℤ) (more : List Command) → encodeAll (startCommands zs more) ≡ flatMap startBytes zs ++ encodeAll more
@@ -58,13 +62,19 @@ zeros n = ap (flatMap startBytes) (tabulated n)
 resting : (holds n : ℕ) → n ≡ 2 + holds → restingHelpers holds ≡ replicate n (pos 0)
 resting holds n e = let z : n ≡ suc (suc holds) = omega arith in rw z
 
-pub starts-begun : (old : List ℕ) (at : ℕ) (zs : List ℤ) (holds n : ℕ) → n ≡ 2 + holds
-    → Left old at (flatMap startBytes (zs ++ restingHelpers holds)) old at (flatMap startBytes zs ∷ flatMap startBytes (replicate n (pos 0)) ∷ [])
-starts-begun old at zs holds n e =
+pub starts-begun : (old : List ℕ) (at : ℕ) (zs : List ℤ) (holds n : ℕ) (ks : List ℤ) → n ≡ 2 + holds
+    → Left old at (flatMap startBytes ((zs ++ restingHelpers holds) ++ ks)) old at
+    (flatMap startBytes zs ∷ flatMap startBytes (replicate n (pos 0)) ∷ flatMap startBytes ks ∷ [])
+starts-begun old at zs holds n ks e =
+    let front = flatMap startBytes zs in
+    let rest = flatMap startBytes (replicate n (pos 0)) in
+    let last = flatMap startBytes ks in
     start old at
-    (flatMap-append startBytes zs (restingHelpers holds)
-    ∙ ap (λ (ys : List ℤ). flatMap startBytes zs ++ flatMap startBytes ys) (resting holds n e)
-    ∙ ap (λ (ys : List ℕ). flatMap startBytes zs ++ ys) (sym (append-nil (flatMap startBytes (replicate n (pos 0))))))
+    (flatMap-append startBytes (zs ++ restingHelpers holds) ks
+    ∙ ap (λ (ys : List ℕ). ys ++ last) (flatMap-append startBytes zs (restingHelpers holds)
+    ∙ ap (λ (ys : List ℤ). front ++ flatMap startBytes ys) (resting holds n e))
+    ∙ append-assoc front rest last
+    ∙ ap (λ (ys : List ℕ). front ++ (rest ++ ys)) (sym (append-nil last)))
 
 pub modes-begun : (old : List ℕ) (at : ℕ) (ms : List (ℕ × ℕ)) (m : ℕ × ℕ) → Left old at (flatMap modeBytes (ms ++ (m ∷ []))) old at (flatMap modeBytes ms ∷ modeBytes m ∷ [])
 unfolding flatMap
@@ -103,8 +113,9 @@ goal-begun old at row = start old at (ap (λ (z : List ℕ). row ++ z) (sym (app
 -- ---- the parts that are written, from what is read
 module _ {file : List ℕ} {count : ℕ} {d : Declarations} (D : Declares file count d) where
   module _ {control : ℕ} {several : Bool} (told : Told file control several) where
-    pub starts-are : flatMap startBytes (take (d .shape .variables) (d .starts) ++ restingHelpers (holdsOf several)) ≡ startsPart file
-    starts-are = ap₂ (λ (zs : List ℤ) (n : ℕ). flatMap startBytes (zs ++ restingHelpers n)) (D .startsAre) (told .holdsAre)
+    pub starts-are : {p : Kept} → KeptOf file p → flatMap startBytes (startsIn (d .shape .variables) (d .starts) several (p .sums)) ≡ startsPart file
+    starts-are keeps =
+        ap (flatMap startBytes) (starts-kept keeps (take (d .shape .variables) (d .starts)) (holdsOf several) (D .startsAre) (told .holdsAre))
 
     pub modes-are : flatMap modeBytes (modesIn (d .shape .modes) (d .shape .sizes) (d .values) ++ ((control, 0) ∷ [])) ≡ modesPart file
     modes-are = ap₂ (λ (ms : List (ℕ × ℕ)) (n : ℕ). flatMap modeBytes (ms ++ ((n, 0) ∷ []))) (D .modesAre) (told .controlIs)

@@ -1,43 +1,51 @@
 -- The walk over the source actions of an accepted file: at each, what is left of the lowered actions is its macro and what is left behind it.
 -- Assumes nothing.
-use mathlib.Core.Path.{_≡_, refl, sym, ap, _∙_, subst}
+use mathlib.Core.Path.{_≡_, refl, sym, ap, ap₂, _∙_, subst}
 use mathlib.Core.Bool.{Bool, true, false, cond}
 use mathlib.Core.Option.{some}
 use mathlib.Core.List.{List, [], _∷_, _++_, map}
 use Prim.Native.Nat.{ℕ, zero, suc, _+_, _*_, _≤_, _<_}
 use native.Mathlib.Omega.{arith}
 use native.Mathlib.Numerals.{add-one}
-use borrow.Author.Tests.{lt-ltb}
-use lib.Dec.{ltb}
-use lib.ListN.{length, drop, getElem?, length-map}
+use lib.ListN.{length, drop, getElem?, length-append, length-map}
 use lib.Seq.{drop-length}
 use lib.IntN.{ℤ, natAbs}
 use Rattle.integers.specs.All.{All}
 use Rattle.lists.proofs.Each.{length-tabulate}
-use Rattle.model.specs.Tasks.{Effect, SourceVariable, SourceAction, RestrictedAction}
+use Rattle.model.specs.Tasks.{SourceVariable, SourceAction, RestrictedAction}
 use Rattle.model.specs.Limits.{sourceLimits, restrictedLimits}
 use Rattle.model.specs.TaskOk.{EffectOk, SourceVariableOk, SourceActionOk, SourceTaskOk, RestrictedActionOk}
-use Rattle.model.specs.Decoding.{sourceActionOf}
+use Rattle.model.specs.Reading.{verdictOf}
+use Rattle.model.specs.Decoding.{sumConditionsOf}
 use Rattle.model.specs.ActionBytes.{actionPart, decodeAction}
 use Rattle.model.specs.Steps.{integerAt, naturalAt, sizesOf, lowerBounds, upperBounds}
 use Rattle.model.specs.Stages.{stagesOf, macro, lowerActions, stageCount, several, holdCount}
+use Rattle.model.specs.Sums.{sumsIn, sumsOfActions, keepingAll}
 use Rattle.model.specs.Lowering.{numberedAll, lowerTask}
 use Rattle.model.proofs.AcceptedOk.{accepted-source-ok}
 use Rattle.model.proofs.LoweredOk.{lowered-task-ok}
+use Rattle.model.proofs.LoweredSums.{sums-in-file-order}
 use Rattle.model.proofs.StageWalk.{all-get}
 use Rattle.file_parts.specs.Layout.{modeEffectCount}
 use Rattle.file_parts.specs.Row.{modeEffectIn, rowIs}
 use Rattle.file_actions.specs.declared.Effects.{Effects}
-use Rattle.file_actions.specs.Views.{effectsIs, sourceActionIs, SourceDecoded, fittingSource}
+use Rattle.file_actions.specs.declared.SumConditions.{SumConditions}
+use Rattle.file_actions.specs.Views.{sumRoom, effectsIs, sourceActionIs, plainActionOf, SourceDecoded, SumsDecoded, fittingSource}
 use Rattle.file_actions.specs.Within.{SourceWithin}
 use Rattle.file_actions.proofs.Accepted.{source-action-decoded, source-action-within}
+use Rattle.file_actions.proofs.Sums.{decoded-sums}
+use Rattle.source_step.specs.Accepted.{AcceptedWith}
 use Rattle.lowering_stages.specs.declared.Shape.{Shape}
 use Rattle.lowering_stages.specs.Stages.{mostStages, stageNumbers, PlacesFew}
 use Rattle.lowering_stages.specs.Shapes.{lowerOf, upperOf, Bounded}
-use Rattle.lowering_stages.proofs.Effects.{effects-length}
-use Rattle.lowering_rows.specs.Macros.{Lowerable, stagesIn, macroIn, Sound}
+use Rattle.lowering_sums.specs.Views.{sumsIs}
+use Rattle.lowering_sums.proofs.Places.{sums-small}
+use Rattle.lowering_rows.specs.Macros.{Keeps, Lowerable, stagesIn, macroIn, Sound}
 use Rattle.lowering_rows.proofs.Staging.{numbered-append, drop-get}
-use Rattle.lowering_file.specs.Held.{taskOf, Held, restAt, stagesOfTask, Told}
+use Rattle.lowering_file.specs.declared.Kept.{Kept}
+use Rattle.lowering_file.specs.Held.{taskOf, measuring, Held, KeptOf, goalSum, measuredAt, restAt, stagesOfTask, Told}
+use Rattle.lowering_file.proofs.Sums.{own-counted, none-at}
+use Rattle.lowering_file.proofs.Keeping.{sums-behind, keeping-append, macro-measures, actions-kept}
 
 -- ---- lists
 all-left : {A : Type 0} (P : A → Type 0) (xs ys : List A) → All P (xs ++ ys) → All P xs
@@ -53,17 +61,6 @@ sound-left xs ys s = record { variables = s .variables; sizes = s .sizes; few = 
 
 sound-right : (xs ys : List RestrictedAction) → Sound (xs ++ ys) → Sound ys
 sound-right xs ys s = record { variables = s .variables; sizes = s .sizes; few = s .few; ok = all-right (RestrictedActionOk restrictedLimits (s .variables) (s .sizes)) xs ys (s .ok) }
-
--- whether effects are several, by their count
-pub several-is : (r : Effects) → r .count ≤ length (r .places) → ltb 1 (r .count) ≡ several (effectsIs r)
-several-is r h =
-    let e : r .count ≡ length (effectsIs r) = omega (arith, effects-length r) in
-    ap (ltb 1) e ∙ by (effectsIs r)
-  where
-    by : (es : List Effect) → ltb 1 (length es) ≡ several es
-    by [] = refl
-    by (e ∷ []) = refl
-    by (e ∷ f ∷ es) = lt-ltb 1 (suc (suc (length es))) (omega arith)
 
 -- bounds of a file are small
 bounds-small : (f : SourceVariable → ℤ) → ((b : SourceVariable) → SourceVariableOk sourceLimits b → natAbs (f b) ≤ 10000) → (vs : List SourceVariable) (j : ℕ) → All (SourceVariableOk sourceLimits) vs → natAbs (integerAt (map f vs) j) ≤ 10000
@@ -86,7 +83,7 @@ module _ {file : List ℕ} {count : ℕ} {h : Shape} (held : Held file count h) 
     upperIn = λ j. subst (λ (l : List ℤ). natAbs (integerAt l j) ≤ 10000) (sym (held .uppersAre)) (bounds-small (λ (b : SourceVariable). b .upper) (λ b o. o .1) (taskOf file .variables) j (task-ok .variablesIn));
   }
 
-  all-sound : Sound (restAt file 1 0)
+  all-sound : Sound (lowerTask (taskOf file) .actions)
   all-sound =
       let r = lowered-task-ok (taskOf file) task-ok in
       record {
@@ -97,24 +94,25 @@ module _ {file : List ℕ} {count : ℕ} {h : Shape} (held : Held file count h) 
       }
 
   -- an action of the file, decoded
-  module _ (k : ℕ) (below : k < count) (marks : List ℕ) (numbers : List ℤ) (r : Effects)
-      (decoded : SourceDecoded (fittingSource (sourceActionOf (decodeAction (actionPart file k)))) marks numbers r) where
-    at : getElem? (taskOf file .actions) k ≡ some (sourceActionIs marks numbers r)
-    at = source-action-decoded file (held .bytes) (taskOf file) (held .is) k (omega (arith, held .counted)) marks numbers r decoded
+  module _ (k : ℕ) (below : k < count) (marks : List ℕ) (numbers : List ℤ) (r : Effects) (s : SumConditions)
+      (decoded : SourceDecoded (fittingSource (plainActionOf (decodeAction (actionPart file k)))) marks numbers r)
+      (sums : SumsDecoded (sumConditionsOf (decodeAction (actionPart file k))) s) where
+    at : getElem? (taskOf file .actions) k ≡ some (sourceActionIs marks numbers r s)
+    at = source-action-decoded file (held .bytes) (taskOf file) (held .is) k (omega (arith, held .counted)) marks numbers r s decoded sums
 
-    within : SourceWithin sourceLimits (length (taskOf file .variables)) (sizesOf (taskOf file .modes)) marks numbers r
-    within = source-action-within file (held .bytes) (taskOf file) (held .is) k (omega (arith, held .counted)) marks numbers r decoded
+    within : SourceWithin sourceLimits (length (taskOf file .variables)) (sizesOf (taskOf file .modes)) marks numbers r s
+    within = source-action-within file (held .bytes) (taskOf file) (held .is) k (omega (arith, held .counted)) marks numbers r s decoded sums
 
-    action-ok : SourceActionOk sourceLimits (length (taskOf file .variables)) (sizesOf (taskOf file .modes)) (sourceActionIs marks numbers r)
+    action-ok : SourceActionOk sourceLimits (length (taskOf file .variables)) (sizesOf (taskOf file .modes)) (sourceActionIs marks numbers r s)
     action-ok =
         all-get (SourceActionOk sourceLimits (length (taskOf file .variables)) (sizesOf (taskOf file .modes))) (taskOf file .actions) k
-        (sourceActionIs marks numbers r) (task-ok .actionsOk) at
+        (sourceActionIs marks numbers r s) (task-ok .actionsOk) at
 
     places-few : PlacesFew r
     places-few = record { few = decoded .few; termsFew = decoded .termsFew }
 
-    lowerable : Lowerable h marks numbers r
-    lowerable = record {
+    lowerable : (j : ℕ) → j + sumRoom ≤ 255 → Lowerable h marks numbers r s j
+    lowerable j low = record {
       bounded = bounded;
       parts = record {
         marksLong = decoded .parts .marksLong;
@@ -130,6 +128,8 @@ module _ {file : List ℕ} {count : ℕ} {h : Shape} (held : Held file count h) 
         few = places-few;
         effectsOk = subst (λ (n : ℕ). All (EffectOk sourceLimits n) (effectsIs r)) (sym (held .variablesAre)) (action-ok .effectsOk);
       };
+      ownFew = sums .few;
+      ownNumbers = low;
       conditionsFew = action-ok .conditionsOk .conditionsFew;
       modeConditionsFew = action-ok .conditionsOk .modeConditionsFew;
       modeEffectsFew = omega (
@@ -151,106 +151,158 @@ module _ {file : List ℕ} {count : ℕ} {h : Shape} (held : Held file count h) 
     stages-same = ap (λ (l : ℕ → ℤ). stagesOf l (upperOf h) (effectsIs r)) lower-same
         ∙ ap (λ (u : ℕ → ℤ). stagesOf (lowerBounds (taskOf file)) u (effectsIs r)) upper-same
 
-    macro-same : (from : ℕ) → macroIn h from (sourceActionIs marks numbers r) ≡ numberedAll (length (taskOf file .variables)) (length (taskOf file .modes))
-        (macro (lowerBounds (taskOf file)) (upperBounds (taskOf file)) from (sourceActionIs marks numbers r))
+    macro-same : (from : ℕ) → macroIn h from (sourceActionIs marks numbers r s) ≡ numberedAll (length (taskOf file .variables)) (length (taskOf file .modes))
+        (macro (lowerBounds (taskOf file)) (upperBounds (taskOf file)) from (sourceActionIs marks numbers r s))
     macro-same from =
-        ap (λ (n : ℕ). numberedAll n (h .modes) (macro (lowerOf h) (upperOf h) from (sourceActionIs marks numbers r))) (held .variablesAre)
-        ∙ ap (λ (m : ℕ). numberedAll (length (taskOf file .variables)) m (macro (lowerOf h) (upperOf h) from (sourceActionIs marks numbers r))) (held .modesAre)
+        ap (λ (n : ℕ). numberedAll n (h .modes) (macro (lowerOf h) (upperOf h) from (sourceActionIs marks numbers r s))) (held .variablesAre)
+        ∙ ap (λ (m : ℕ). numberedAll (length (taskOf file .variables)) m (macro (lowerOf h) (upperOf h) from (sourceActionIs marks numbers r s)))
+        (held .modesAre)
         ∙ ap (λ (l : ℕ → ℤ). numberedAll (length (taskOf file .variables)) (length (taskOf file .modes))
-        (macro l (upperOf h) from (sourceActionIs marks numbers r))) lower-same
+        (macro l (upperOf h) from (sourceActionIs marks numbers r s))) lower-same
         ∙ ap (λ (u : ℕ → ℤ). numberedAll (length (taskOf file .variables)) (length (taskOf file .modes))
-        (macro (lowerBounds (taskOf file)) u from (sourceActionIs marks numbers r))) upper-same
+        (macro (lowerBounds (taskOf file)) u from (sourceActionIs marks numbers r s))) upper-same
 
     -- its macro, and what is left behind it
-    rest-split : (from s : ℕ) → s ≡ length (stagesIn h r) → restAt file from k ≡ macroIn h from (sourceActionIs marks numbers r) ++ restAt file (from + s)
-        (k + 1)
-    rest-split from s e =
+    measured-split : (from c : ℕ) → c ≡ length (stagesIn h r)
+        → measuredAt file from k ≡ macroIn h from (sourceActionIs marks numbers r s) ++ measuredAt file (from + c) (k + 1)
+    measured-split from c e =
         let n = length (taskOf file .variables) in
         let m = length (taskOf file .modes) in
         let lo = lowerBounds (taskOf file) in
         let hi = upperBounds (taskOf file) in
-        let f : length (stagesOf lo hi (effectsIs r)) ≡ s = sym (e ∙ ap length stages-same) in
-        ap (λ (acts : List SourceAction). numberedAll n m (lowerActions lo hi from acts))
-        (drop-get (taskOf file .actions) k (sourceActionIs marks numbers r) at)
-        ∙ numbered-append n m (macro lo hi from (sourceActionIs marks numbers r))
-        (lowerActions lo hi (from + length (stagesOf lo hi (effectsIs r))) (drop (suc k) (taskOf file .actions)))
-        ∙ ap (λ (z : List RestrictedAction). z ++ numberedAll n m
-        (lowerActions lo hi (from + length (stagesOf lo hi (effectsIs r))) (drop (suc k) (taskOf file .actions)))) (sym (macro-same from))
-        ∙ ap (λ (z : ℕ). macroIn h from (sourceActionIs marks numbers r) ++ numberedAll n m
-        (lowerActions lo hi (from + z) (drop (suc k) (taskOf file .actions)))) f
-        ∙ ap (λ (z : ℕ). macroIn h from (sourceActionIs marks numbers r) ++ numberedAll n m (lowerActions lo hi (from + s) (drop z (taskOf file .actions))))
-        (sym (add-one k))
+        let a = sourceActionIs marks numbers r s in
+        let f : length (stagesOf lo hi (effectsIs r)) ≡ c = sym (e ∙ ap length stages-same) in
+        ap (λ (acts : List SourceAction). numberedAll n m (lowerActions lo hi from acts)) (drop-get (taskOf file .actions) k a at)
+        ∙ numbered-append n m (macro lo hi from a) (lowerActions lo hi (from + length (stagesOf lo hi (effectsIs r))) (drop (suc k) (taskOf file .actions)))
+        ∙ ap₂ _++_ (sym (macro-same from))
+        (ap₂ (λ (z i : ℕ). numberedAll n m (lowerActions lo hi (from + z) (drop i (taskOf file .actions)))) f (sym (add-one k)))
 
-    stages-split : (s : ℕ) → s ≡ length (stagesIn h r)
-        → stageCount (lowerBounds (taskOf file)) (upperBounds (taskOf file)) (drop k (taskOf file .actions)) ≡ s + stageCount (lowerBounds (taskOf file)) (upperBounds (taskOf file)) (drop (k + 1) (taskOf file .actions))
-    stages-split s e =
+    -- it measures the action's own sums
+    macro-sums : (from : ℕ) → length (sumsOfActions (macroIn h from (sourceActionIs marks numbers r s))) ≡ s .count
+    macro-sums from =
+        ap (λ (z : List RestrictedAction). length (sumsOfActions z)) (macro-same from)
+        ∙ macro-measures (taskOf file) (sourceActionIs marks numbers r s) from
+        ∙ ap length (decoded-sums marks numbers r s)
+        ∙ sym (own-counted sums)
+
+    stages-split : (c : ℕ) → c ≡ length (stagesIn h r)
+        → stageCount (lowerBounds (taskOf file)) (upperBounds (taskOf file)) (drop k (taskOf file .actions))
+        ≡ c + stageCount (lowerBounds (taskOf file)) (upperBounds (taskOf file)) (drop (k + 1) (taskOf file .actions))
+    stages-split c e =
         let lo = lowerBounds (taskOf file) in
         let hi = upperBounds (taskOf file) in
-        ap (stageCount lo hi) (drop-get (taskOf file .actions) k (sourceActionIs marks numbers r) at)
+        ap (stageCount lo hi) (drop-get (taskOf file .actions) k (sourceActionIs marks numbers r s) at)
         ∙ ap (λ (z : ℕ). z + stageCount lo hi (drop (suc k) (taskOf file .actions))) (sym (e ∙ ap length stages-same))
-        ∙ ap (λ (z : ℕ). s + stageCount lo hi (drop z (taskOf file .actions))) (sym (add-one k))
+        ∙ ap (λ (z : ℕ). c + stageCount lo hi (drop z (taskOf file .actions))) (sym (add-one k))
 
     holds-split : holdCount (drop k (taskOf file .actions)) ≡ cond (several (effectsIs r)) 3 (holdCount (drop (k + 1) (taskOf file .actions)))
     holds-split =
-        ap holdCount (drop-get (taskOf file .actions) k (sourceActionIs marks numbers r) at)
+        ap holdCount (drop-get (taskOf file .actions) k (sourceActionIs marks numbers r s) at)
         ∙ ap (λ (z : ℕ). cond (several (effectsIs r)) 3 (holdCount (drop z (taskOf file .actions)))) (sym (add-one k))
 
--- ---- at source action k, whose stages are numbered from `from`; `many` is whether some action before has several effects
-pub record Walk (file : List ℕ) (count : ℕ) (h : Shape) (k from : ℕ) (many : Bool) : Type 0 where
+-- ---- at source action k, whose stages are numbered from `from` and whose sums are kept from number j on; `many` is whether some action before has
+-- several effects
+pub record Walk (file : List ℕ) (count : ℕ) (h : Shape) (p : Kept) (k from : ℕ) (many : Bool) (j : ℕ) : Type 0 where
   pub held : Held file count h
+  pub keeps : KeptOf file p
   pub bound : k ≤ count
   pub low : 0 < from
   pub high : from ≤ 1 + mostStages * k
-  pub sound : Sound (restAt file from k)
+  pub sound : Sound (restAt file p from k j)
   pub stages : from + stageCount (lowerBounds (taskOf file)) (upperBounds (taskOf file)) (drop k (taskOf file .actions)) ≡ suc (stagesOfTask file)
   pub holds : cond many 3 (holdCount (drop k (taskOf file .actions))) ≡ holdCount (taskOf file .actions)
+  pub sums : j + length (sumsOfActions (measuredAt file from k)) ≡ goalSum file (p .first)
 
-pub walk-start : {file : List ℕ} {count : ℕ} {h : Shape} → Held file count h → Walk file count h 0 1 false
-walk-start held = record {
+pub walk-start : {file : List ℕ} {count : ℕ} {h : Shape} {p : Kept} → Held file count h → KeptOf file p → Walk file count h p 0 1 false (p .first)
+walk-start held keeps = record {
   held = held;
+  keeps = keeps;
   bound = omega arith;
   low = omega arith;
   high = omega arith;
-  sound = all-sound held;
+  sound = subst Sound (sym (actions-kept keeps)) (all-sound held);
   stages = omega arith;
   holds = refl;
+  sums = refl;
 }
 
-module _ {file : List ℕ} {count : ℕ} {h : Shape} {k from : ℕ} {many : Bool} (w : Walk file count h k from many) where
-  module _ (below : k < count) (marks : List ℕ) (numbers : List ℤ) (r : Effects)
-      (decoded : SourceDecoded (fittingSource (sourceActionOf (decodeAction (actionPart file k)))) marks numbers r) where
-    abbrev becomes : List RestrictedAction
-    becomes = macroIn h from (sourceActionIs marks numbers r)
+module _ {file : List ℕ} {count : ℕ} {h : Shape} {p : Kept} {k from : ℕ} {many : Bool} {j : ℕ} (w : Walk file count h p k from many j) where
+  -- the numbers of sums are small
+  numbers-low : j + sumRoom ≤ 255
+  numbers-low = omega (
+    arith,
+    w .sums,
+    w .keeps .firstLow,
+    length-append (sumsOfActions (measuring file .actions)) (sumsIn (taskOf file .goalConditions)),
+    ap length (sums-in-file-order (taskOf file)),
+    task-ok (w .held) .sumsFew,
+  )
 
-    macro-sound : Sound becomes
-    macro-sound = sound-left becomes _ (subst Sound (rest-split (w .held) k below marks numbers r decoded from (length (stagesIn h r)) refl) (w .sound))
+  pub walk-keeps : Keeps (p .first) (p .sums)
+  walk-keeps = record { small = sums-small (w .keeps .sums .ok); numbers = omega (arith, w .keeps .firstLow) }
+
+  -- in a task without sums action k has none
+  pub walk-none : AcceptedWith (verdictOf sourceLimits file) count → k < count → p .sums .count ≡ 0
+      → sumConditionsOf (decodeAction (actionPart file k)) ≡ []
+  walk-none accepted below e = none-at file count (w .held .bytes) accepted k below (p .sums .count) (w .keeps .sums .counted) e
+
+  module _ (below : k < count) (marks : List ℕ) (numbers : List ℤ) (r : Effects) (s : SumConditions)
+      (decoded : SourceDecoded (fittingSource (plainActionOf (decodeAction (actionPart file k)))) marks numbers r)
+      (sums : SumsDecoded (sumConditionsOf (decodeAction (actionPart file k))) s) where
+    abbrev measured : List RestrictedAction
+    measured = macroIn h from (sourceActionIs marks numbers r s)
+
+    abbrev becomes : List RestrictedAction
+    becomes = keepingAll (p .first) (sumsIs (p .sums)) j measured
+
+    pub walk-split : (c : ℕ) → c ≡ length (stagesIn h r) → restAt file p from k j ≡ becomes ++ restAt file p (from + c) (k + 1) (j + s .count)
+    walk-split c e =
+        let rest = measuredAt file (from + c) (k + 1) in
+        ap (keepingAll (p .first) (sumsIs (p .sums)) j) (measured-split (w .held) k below marks numbers r s decoded sums from c e)
+        ∙ keeping-append (p .first) (sumsIs (p .sums)) measured rest j
+        ∙ ap (λ (n : ℕ). becomes ++ keepingAll (p .first) (sumsIs (p .sums)) (j + n) rest) (macro-sums (w .held) k below marks numbers r s decoded sums from)
 
     -- what a macro requires
-    pub macro-ready : Lowerable h marks numbers r × (0 < from) × (from ≤ stageNumbers) × Sound becomes
-    macro-ready = (lowerable (w .held) k below marks numbers r decoded, w .low, omega (arith, w .high, w .bound, few-actions (w .held)), macro-sound)
+    pub macro-ready : Lowerable h marks numbers r s j × Keeps (p .first) (p .sums) × (0 < from) × (from ≤ stageNumbers) × Sound becomes
+    macro-ready = (
+      lowerable (w .held) k below marks numbers r s decoded sums j numbers-low,
+      walk-keeps,
+      w .low,
+      omega (arith, w .high, w .bound, few-actions (w .held)),
+      sound-left becomes _ (subst Sound (walk-split (length (stagesIn h r)) refl) (w .sound)),
+    )
 
-    pub walk-split : (s : ℕ) → s ≡ length (stagesIn h r) → restAt file from k ≡ becomes ++ restAt file (from + s) (k + 1)
-    walk-split s e = rest-split (w .held) k below marks numbers r decoded from s e
-
-    pub walk-next : (s : ℕ) → s ≡ length (stagesIn h r) → s ≤ mostStages → (more : Bool) → more ≡ cond many true (several (effectsIs r))
-        → Walk file count h (k + 1) (from + s) more
-    walk-next s e l more is = record {
+    pub walk-next : (c : ℕ) → c ≡ length (stagesIn h r) → c ≤ mostStages → (more : Bool) → more ≡ cond many true (several (effectsIs r))
+        → Walk file count h p (k + 1) (from + c) more (j + s .count)
+    walk-next c e l more is = record {
       held = w .held;
+      keeps = w .keeps;
       bound = omega arith;
       low = omega (arith, w .low);
       high = omega (arith, w .high);
-      sound = sound-right becomes (restAt file (from + s) (k + 1)) (subst Sound (walk-split s e) (w .sound));
-      stages = omega (arith, w .stages, stages-split (w .held) k below marks numbers r decoded s e);
+      sound = sound-right becomes (restAt file p (from + c) (k + 1) (j + s .count)) (subst Sound (walk-split c e) (w .sound));
+      stages = omega (arith, w .stages, stages-split (w .held) k below marks numbers r s decoded sums c e);
       holds =
           ap (λ (b : Bool). cond b 3 (holdCount (drop (k + 1) (taskOf file .actions)))) is
           ∙ joined many (several (effectsIs r)) (holdCount (drop (k + 1) (taskOf file .actions)))
-          ∙ ap (λ (n : ℕ). cond many 3 n) (sym (holds-split (w .held) k below marks numbers r decoded))
+          ∙ ap (λ (n : ℕ). cond many 3 n) (sym (holds-split (w .held) k below marks numbers r s decoded sums))
           ∙ w .holds;
+      sums = omega (
+        arith,
+        w .sums,
+        ap (λ (z : List RestrictedAction). length (sumsOfActions z)) (measured-split (w .held) k below marks numbers r s decoded sums from c e),
+        sums-behind measured (measuredAt file (from + c) (k + 1)),
+        macro-sums (w .held) k below marks numbers r s decoded sums from,
+      );
     }
       where
         joined : (b c : Bool) (n : ℕ) → cond (cond b true c) 3 n ≡ cond b 3 (cond c 3 n)
         joined true c n = refl
         joined false c n = refl
+
+    -- the next number of a sum is small too
+    pub next-low : j + s .count ≤ 255
+    next-low = omega (arith, numbers-low, sums .few)
 
   -- behind the last
   dropped : count ≤ k → drop k (taskOf file .actions) ≡ []
@@ -258,16 +310,22 @@ module _ {file : List ℕ} {count : ℕ} {h : Shape} {k from : ℕ} {many : Bool
       let e : k ≡ length (taskOf file .actions) = omega (arith, w .bound, w .held .counted) in
       ap (λ (z : ℕ). drop z (taskOf file .actions)) e ∙ drop-length (taskOf file .actions)
 
-  pub walk-end : count ≤ k → restAt file from k ≡ []
-  walk-end l =
+  measured-end : count ≤ k → measuredAt file from k ≡ []
+  measured-end l =
       ap
       (λ (acts : List SourceAction).
       numberedAll (length (taskOf file .variables)) (length (taskOf file .modes))
       (lowerActions (lowerBounds (taskOf file)) (upperBounds (taskOf file)) from acts))
       (dropped l)
 
+  pub walk-end : count ≤ k → restAt file p from k j ≡ []
+  walk-end l = ap (keepingAll (p .first) (sumsIs (p .sums)) j) (measured-end l)
+
   pub told : count ≤ k → Told file from many
   told l = record {
     controlIs = omega (arith, w .stages, ap (stageCount (lowerBounds (taskOf file)) (upperBounds (taskOf file))) (dropped l));
     holdsAre = ap (λ (acts : List SourceAction). cond many 3 (holdCount acts)) (sym (dropped l)) ∙ w .holds;
   }
+
+  pub goal-sum-is : count ≤ k → j ≡ goalSum file (p .first)
+  goal-sum-is l = omega (arith, w .sums, ap (λ (z : List RestrictedAction). length (sumsOfActions z)) (measured-end l))

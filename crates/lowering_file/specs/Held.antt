@@ -2,8 +2,8 @@
 -- Assumes nothing.
 use mathlib.Core.Path.{_≡_}
 use mathlib.Core.Bool.{Bool}
-use mathlib.Core.List.{List, [], _∷_, _++_, map, flatMap}
-use Prim.Native.Nat.{ℕ, suc, _≤_}
+use mathlib.Core.List.{List, [], _++_, map, flatMap}
+use Prim.Native.Nat.{ℕ, suc, _+_, _≤_, _<_}
 use lib.ListN.{length, take, drop, getD}
 use lib.IntN.{ℤ}
 use Rattle.integers.specs.Numbers.{Bytes}
@@ -11,26 +11,36 @@ use Rattle.lists.specs.Answer.{given}
 use Rattle.commands.specs.Table.{letterG}
 use Rattle.commands.specs.Encoding.{encode}
 use Rattle.commands.specs.declared.Command.the-variants.{End}
-use Rattle.model.specs.Tasks.{SourceVariable, SourceTask, RestrictedAction}
+use Rattle.model.specs.Tasks.{SourceVariable, SourceTask, RestrictedAction, RestrictedTask}
 use Rattle.model.specs.Limits.{sourceLimits}
 use Rattle.model.specs.Reading.{commandsOf}
 use Rattle.model.specs.ActionBytes.{edgeOf}
 use Rattle.model.specs.Decoding.{sourceTaskOf, readSource}
 use Rattle.model.specs.Steps.{lowerBounds, upperBounds, sourceStart}
 use Rattle.model.specs.Stages.{lowerActions, stageCount, holdCount}
-use Rattle.model.specs.Lowering.{numberedAll, lowerTask}
+use Rattle.model.specs.FourRelations.{inFour}
+use Rattle.model.specs.Sums.{sumsOfActions, sumsOfSource, onKept, keepingAll}
+use Rattle.model.specs.Lowering.{numberedAll, lowerMeasuring, lowerTask}
 use Rattle.source_step.specs.Sizes.{VARIABLES}
 use Rattle.file_parts.specs.Row.{rowIs}
 use Rattle.file_parts.specs.With.{withModeCondition}
+use Rattle.file_actions.specs.Views.{sumRoom}
 use Rattle.lowering_stages.specs.declared.Shape.{Shape}
-use Rattle.lowering_rows.specs.Bytes.{restrictedActionBytes, inFour, rowBytes, WroteRows}
-use Rattle.lowering_file.specs.Parts.{startBytes, modeBytes, modesIn, holdsOf, Constants, GoalWritable}
+use Rattle.lowering_sums.specs.declared.Sums.{Sums}
+use Rattle.lowering_sums.specs.Views.{sumsIs, SumsOk, ValuesSmall, startBytes}
+use Rattle.lowering_rows.specs.Bytes.{restrictedActionBytes, rowBytes, WroteRows}
+use Rattle.lowering_file.specs.Parts.{modeBytes, modesIn, holdsOf, GoalWritable}
 use Rattle.lowering_file.specs.declared.Declarations.{Declarations}
+use Rattle.lowering_file.specs.declared.Kept.{Kept}
 use Rattle.lowering_file.specs.declared.Put.{Put}
 
 -- the task of an accepted file
 abbrev pub taskOf : List ℕ → SourceTask
 taskOf file = sourceTaskOf (commandsOf sourceLimits file)
+
+-- R but for its sums, which it measures, and for relation 4
+abbrev pub measuring : List ℕ → RestrictedTask
+measuring file = lowerMeasuring (taskOf file)
 
 -- the file is accepted, has so many actions, and a task of this shape
 pub record Held (file : List ℕ) (count : ℕ) (h : Shape) : Type 0 where
@@ -50,23 +60,53 @@ PlacesOf file count places = (k : ℕ) → k ≤ count → getD places k 0 ≡ e
 pub record Declares (file : List ℕ) (count : ℕ) (d : Declarations) : Type 0 where
   pub held : Held file count (d .shape)
   pub startsLong : length (d .starts) ≡ VARIABLES
-  pub startsIn : Constants (d .shape .variables) (d .starts)
+  pub startsSmall : ValuesSmall (d .shape .variables) (d .starts)
   pub startsAre : take (d .shape .variables) (d .starts) ≡ sourceStart (taskOf file) .values
   pub modesAre : modesIn (d .shape .modes) (d .shape .sizes) (d .values) ≡ taskOf file .modes
 
--- the goal, as an action with no effects
+-- ---- its sums: those of the actions in order, then those of the goal
+pub record SumsOf (file : List ℕ) (s : Sums) : Type 0 where
+  pub are : sumsIs s ≡ sumsOfSource (taskOf file)
+  pub counted : s .count ≡ length (sumsOfSource (taskOf file))
+  pub ok : SumsOk (length (taskOf file .variables)) s
+
+-- and what R keeps of them: the variables behind its others. Where there is no sum any number stands for the first
+pub record KeptOf (file : List ℕ) (p : Kept) : Type 0 where
+  pub sums : SumsOf file (p .sums)
+  pub firstIs : 0 < p .sums .count → p .first ≡ length (measuring file .starts)
+  pub firstLow : p .first ≤ VARIABLES + 5
+
+-- ---- the goal: its first sum is kept behind those of the actions, whose first is kept as number `first`
+abbrev pub goalSum : List ℕ → ℕ → ℕ
+goalSum file first = first + length (sumsOfActions (measuring file .actions))
+
+-- of the number of its first sum, in a task with so many
+pub record GoalFrom (file : List ℕ) (sums number : ℕ) : Type 0 where
+  pub is : 0 < sums → number ≡ goalSum file (length (measuring file .starts))
+  pub low : number + sumRoom ≤ 255
+
+-- the goal as an action with no effects, its K's as C on kept variables
 abbrev pub goalOf : List ℕ → RestrictedAction
-goalOf file = record { modeConditions = taskOf file .goalModes; conditions = taskOf file .goalConditions; modeEffects = []; additions = [] }
+goalOf file = record {
+  modeConditions = taskOf file .goalModes;
+  conditions = onKept (goalSum file (length (measuring file .starts))) (taskOf file .goalConditions);
+  modeEffects = [];
+  additions = [];
+}
 
 pub record GoalOf (file : List ℕ) (marks : List ℕ) (numbers : List ℤ) : Type 0 where
   pub writable : GoalWritable marks numbers
   pub is : rowIs marks numbers ≡ goalOf file
 
--- ---- what is left of the lowered actions at source action k, whose stages are numbered from `from`
-abbrev pub restAt : List ℕ → ℕ → ℕ → List RestrictedAction
-restAt file from k =
+-- ---- what is left of the lowered actions at source action k, whose stages are numbered from `from`, where they measure the sums
+abbrev pub measuredAt : List ℕ → ℕ → ℕ → List RestrictedAction
+measuredAt file from k =
     numberedAll (length (taskOf file .variables)) (length (taskOf file .modes))
     (lowerActions (lowerBounds (taskOf file)) (upperBounds (taskOf file)) from (drop k (taskOf file .actions)))
+
+-- and where R keeps them, the next being on variable j
+abbrev pub restAt : List ℕ → Kept → ℕ → ℕ → ℕ → List RestrictedAction
+restAt file p from k j = keepingAll (p .first) (sumsIs (p .sums)) j (measuredAt file from k)
 
 -- the count of all stages
 abbrev pub stagesOfTask : List ℕ → ℕ
@@ -97,7 +137,8 @@ inFileOrder file = startsPart file ++ (modesPart file ++ (actionsPart file ++ (g
 abbrev pub actionsFirst : List ℕ → List ℕ
 actionsFirst file = actionsPart file ++ (startsPart file ++ (modesPart file ++ (goalEnd file ++ [])))
 
--- ---- output with bytes written, rows that are whole, and what the declarations take from the actions
-pub record Acted (file out : List ℕ) (at : ℕ) (xs after : List ℕ) (p : Put) (marks : List ℕ) (numbers : List ℤ) : Type 0 where
+-- ---- output with bytes written, rows that are whole, and what the declarations and the goal take from the actions
+pub record Acted (file : List ℕ) (first : ℕ) (out : List ℕ) (at : ℕ) (xs after : List ℕ) (p : Put) (marks : List ℕ) (numbers : List ℤ) : Type 0 where
   pub rows : WroteRows out at xs after (p .place) marks numbers
   pub told : Told file (p .control) (p .several)
+  pub goalSumIs : p .«goal_sum» ≡ goalSum file first

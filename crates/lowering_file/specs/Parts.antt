@@ -1,24 +1,24 @@
 -- The bytes of a restricted file besides its actions, and what their writers require.
 -- Assumes nothing.
 use mathlib.Core.Path.{_≡_}
-use Prim.Native.Nat.{ℕ, _<_}
+use Prim.Native.Nat.{ℕ}
 use mathlib.Core.Bool.{Bool, cond}
-use mathlib.Core.List.{List}
-use lib.ListN.{length, getD}
-use lib.IntN.{ℤ, pos, natAbs}
-use Rattle.integers.specs.Numbers.{bitsOf}
+use mathlib.Core.List.{List, _++_}
+use lib.ListN.{length, take}
+use lib.IntN.{ℤ}
 use Rattle.lists.specs.Each.{tabulate}
 use Rattle.commands.specs.Encoding.{encode}
-use Rattle.commands.specs.declared.Command.the-variants.{Start, Mode}
+use Rattle.commands.specs.declared.Command.the-variants.{Mode}
 use Rattle.model.specs.Steps.{naturalAt}
+use Rattle.model.specs.Sums.{sumValues}
+use Rattle.model.specs.Lowering.{restingHelpers}
 use Rattle.file_parts.specs.Layout.{NUMBERS}
 use Rattle.file_parts.specs.Row.{rowIs, PartsFit}
+use Rattle.lowering_sums.specs.declared.Sums.{Sums}
+use Rattle.lowering_sums.specs.Views.{sumsIs}
 use Rattle.lowering_rows.specs.Macros.{Fit}
 
--- ---- the bytes of a U and of an M
-abbrev pub startBytes : ℤ → List ℕ
-startBytes z = encode (Start (bitsOf 4 z))
-
+-- ---- the bytes of an M; for those of a U see lowering_sums, specs/Views
 abbrev pub modeBytes : ℕ × ℕ → List ℕ
 modeBytes m = encode (Mode (m .0) (m .1))
 
@@ -33,11 +33,11 @@ modesIn n sizes values = tabulate n (modeAt sizes values)
 abbrev pub holdsOf : Bool → ℕ
 holdsOf several = cond several 3 0
 
--- ---- what a writer requires: numbers fit the width of a file's
-abbrev pub Constants : ℕ → List ℤ → Type 0
-Constants count constants = (i : ℕ) → i < count → natAbs (getD constants i (pos 0)) < 2147483648
+-- ---- where all variables start: the n declared ones, as an array has them, the helpers at 0, and the kept ones at their sums
+abbrev pub startsIn : ℕ → List ℤ → Bool → Sums → List ℤ
+startsIn n starts several sums = (take n starts ++ restingHelpers (holdsOf several)) ++ sumValues (sumsIs sums) (take n starts)
 
--- the rows of a goal, which has room for one P more
+-- ---- what a writer requires: the rows of a goal, which has room for one P more
 pub record GoalWritable (marks : List ℕ) (numbers : List ℤ) : Type 0 where
   pub room : PartsFit 0 1 0 0 marks
   pub numbersLong : length numbers ≡ NUMBERS

@@ -1,12 +1,14 @@
 // The lowering: from a source file the restricted file, written into lent output.
 //
 // A file that is refused has no lowered task. The writers run on output of length 0 first, where they only count, so that a refusal leaves the
-// output as it was; the actions come first there, since they say how large control is and whether there are holds.
+// output as it was; the actions come first there, since they say how large control is, whether there are holds, and where the sums of the goal begin.
 use file_actions::Effects;
+use file_actions::SumConditions;
 use file_parts::MARKS;
 use file_parts::NUMBERS;
 use lists::Written;
 use lowering_stages::Shape;
+use lowering_sums::Sums;
 use source_step::MODES;
 use source_step::VARIABLES;
 ghost use mathlib.Core.Path.{_≡_};
@@ -22,21 +24,25 @@ ghost use Rattle.commands.specs.Encoding.{encode};
 ghost use Rattle.commands.specs.declared.Command.the-variants.{End};
 ghost use Rattle.model.specs.Limits.{sourceLimits};
 ghost use Rattle.model.specs.Reading.{verdictOf};
-ghost use Rattle.model.specs.Decoding.{sourceActionOf};
+ghost use Rattle.model.specs.Decoding.{sumConditionsOf};
 ghost use Rattle.model.specs.ActionBytes.{actionPart, decodeAction};
-ghost use Rattle.model.specs.Stages.{several};
-ghost use Rattle.model.specs.Lowering.{restingHelpers};
+ghost use Rattle.model.specs.Stages.{several, holdCount};
+ghost use Rattle.model.specs.FourRelations.{inFour};
+ghost use Rattle.model.specs.Sums.{sumsOfSource};
 ghost use Rattle.model.specs.Judging.{lowerBytes};
 ghost use Rattle.source_step.specs.Sizes.{VARIABLES, MODES, ACTIONS};
 ghost use Rattle.source_step.specs.Accepted.{AcceptedWith};
 ghost use Rattle.file_parts.specs.Layout.{MARKS, NUMBERS};
 ghost use Rattle.file_parts.specs.Row.{rowIs};
 ghost use Rattle.file_parts.specs.With.{withModeCondition};
-ghost use Rattle.file_actions.specs.Views.{effectsIs, SourceDecoded, fittingSource};
+ghost use Rattle.file_actions.specs.Places.{goalFrom};
+ghost use Rattle.file_actions.specs.Views.{effectsIs, plainActionOf, SourceDecoded, SumsDecoded, fittingSource};
 ghost use Rattle.lowering_stages.specs.Stages.{PlacesFew};
-ghost use Rattle.lowering_rows.specs.Bytes.{inFour, rowBytes, WroteRows};
-ghost use Rattle.lowering_file.specs.Parts.{startBytes, modeBytes, modesIn, holdsOf, Constants, GoalWritable};
-ghost use Rattle.lowering_file.specs.Held.{Held, PlacesOf, Declares, GoalOf, Told, actionsPart, inFileOrder, actionsFirst, Acted};
+ghost use Rattle.lowering_sums.specs.Views.{startBytes, SumsSmall, ValuesSmall};
+ghost use Rattle.lowering_rows.specs.Bytes.{rowBytes, WroteRows};
+ghost use Rattle.lowering_file.specs.Parts.{modeBytes, modesIn, holdsOf, startsIn, GoalWritable};
+ghost use Rattle.lowering_file.specs.Held.{taskOf, Held, PlacesOf, SumsOf, KeptOf, Declares, GoalFrom, GoalOf, Told, actionsPart, inFileOrder};
+ghost use Rattle.lowering_file.specs.Held.{actionsFirst, Acted};
 
 // What a file declares, by value.
 struct Declarations {
@@ -69,7 +75,7 @@ fn decode_action(
 ) -> Effects
     requires { ⌜ PlacesOf (now file) count (now places) × (k < count) × (count ≤ ACTIONS) ⌝ }
     requires { ⌜ (length (now marks) ≡ MARKS) × (length (now numbers) ≡ NUMBERS) ⌝ }
-    ensures { λ r. ⌜ SourceDecoded (fittingSource (sourceActionOf (decodeAction (actionPart (now (file .entry)) k))))
+    ensures { λ r. ⌜ SourceDecoded (fittingSource (plainActionOf (decodeAction (actionPart (now (file .entry)) k))))
         (now (marks .exit)) (now (numbers .exit)) r ⌝ }
 {
     let start = places[k];
@@ -78,12 +84,65 @@ fn decode_action(
     file_actions::decode_source(file_actions::part(file, start, end), marks, numbers)
 }
 
-// Where a writer stands, and what the declarations take from the actions: the size of control, 1 and the count of all stages; and whether some
-// action has several effects.
+// The K's of action k.
+fn action_sums(file: &[u8], places: &[usize; PLACES], count: usize, k: usize) -> SumConditions
+    requires { ⌜ PlacesOf (now file) count (now places) × (k < count) × (count ≤ ACTIONS) ⌝ }
+    ensures { λ r. ⌜ SumsDecoded (sumConditionsOf (decodeAction (actionPart (now (file .entry)) k))) r ⌝ }
+{
+    let start = places[k];
+    let next = k + 1;
+    let end = places[next];
+    file_actions::decode_sums(file_actions::part(file, start, end))
+}
+
+// The K's of the goal, which stands at this place.
+fn goal_sums(file: &[u8], place: usize) -> SumConditions
+    ensures { λ r. ⌜ SumsDecoded (sumConditionsOf (decodeAction (goalFrom (now (file .entry)) place))) r ⌝ }
+{
+    file_actions::decode_sums(file_actions::goal_from(file, place))
+}
+
+// The sums of an accepted file with so many actions: those of the actions in order, then those of the goal.
+fn find_sums(file: &[u8], places: &[usize; PLACES], count: usize) -> Sums
+    requires { ⌜ AcceptedWith (verdictOf sourceLimits (now file)) count × PlacesOf (now file) count (now places) ⌝ }
+    ensures { λ r. ⌜ SumsOf (now (file .entry)) r ⌝ }
+{
+    let mut sums = lowering_sums::no_sums();
+    let mut k: usize = 0;
+    while k < count {
+        let own = action_sums(file, places, count, k);
+        sums = lowering_sums::with_sums_of(sums, own);
+        k += 1;
+    }
+    let own = goal_sums(file, places[count]);
+    lowering_sums::with_sums_of(sums, own)
+}
+
+// The K's of action k in a task with so many K's in all: where there is none they are not looked for.
+fn own_sums(
+    file: &[u8],
+    places: &[usize; PLACES],
+    count: usize,
+    k: usize,
+    all: usize,
+) -> SumConditions
+    requires { ⌜ PlacesOf (now file) count (now places) × (k < count) × (count ≤ ACTIONS) ⌝ }
+    requires { ⌜ (all ≡ 0 → sumConditionsOf (decodeAction (actionPart (now file) k)) ≡ []) ⌝ }
+    ensures { λ r. ⌜ SumsDecoded (sumConditionsOf (decodeAction (actionPart (now (file .entry)) k))) r ⌝ }
+{
+    if all == 0 {
+        return file_actions::decode_sums(&file[..0]);
+    }
+    action_sums(file, places, count, k)
+}
+
+// Where a writer stands; what the declarations take from the actions: the size of control, 1 and the count of all stages, and whether some
+// action has several effects; and what the goal takes: the number of the variable kept for its first sum.
 struct Put {
     place: usize,
     control: u16,
     several: bool,
+    goal_sum: u8,
 }
 
 // Whether some action has several effects, this one being the next.
@@ -97,6 +156,59 @@ fn some_several(before: bool, effects: Effects) -> bool
     1 < effects.count
 }
 
+// Whether some action of an accepted file with so many has several effects.
+fn any_several(file: &[u8], places: &[usize; PLACES], count: usize) -> bool
+    requires { ⌜ AcceptedWith (verdictOf sourceLimits (now file)) count × PlacesOf (now file) count (now places) ⌝ }
+    ensures { λ r. ⌜ holdsOf r ≡ holdCount (taskOf (now (file .entry)) .actions) ⌝ }
+{
+    let mut marks = [0u16; MARKS];
+    let mut numbers = [0i64; NUMBERS];
+    let mut several = false;
+    let mut k: usize = 0;
+    while k < count {
+        let effects = decode_action(file, places, count, k, &mut marks, &mut numbers);
+        several = some_several(several, effects);
+        k += 1;
+    }
+    several
+}
+
+// How many variables R has behind the declared ones besides those that it keeps: A and B, and three holds where some action has several effects.
+fn helper_count(several: bool) -> usize
+    ensures { λ r. ⌜ r ≡ 2 + holdsOf several ⌝ }
+{
+    if several { 5 } else { 2 }
+}
+
+// What R keeps of the sums of a task: they, and the number of the variable kept for the first.
+struct Kept {
+    first: u8,
+    sums: Sums,
+}
+
+// The number of the first kept variable in a task with n variables and so many sums: behind A, B and the holds. Where there is no sum the holds
+// are not looked for.
+fn first_kept(file: &[u8], places: &[usize; PLACES], count: usize, n: usize, sums: usize) -> u8
+    requires { ⌜ AcceptedWith (verdictOf sourceLimits (now file)) count × PlacesOf (now file) count (now places) × (n ≤ VARIABLES) ⌝ }
+    ensures { λ r. ⌜ (r ≤ VARIABLES + 5) × (0 < sums → r ≡ n + (2 + holdCount (taskOf (now (file .entry)) .actions))) ⌝ }
+{
+    if sums == 0 {
+        return 0;
+    }
+    let several = any_several(file, places, count);
+    (n + helper_count(several)) as u8
+}
+
+// What R keeps of the sums of an accepted file with so many actions, whose task has this shape.
+fn find_kept(file: &[u8], places: &[usize; PLACES], count: usize, shape: Shape) -> Kept
+    requires { ⌜ AcceptedWith (verdictOf sourceLimits (now file)) count × Held (now file) count shape × PlacesOf (now file) count (now places) ⌝ }
+    ensures { λ r. ⌜ KeptOf (now (file .entry)) r ⌝ }
+{
+    let sums = find_sums(file, places, count);
+    let first = first_kept(file, places, count, shape.variables, sums.count);
+    Kept { first, sums }
+}
+
 // What all actions become, through two lent rows.
 fn put_actions(
     out: &mut [u8],
@@ -105,23 +217,41 @@ fn put_actions(
     places: &[usize; PLACES],
     count: usize,
     shape: Shape,
+    kept: Kept,
     marks: &mut [u16; MARKS],
     numbers: &mut [i64; NUMBERS],
 ) -> Put
-    requires { ⌜ Held (now file) count shape × PlacesOf (now file) count (now places) ⌝ }
-    requires { ⌜ (length (now marks) ≡ MARKS) × (length (now numbers) ≡ NUMBERS) ⌝ }
+    requires { ⌜ AcceptedWith (verdictOf sourceLimits (now file)) count × Held (now file) count shape × PlacesOf (now file) count (now places) ⌝ }
+    requires { ⌜ (length (now marks) ≡ MARKS) × (length (now numbers) ≡ NUMBERS) × KeptOf (now file) kept ⌝ }
     requires { ⌜ Room (now out) at (actionsPart (now file)) ⌝ }
-    ensures { λ r. ⌜ Acted (now (file .entry)) (now (out .entry)) at (actionsPart (now (file .entry))) (now (out .exit)) r
+    ensures { λ r. ⌜ Acted (now (file .entry)) (kept .first) (now (out .entry)) at (actionsPart (now (file .entry))) (now (out .exit)) r
         (now (marks .exit)) (now (numbers .exit)) ⌝ }
 {
+    let sums = kept.sums;
+    let first = kept.first;
     let mut place = at;
     let mut from: u16 = 1;
     let mut several = false;
+    let mut sum = first;
     let mut k: usize = 0;
     while k < count {
         let effects = decode_action(file, places, count, k, marks, numbers);
-        place = lowering_rows::put_macro(out, place, marks, numbers, effects, shape, from);
+        let own = own_sums(file, places, count, k, sums.count);
+        place = lowering_rows::put_macro(
+            out,
+            place,
+            marks,
+            numbers,
+            effects,
+            own,
+            shape,
+            from,
+            sum,
+            first,
+            sums,
+        );
         from += lowering_stages::stage_count(effects) as u16;
+        sum += own.count as u8;
         several = some_several(several, effects);
         k += 1;
     }
@@ -129,6 +259,7 @@ fn put_actions(
         place,
         control: from,
         several,
+        goal_sum: sum,
     }
 }
 
@@ -164,25 +295,35 @@ fn read_declarations(file: &[u8], count: usize) -> Declarations
     }
 }
 
-// The goal of an accepted file with so many actions, at the place behind theirs, as an action: its parts into lent rows.
+// The goal of an accepted file with so many actions, at the place behind theirs, as an action: its parts into lent rows, its K's, in a task with
+// so many in all, as C on the kept variables from `variable` on.
 fn read_goal(
     file: &[u8],
     places: &[usize; PLACES],
     count: usize,
+    sums: usize,
+    variable: u8,
     marks: &mut [u16; MARKS],
     numbers: &mut [i64; NUMBERS],
 )
     requires { ⌜ AcceptedWith (verdictOf sourceLimits (now file)) count × PlacesOf (now file) count (now places) ⌝ }
+    requires { ⌜ (sums ≡ length (sumsOfSource (taskOf (now file)))) × GoalFrom (now file) sums variable ⌝ }
     requires { ⌜ (length (now marks) ≡ MARKS) × (length (now numbers) ≡ NUMBERS) ⌝ }
     ensures { λ _. ⌜ GoalOf (now (file .entry)) (now (marks .exit)) (now (numbers .exit)) ⌝ }
 {
-    file_actions::decode_source(file_actions::goal_from(file, places[count]), marks, numbers);
+    let place = places[count];
+    file_actions::decode_source(file_actions::goal_from(file, place), marks, numbers);
+    if sums == 0 {
+        return;
+    }
+    let own = goal_sums(file, place);
+    lowering_sums::push_sums(marks, numbers, variable, own);
 }
 
 // The U of the first n of an array.
 fn put_declared_starts(out: &mut [u8], at: usize, n: usize, starts: &[i64; VARIABLES]) -> usize
     requires { ⌜ (n ≤ VARIABLES) × (length (now starts) ≡ VARIABLES) ⌝ }
-    requires { ⌜ Constants n (now starts) ⌝ }
+    requires { ⌜ ValuesSmall n (now starts) ⌝ }
     requires { ⌜ Room (now out) at (flatMap startBytes (take n (now starts))) ⌝ }
     ensures { λ r. ⌜ Wrote (now (out .entry)) at (flatMap startBytes (take n (now (starts .entry)))) (now (out .exit)) r ⌝ }
 {
@@ -210,30 +351,24 @@ fn put_zeros(out: &mut [u8], at: usize, n: usize) -> usize
     place
 }
 
-// How many variables R has behind the declared ones: A and B, and three holds where some action has several effects.
-fn helper_count(several: bool) -> usize
-    ensures { λ r. ⌜ r ≡ 2 + holdsOf several ⌝ }
-{
-    if several { 5 } else { 2 }
-}
-
-// All U: those of n declared variables, then those of A, B and the holds.
+// All U: those of n declared variables, those of A, B and the holds, and those of the kept variables.
 fn put_starts(
     out: &mut [u8],
     at: usize,
     n: usize,
     starts: &[i64; VARIABLES],
     several: bool,
+    sums: Sums,
 ) -> usize
     requires { ⌜ (n ≤ VARIABLES) × (length (now starts) ≡ VARIABLES) ⌝ }
-    requires { ⌜ Constants n (now starts) ⌝ }
-    requires { ⌜ Room (now out) at (flatMap startBytes (take n (now starts) ++ restingHelpers (holdsOf several))) ⌝ }
-    ensures { λ r. ⌜ Wrote (now (out .entry)) at (flatMap startBytes (take n (now (starts .entry)) ++ restingHelpers (holdsOf several)))
-        (now (out .exit)) r ⌝ }
+    requires { ⌜ ValuesSmall n (now starts) × SumsSmall sums ⌝ }
+    requires { ⌜ Room (now out) at (flatMap startBytes (startsIn n (now starts) several sums)) ⌝ }
+    ensures { λ r. ⌜ Wrote (now (out .entry)) at (flatMap startBytes (startsIn n (now (starts .entry)) several sums)) (now (out .exit)) r ⌝ }
 {
     let helpers = put_declared_starts(out, at, n, starts);
     let count = helper_count(several);
-    put_zeros(out, helpers, count)
+    let kept = put_zeros(out, helpers, count);
+    lowering_sums::put_sum_starts(out, kept, n, starts, sums)
 }
 
 // The M of the first n of two arrays.
@@ -301,30 +436,34 @@ fn count_task(
     places: &[usize; PLACES],
     count: usize,
     declared: Declarations,
+    kept: Kept,
     marks: &mut [u16; MARKS],
     numbers: &mut [i64; NUMBERS],
 ) -> Put
     requires { ⌜ AcceptedWith (verdictOf sourceLimits (now file)) count × Declares (now file) count declared × PlacesOf (now file) count (now places) ⌝ }
-    requires { ⌜ (length (now marks) ≡ MARKS) × (length (now numbers) ≡ NUMBERS) ⌝ }
+    requires { ⌜ (length (now marks) ≡ MARKS) × (length (now numbers) ≡ NUMBERS) × KeptOf (now file) kept ⌝ }
     requires { ⌜ Room (now out) 0 (actionsFirst (now file)) ⌝ }
-    ensures { λ r. ⌜ Acted (now (file .entry)) (now (out .entry)) 0 (actionsFirst (now (file .entry))) (now (out .exit)) r
+    ensures { λ r. ⌜ Acted (now (file .entry)) (kept .first) (now (out .entry)) 0 (actionsFirst (now (file .entry))) (now (out .exit)) r
         (now (marks .exit)) (now (numbers .exit)) ⌝ }
 {
+    let sums = kept.sums;
     let shape = declared.shape;
     let starts = declared.starts;
     let values = declared.values;
     let sizes = shape.sizes;
-    let acted = put_actions(out, 0, file, places, count, shape, marks, numbers);
+    let acted = put_actions(out, 0, file, places, count, shape, kept, marks, numbers);
     let control = acted.control;
     let several = acted.several;
-    let modes = put_starts(out, acted.place, shape.variables, &starts, several);
+    let goal_sum = acted.goal_sum;
+    let modes = put_starts(out, acted.place, shape.variables, &starts, several, sums);
     let goal = put_modes(out, modes, shape.modes, &sizes, &values, control);
-    read_goal(file, places, count, marks, numbers);
+    read_goal(file, places, count, sums.count, goal_sum, marks, numbers);
     let place = put_goal(out, goal, marks, numbers, shape.modes as u8);
     Put {
         place,
         control,
         several,
+        goal_sum,
     }
 }
 
@@ -335,24 +474,34 @@ fn put_task(
     places: &[usize; PLACES],
     count: usize,
     declared: Declarations,
+    kept: Kept,
     marks: &mut [u16; MARKS],
     numbers: &mut [i64; NUMBERS],
     control: u16,
     several: bool,
 ) -> usize
     requires { ⌜ AcceptedWith (verdictOf sourceLimits (now file)) count × Declares (now file) count declared × PlacesOf (now file) count (now places) ⌝ }
-    requires { ⌜ (length (now marks) ≡ MARKS) × (length (now numbers) ≡ NUMBERS) × Told (now file) control several ⌝ }
+    requires { ⌜ (length (now marks) ≡ MARKS) × (length (now numbers) ≡ NUMBERS) × Told (now file) control several × KeptOf (now file) kept ⌝ }
     requires { ⌜ Room (now out) 0 (inFileOrder (now file)) ⌝ }
     ensures { λ r. ⌜ Wrote (now (out .entry)) 0 (inFileOrder (now (file .entry))) (now (out .exit)) r ⌝ }
 {
+    let sums = kept.sums;
     let shape = declared.shape;
     let starts = declared.starts;
     let values = declared.values;
     let sizes = shape.sizes;
-    let modes = put_starts(out, 0, shape.variables, &starts, several);
+    let modes = put_starts(out, 0, shape.variables, &starts, several, sums);
     let first = put_modes(out, modes, shape.modes, &sizes, &values, control);
-    let acted = put_actions(out, first, file, places, count, shape, marks, numbers);
-    read_goal(file, places, count, marks, numbers);
+    let acted = put_actions(out, first, file, places, count, shape, kept, marks, numbers);
+    read_goal(
+        file,
+        places,
+        count,
+        sums.count,
+        acted.goal_sum,
+        marks,
+        numbers,
+    );
     put_goal(out, acted.place, marks, numbers, shape.modes as u8)
 }
 
@@ -363,6 +512,7 @@ fn lower_accepted(file: &[u8], count: usize, out: &mut [u8]) -> Written
 {
     let declared = read_declarations(file, count);
     let places = find_places(file, count);
+    let kept = find_kept(file, &places, count, declared.shape);
     let mut marks = [0u16; MARKS];
     let mut numbers = [0i64; NUMBERS];
     let counted = count_task(
@@ -371,6 +521,7 @@ fn lower_accepted(file: &[u8], count: usize, out: &mut [u8]) -> Written
         &places,
         count,
         declared,
+        kept,
         &mut marks,
         &mut numbers,
     );
@@ -386,6 +537,7 @@ fn lower_accepted(file: &[u8], count: usize, out: &mut [u8]) -> Written
         &places,
         count,
         declared,
+        kept,
         &mut marks,
         &mut numbers,
         control,

@@ -1,3 +1,4 @@
+pub mod Kept
 pub mod Loops
 pub mod Macros
 pub mod Parts

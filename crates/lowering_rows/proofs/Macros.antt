@@ -1,27 +1,35 @@
 -- What a source action becomes, from its rows and from its task, is one; and what keeps to the rules on restricted files can be written.
 -- Assumes nothing.
-use mathlib.Core.Path.{_≡_, refl, sym, ap, _∙_}
+use mathlib.Core.Path.{_≡_, refl, sym, ap, ap₂, _∙_}
 use mathlib.Core.Bool.{cond}
 use mathlib.Core.List.{List, [], _∷_, _++_, flatMap, append-nil}
-use Prim.Native.Nat.{ℕ, suc}
+use Prim.Native.Nat.{ℕ, suc, _+_, _<_}
 use native.Mathlib.Omega.{arith}
 use borrow.Author.Tests.{ne-eqb}
 use lib.Dec.{eqb}
 use lib.ListN.{length}
-use lib.IntN.{ℤ}
+use lib.IntN.{ℤ, natAbs}
 use Rattle.integers.specs.All.{All}
+use Rattle.integers.proofs.All.{all-map}
 use Rattle.integers.specs.Relation.{Relation, below, atMost, atLeast, above, equal}
 use Rattle.lists.proofs.Writing.{Left, start}
-use Rattle.model.specs.Tasks.{Measured, variable, weightedSum, NumericCondition, SourceAction, RestrictedAction}
+use Rattle.model.specs.Tasks.{Measured, variable, weightedSum, NumericCondition, Effect, RestrictedAction}
 use Rattle.model.specs.Limits.{restrictedLimits}
-use Rattle.model.specs.TaskOk.{AmountOk, ConditionOk}
-use Rattle.model.specs.Stages.{Name, Stage, onSource, onSourceTerms, onSourceVariables, addedBound, openingAction, firstStage, stagesOf, stagesActions}
-use Rattle.model.specs.Lowering.{numberedAdditions, numberedMeasure, numberedConditions, inFourRelations, allInFourRelations, numbered, numberedAll}
+use Rattle.model.specs.TaskOk.{AmountOk, MeasureOk, ConditionOk, RestrictedActionOk}
+use Rattle.model.specs.FourRelations.{inFourRelations, allInFourRelations, inFour}
+use Rattle.model.specs.Sums.{sumsIn, onKept, kept, keepingAll}
+use Rattle.model.specs.Stages.{Name, Stage, onSource, onSourceTerms, onSourceVariables, addedBound, openingAction, firstStage, stagesOf}
+use Rattle.model.specs.Lowering.{numberedAdditions, numberedMeasure, numberedConditions, numbered}
+use Rattle.file_parts.specs.Row.{conditionsIn, rowIs}
 use Rattle.file_parts.specs.With.{sourcePart}
+use Rattle.file_actions.specs.declared.Effects.{Effects}
+use Rattle.file_actions.specs.declared.SumConditions.{SumConditions}
+use Rattle.file_actions.specs.Views.{sumsIs as conditionsIs, effectsIs, plainIs, sourceActionIs}
 use Rattle.lowering_stages.specs.declared.Shape.{Shape}
 use Rattle.lowering_stages.specs.Shapes.{lowerOf, upperOf}
-use Rattle.lowering_rows.specs.Bytes.{restrictedActionBytes, inFour}
-use Rattle.lowering_rows.specs.Macros.{Constant, Amount, Fit, openingIn, MacroFit, macroWith, macroIn, Sound}
+use Rattle.lowering_rows.specs.Bytes.{restrictedActionBytes, withKept}
+use Rattle.lowering_rows.specs.Macros.{Constant, Amount, Fit, AllFit, openingIn, withOwn, macroWith, macroIn, Sound}
+use Rattle.lowering_rows.proofs.Kept.{opening-kept, keeping-stages}
 
 -- ---- the source's conditions, numbered, are themselves
 terms-back : (n : ℕ) (ts : List (ℕ × ℤ)) → numberedAdditions n (onSourceTerms ts) ≡ ts
@@ -36,16 +44,40 @@ conditions-back : (n : ℕ) (cs : List (NumericCondition ℕ)) (more : List (Num
 conditions-back n [] more = refl
 conditions-back n (c ∷ cs) more = rw (measure-back n (c .measured), conditions-back n cs more)
 
--- ---- the action with its effects, as the model has it
-module _ (h : Shape) (from : ℕ) (a : SourceAction) where
-  opening-is : inFour (openingIn h (firstStage from (stagesOf (lowerOf h) (upperOf h) (a .effects))) (a .effects) (sourcePart a))
-      ≡ numbered (h .variables) (h .modes) (openingAction (lowerOf h) (upperOf h) from a)
-  opening-is = sym (rw (conditions-back (h .variables) (a .conditions) (addedBound (lowerOf h) (upperOf h) (a .effects))))
+-- ---- the action with its effects, its sums kept, as the model has it
+module _ (first : ℕ) (sums : List (List (ℕ × ℤ))) (h : Shape) (from : ℕ) (marks : List ℕ) (numbers : List ℤ) (r : Effects) (own : SumConditions) (j : ℕ) where
+  abbrev es : List Effect
+  es = effectsIs r
 
-  pub macro-is : (x : RestrictedAction) → x ≡ sourcePart a → macroWith h from (a .effects) x ≡ macroIn h from a
-  macro-is x e =
-      ap (macroWith h from (a .effects)) e
-      ∙ ap (λ (y : RestrictedAction). y ∷ numberedAll (h .variables) (h .modes) (stagesActions from (stagesOf (lowerOf h) (upperOf h) (a .effects)))) opening-is
+  abbrev ds : List Stage
+  ds = stagesOf (lowerOf h) (upperOf h) es
+
+  -- its opening, from rows without +
+  abbrev opened : RestrictedAction
+  opened = openingIn h (firstStage from ds) es (withOwn j own (sourcePart (plainIs marks numbers r)))
+
+  abbrev openedInModel : RestrictedAction
+  openedInModel = numbered (h .variables) (h .modes) (openingAction (lowerOf h) (upperOf h) from (sourceActionIs marks numbers r own))
+
+  opening-conditions : onKept j (openedInModel .conditions) ≡ opened .conditions
+  opening-conditions =
+      ap (onKept j) (conditions-back (h .variables) (conditionsIn marks numbers ++ conditionsIs own) (addedBound (lowerOf h) (upperOf h) es))
+      ∙ opening-kept marks numbers (conditionsIs own) (h .variables) (lowerOf h) (upperOf h) es j
+
+  opening-is : inFour (kept first sums j openedInModel) ≡ inFour (withKept first sums opened)
+  opening-is = ap (λ (cs : List (NumericCondition ℕ)). inFour (withKept first sums (record {
+    modeConditions = opened .modeConditions;
+    conditions = cs;
+    modeEffects = opened .modeEffects;
+    additions = opened .additions;
+  }))) opening-conditions
+
+  pub macro-is : rowIs marks numbers ≡ sourcePart (plainIs marks numbers r)
+      → macroWith first sums h from es (withOwn j own (rowIs marks numbers)) ≡ keepingAll first sums j (macroIn h from (sourceActionIs marks numbers r own))
+  macro-is e =
+      ap (λ (x : RestrictedAction). macroWith first sums h from es (withOwn j own x)) e
+      ∙ ap₂ _∷_ (sym opening-is)
+      (sym (keeping-stages first sums (h .variables) (h .modes) (lowerOf h) (upperOf h) es from (j + length (sumsIn (openedInModel .conditions)))))
 
 -- control on entering stages, by their count
 pub first-is : (from count : ℕ) (ds : List Stage) → count ≡ length ds → cond (eqb count 0) 0 from ≡ firstStage from ds
@@ -53,9 +85,12 @@ first-is from count [] e = rw e
 first-is from count (d ∷ ds) e = rw (e, ne-eqb (suc (length ds)) 0 (λ q. omega arith))
 
 -- ---- what is sound can be written
+measure-fits : (n : ℕ) (m : Measured ℕ) (k : ℤ) → MeasureOk restrictedLimits n m k → natAbs k < 2147483648
+measure-fits n (variable i) k h = omega (arith, h .1)
+measure-fits n (weightedSum ts) k h = omega (arith, h .3)
+
 conditions-fit : (n : ℕ) (cs : List (NumericCondition ℕ)) → All (ConditionOk restrictedLimits n) cs → All Constant cs
-conditions-fit n [] h = tt
-conditions-fit n (c ∷ cs) (h, hs) = (omega (arith, h .inRange), conditions-fit n cs hs)
+conditions-fit n = all-map (ConditionOk restrictedLimits n) Constant (λ c h. measure-fits n (c .measured) (c .constant) (h .measures))
 
 -- what is written in the four relations can be written
 constants-of-four : (cs : List (NumericCondition ℕ)) → All Constant (allInFourRelations cs) → All Constant cs
@@ -73,12 +108,13 @@ pub fit-of-four : {x : RestrictedAction} → Fit (inFour x) → Fit x
 fit-of-four {x} h = record { constants = constants-of-four (x .conditions) (h .constants); amounts = h .amounts }
 
 additions-fit : (n : ℕ) (es : List (ℕ × ℤ)) → All (AmountOk restrictedLimits n) es → All Amount es
-additions-fit n [] h = tt
-additions-fit n (e ∷ es) (h, hs) = (omega (arith, h .1 .1), additions-fit n es hs)
+additions-fit n = all-map (AmountOk restrictedLimits n) Amount (λ e h. omega (arith, h .1 .1))
 
-pub macro-fit : (acts : List RestrictedAction) → Sound acts → MacroFit acts
-macro-fit [] s = tt
-macro-fit (x ∷ xs) s = record { constants = conditions-fit (s .variables) (x .conditions) (s .ok .0 .conditionsOk .conditionsIn); amounts = additions-fit (s .variables) (x .additions) (s .ok .0 .additionsIn) }
+pub sound-fit : (acts : List RestrictedAction) → Sound acts → AllFit acts
+sound-fit acts s = all-map (RestrictedActionOk restrictedLimits (s .variables) (s .sizes)) Fit (λ x h. record {
+  constants = conditions-fit (s .variables) (x .conditions) (h .conditionsOk .conditionsIn);
+  amounts = additions-fit (s .variables) (x .additions) (h .additionsIn);
+}) acts (s .ok)
 
 -- before anything of a macro is written
 pub macro-begun : (old : List ℕ) (at : ℕ) (x : RestrictedAction) (xs : List RestrictedAction)

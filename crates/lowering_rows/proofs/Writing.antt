@@ -17,7 +17,7 @@ use Rattle.file_parts.specs.With.{condition}
 use Rattle.lists.proofs.Each.{flatMap-nil, flatMap-cons, flatMap-append}
 use Rattle.lists.proofs.Writing.{Left, start}
 use Rattle.model.specs.Tasks.{variable, NumericCondition, RestrictedAction}
-use Rattle.model.specs.Lowering.{comparing, inFourRelations, allInFourRelations}
+use Rattle.model.specs.FourRelations.{comparing, inFourRelations, allInFourRelations}
 use Rattle.lowering_rows.specs.Bytes.{modeConditionBytes, conditionBytes, fourBytes, modeEffectBytes, modePartBytes, additionBytes, restrictedActionBytes, rowBytes, ModePartsThere}
 use Rattle.lowering_rows.proofs.Parts.{action-parts}
 

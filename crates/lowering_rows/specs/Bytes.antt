@@ -14,9 +14,12 @@ use Rattle.commands.specs.Encoding.{encode, encodeAll}
 use Rattle.commands.specs.declared.Command.the-variants.{Condition, ModeCondition, ModeEffect, Add}
 use Rattle.model.specs.Tasks.{NumericCondition, RestrictedAction}
 use Rattle.model.specs.Steps.{integerAt, naturalAt}
-use Rattle.model.specs.Lowering.{variableOf, actionCommands, inFourRelations, allInFourRelations}
+use Rattle.model.specs.FourRelations.{inFourRelations}
+use Rattle.model.specs.Sums.{keptAdditions}
+use Rattle.model.specs.Lowering.{variableOf, actionCommands}
 use Rattle.file_parts.specs.Layout.{MARKS, NUMBERS, conditionCount, additionCount, additionAmount}
 use Rattle.file_parts.specs.Row.{PartsFit}
+use Rattle.file_parts.specs.With.{withAdditions}
 use Rattle.lowering_stages.specs.declared.Stage.{Stage}
 use Rattle.lowering_stages.specs.Stages.{strokeIs, turnIs}
 
@@ -45,14 +48,9 @@ additionBytes e = encode (Add (e .0) (bitsOf 4 (e .1)))
 abbrev pub restrictedActionBytes : RestrictedAction → List ℕ
 restrictedActionBytes a = encodeAll (actionCommands a [])
 
--- ---- an action in the four relations
-abbrev pub inFour : RestrictedAction → RestrictedAction
-inFour x = record {
-  modeConditions = x .modeConditions;
-  conditions = allInFourRelations (x .conditions);
-  modeEffects = x .modeEffects;
-  additions = x .additions;
-}
+-- ---- an action with the + on the kept variables, numbered from `first` on, that go with its own
+abbrev pub withKept : ℕ → List (List (ℕ × ℤ)) → RestrictedAction → RestrictedAction
+withKept first sums x = withAdditions x (keptAdditions first sums (x .additions))
 
 -- ---- the bytes of a row: a byte, A or G; then P, C, E, +
 abbrev pub rowBytes : ℕ → RestrictedAction → List ℕ

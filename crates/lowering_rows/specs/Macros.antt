@@ -1,7 +1,7 @@
 -- What a source action becomes, from its rows and from its task; and what is known of both when it is lowered.
 -- Assumes nothing.
-use Prim.Native.Nat.{ℕ, _≤_, _<_}
-use mathlib.Core.List.{List, [], _∷_, flatMap}
+use Prim.Native.Nat.{ℕ, _+_, _≤_, _<_}
+use mathlib.Core.List.{List, _∷_, map, flatMap}
 use lib.ListN.{length}
 use lib.IntN.{ℤ, natAbs}
 use Rattle.integers.specs.All.{All}
@@ -9,16 +9,21 @@ use Rattle.model.specs.Tasks.{NumericCondition, Effect, SourceAction, Restricte
 use Rattle.model.specs.Limits.{sourceLimits, restrictedLimits}
 use Rattle.model.specs.TaskOk.{RestrictedActionOk}
 use Rattle.model.specs.Stages.{Stage, firstStage, stagesOf, stagesActions, macro}
+use Rattle.model.specs.FourRelations.{inFour}
+use Rattle.model.specs.Sums.{onKept}
 use Rattle.model.specs.Lowering.{numberedAll}
 use Rattle.file_parts.specs.Row.{Says}
-use Rattle.file_parts.specs.With.{sourcePart}
+use Rattle.file_parts.specs.With.{withConditions, sourcePart}
 use Rattle.file_actions.specs.declared.Effects.{Effects}
-use Rattle.file_actions.specs.Views.{effectsIs, sourceActionIs}
+use Rattle.file_actions.specs.declared.SumConditions.{SumConditions}
+use Rattle.file_actions.specs.Views.{sumRoom, sumsIs as conditionsIs, effectsIs, plainIs, sourceActionIs}
 use Rattle.lowering_stages.specs.declared.Shape.{Shape}
 use Rattle.lowering_stages.specs.Stages.{PlacesOk}
 use Rattle.lowering_stages.specs.Openings.{withOpening}
 use Rattle.lowering_stages.specs.Shapes.{lowerOf, upperOf, Bounded}
-use Rattle.lowering_rows.specs.Bytes.{restrictedActionBytes, inFour}
+use Rattle.lowering_sums.specs.declared.Sums.{Sums}
+use Rattle.lowering_sums.specs.Views.{SumsSmall}
+use Rattle.lowering_rows.specs.Bytes.{restrictedActionBytes, withKept}
 
 -- ---- constants and amounts fit the width of a file's
 abbrev pub Constant : NumericCondition ℕ → Type 0
@@ -31,33 +36,45 @@ pub record Fit (x : RestrictedAction) : Type 0 where
   pub constants : All Constant (x .conditions)
   pub amounts : All Amount (x .additions)
 
+abbrev pub AllFit : List RestrictedAction → Type 0
+AllFit acts = All Fit acts
+
 -- ---- in a task of this shape: the opening or single action of an action with these effects whose parts are x, `next` being its first stage
 abbrev pub openingIn : Shape → ℕ → List Effect → RestrictedAction → RestrictedAction
 openingIn h next es x = withOpening (h .variables) (h .modes) next (lowerOf h) (upperOf h) es x
 
--- the bytes of stages numbered from s, of n variables and m modes
-abbrev pub stagesBytes : ℕ → ℕ → ℕ → List Stage → List ℕ
-stagesBytes n m s ds = flatMap restrictedActionBytes (numberedAll n m (stagesActions s ds))
+-- an action with its own K's as C on the kept variables, from number j on
+abbrev pub withOwn : ℕ → SumConditions → RestrictedAction → RestrictedAction
+withOwn j own x = withConditions x (onKept j (conditionsIs own))
+
+-- stages numbered from s, of n variables and m modes, their + followed by those on the kept variables; and their bytes
+abbrev pub keptStages : ℕ → List (List (ℕ × ℤ)) → ℕ → ℕ → ℕ → List Stage → List RestrictedAction
+keptStages first sums n m s ds = map (withKept first sums) (numberedAll n m (stagesActions s ds))
+
+abbrev pub stagesBytes : ℕ → List (List (ℕ × ℤ)) → ℕ → ℕ → ℕ → List Stage → List ℕ
+stagesBytes first sums n m s ds = flatMap restrictedActionBytes (keptStages first sums n m s ds)
 
 -- the whole, its stages being numbered from `from`
-abbrev pub macroWith : Shape → ℕ → List Effect → RestrictedAction → List RestrictedAction
-macroWith h from es x =
-    inFour (openingIn h (firstStage from (stagesOf (lowerOf h) (upperOf h) es)) es x)
-    ∷ numberedAll (h .variables) (h .modes) (stagesActions from (stagesOf (lowerOf h) (upperOf h) es))
+abbrev pub macroWith : ℕ → List (List (ℕ × ℤ)) → Shape → ℕ → List Effect → RestrictedAction → List RestrictedAction
+macroWith first sums h from es x =
+    inFour (withKept first sums (openingIn h (firstStage from (stagesOf (lowerOf h) (upperOf h) es)) es x))
+    ∷ keptStages first sums (h .variables) (h .modes) from (stagesOf (lowerOf h) (upperOf h) es)
 
--- its opening can be written
-abbrev pub MacroFit : List RestrictedAction → Type 0
-MacroFit [] = Unit {0}
-MacroFit (x ∷ xs) = Fit x
+-- ---- the sums of a task, whose variables are kept from number `first` on
+pub record Keeps (first : ℕ) (sums : Sums) : Type 0 where
+  pub small : SumsSmall sums
+  pub numbers : first + sumRoom ≤ 255
 
--- ---- an action of a task of this shape: its rows and its effects
-pub record Lowerable (h : Shape) (marks : List ℕ) (numbers : List ℤ) (r : Effects) : Type 0 where
+-- ---- an action of a task of this shape: its rows, its effects, its own K's, which are on the kept variables from number j on
+pub record Lowerable (h : Shape) (marks : List ℕ) (numbers : List ℤ) (r : Effects) (own : SumConditions) (j : ℕ) : Type 0 where
   pub bounded : Bounded h
-  pub parts : Says (sourcePart (sourceActionIs marks numbers r)) marks numbers
+  pub parts : Says (sourcePart (plainIs marks numbers r)) marks numbers
   pub effects : PlacesOk (h .variables) r
-  pub conditionsFew : length (sourceActionIs marks numbers r .conditions) ≤ sourceLimits .conditions
-  pub modeConditionsFew : length (sourceActionIs marks numbers r .modeConditions) ≤ sourceLimits .modeConditions
-  pub modeEffectsFew : length (sourceActionIs marks numbers r .modeEffects) ≤ sourceLimits .modes
+  pub ownFew : own .count ≤ sumRoom
+  pub ownNumbers : j + sumRoom ≤ 255
+  pub conditionsFew : length (sourceActionIs marks numbers r own .conditions) ≤ sourceLimits .conditions
+  pub modeConditionsFew : length (sourceActionIs marks numbers r own .modeConditions) ≤ sourceLimits .modeConditions
+  pub modeEffectsFew : length (sourceActionIs marks numbers r own .modeEffects) ≤ sourceLimits .modes
 
 -- the stages of its effects, and what it becomes, its stages being numbered from `from`
 abbrev pub stagesIn : Shape → Effects → List Stage

@@ -2,6 +2,7 @@
 //
 // It never looks whether there is room (its caller shows that there is) and never refuses.
 use file_actions::Effects;
+use file_actions::SumConditions;
 use file_parts::ADDITION_AMOUNT;
 use file_parts::ADDITION_COUNT;
 use file_parts::ADDITION_VARIABLE;
@@ -18,23 +19,28 @@ use file_parts::MODE_EFFECT_VALUE;
 use file_parts::NUMBERS;
 use lowering_stages::Shape;
 use lowering_stages::Stage;
+use lowering_sums::Sums;
 ghost use mathlib.Core.Path.{_≡_};
 ghost use Prim.Native.Nat.{_+_, _≤_, _<_, _%_};
 ghost use mathlib.Core.Bool.{cond};
-ghost use mathlib.Core.List.{flatMap};
+ghost use mathlib.Core.List.{map, flatMap};
 ghost use lib.Dec.{eqb};
 ghost use lib.ListN.{length};
 ghost use Rattle.lists.specs.Writing.{Room, Wrote};
 ghost use Rattle.commands.specs.Table.{letterA};
+ghost use Rattle.model.specs.FourRelations.{inFour};
+ghost use Rattle.model.specs.Sums.{keepingAll};
 ghost use Rattle.file_parts.specs.Layout.{MARKS, NUMBERS};
-ghost use Rattle.file_parts.specs.Row.{rowIs, PartsFit};
+ghost use Rattle.file_parts.specs.Row.{additionsIn, rowIs, PartsFit};
 ghost use Rattle.file_parts.specs.With.{condition};
-ghost use Rattle.file_actions.specs.Views.{effectsIs, sourceActionIs};
+ghost use Rattle.file_actions.specs.Views.{sumRoom, effectsIs, sourceActionIs};
 ghost use Rattle.lowering_stages.specs.Stages.{Small, PlacesOk, mostStages, stageNumbers};
 ghost use Rattle.lowering_stages.specs.Shapes.{Bounded};
-ghost use Rattle.lowering_rows.specs.Bytes.{conditionBytes, fourBytes, modePartBytes, additionBytes, restrictedActionBytes, inFour};
+ghost use Rattle.lowering_sums.specs.Views.{sumsIs, AmountsSmall};
+ghost use Rattle.lowering_rows.specs.Bytes.{conditionBytes, fourBytes, modePartBytes, additionBytes, restrictedActionBytes, withKept};
 ghost use Rattle.lowering_rows.specs.Bytes.{ModePartsThere, modePartsIn, rowBytes, Writable, stageRows, WroteRows};
-ghost use Rattle.lowering_rows.specs.Macros.{Constant, Fit, openingIn, Lowerable, stagesIn, stagesBytes, macroIn, Sound};
+ghost use Rattle.lowering_rows.specs.Macros.{Constant, Fit, AllFit, openingIn, withOwn, keptStages, stagesBytes, stagesIn, macroIn};
+ghost use Rattle.lowering_rows.specs.Macros.{Keeps, Lowerable, Sound};
 
 // The relation that a restricted file does not have, and the two that stand for it.
 const EQUAL: u16 = 4;
@@ -189,6 +195,27 @@ pub fn put_row(
     put_additions(out, additions, marks, numbers)
 }
 
+// A row as an action, with the + on the kept variables that go with its own.
+fn put_kept(
+    out: &mut [u8],
+    at: usize,
+    marks: &mut [u16; MARKS],
+    numbers: &mut [i64; NUMBERS],
+    first: u8,
+    sums: Sums,
+) -> usize
+    requires { ⌜ PartsFit 0 0 0 sumRoom (now marks) × (length (now numbers) ≡ NUMBERS) × AmountsSmall (additionsIn (now marks) (now numbers))
+        × Keeps first sums ⌝ }
+    requires { ⌜ Fit (withKept first (sumsIs sums) (rowIs (now marks) (now numbers))) ⌝ }
+    requires { ⌜ Room (now out) at (rowBytes letterA (inFour (withKept first (sumsIs sums) (rowIs (now marks) (now numbers))))) ⌝ }
+    ensures { λ r. ⌜ WroteRows (now (out .entry)) at
+        (rowBytes letterA (inFour (withKept first (sumsIs sums) (rowIs (now (marks .entry)) (now (numbers .entry))))))
+        (now (out .exit)) r (now (marks .exit)) (now (numbers .exit)) ⌝ }
+{
+    lowering_sums::push_kept(marks, numbers, first, sums);
+    put_row(out, at, commands::ACTION_BYTE, marks, numbers)
+}
+
 // The three actions of a stage with a number, through two lent rows.
 fn put_stage(
     out: &mut [u8],
@@ -200,18 +227,21 @@ fn put_stage(
     control: u8,
     number: u16,
     next: u16,
+    first: u8,
+    sums: Sums,
 ) -> usize
-    requires { ⌜ (length (now marks) ≡ MARKS) × (length (now numbers) ≡ NUMBERS) × Small s ⌝ }
-    requires { ⌜ Room (now out) at (flatMap (rowBytes letterA) (stageRows a control number next s)) ⌝ }
-    ensures { λ r. ⌜ WroteRows (now (out .entry)) at (flatMap (rowBytes letterA) (stageRows a control number next s)) (now (out .exit)) r
-        (now (marks .exit)) (now (numbers .exit)) ⌝ }
+    requires { ⌜ (length (now marks) ≡ MARKS) × (length (now numbers) ≡ NUMBERS) × Small s × Keeps first sums ⌝ }
+    requires { ⌜ AllFit (map (withKept first (sumsIs sums)) (stageRows a control number next s)) ⌝ }
+    requires { ⌜ Room (now out) at (flatMap (rowBytes letterA) (map (withKept first (sumsIs sums)) (stageRows a control number next s))) ⌝ }
+    ensures { λ r. ⌜ WroteRows (now (out .entry)) at (flatMap (rowBytes letterA) (map (withKept first (sumsIs sums)) (stageRows a control number next s)))
+        (now (out .exit)) r (now (marks .exit)) (now (numbers .exit)) ⌝ }
 {
     lowering_stages::push_stroke(marks, numbers, s, true, control, number);
-    let second = put_row(out, at, commands::ACTION_BYTE, marks, numbers);
+    let second = put_kept(out, at, marks, numbers, first, sums);
     lowering_stages::push_stroke(marks, numbers, s, false, control, number);
-    let third = put_row(out, second, commands::ACTION_BYTE, marks, numbers);
+    let third = put_kept(out, second, marks, numbers, first, sums);
     lowering_stages::push_turn(marks, numbers, s, a, control, number, next);
-    put_row(out, third, commands::ACTION_BYTE, marks, numbers)
+    put_kept(out, third, marks, numbers, first, sums)
 }
 
 // The stages, so many, of an action with these effects; they are numbered from `from`. Its rows are its own and not lent, so that they need not
@@ -223,11 +253,15 @@ fn put_stages(
     shape: Shape,
     count: usize,
     from: u16,
+    first: u8,
+    sums: Sums,
 ) -> usize
-    requires { ⌜ Bounded shape × PlacesOk (shape .variables) effects ⌝ }
+    requires { ⌜ Bounded shape × PlacesOk (shape .variables) effects × Keeps first sums ⌝ }
     requires { ⌜ (count ≡ length (stagesIn shape effects)) × (count ≤ mostStages) × (0 < from) × (from ≤ stageNumbers) ⌝ }
-    requires { ⌜ Room (now out) at (stagesBytes (shape .variables) (shape .modes) from (stagesIn shape effects)) ⌝ }
-    ensures { λ r. ⌜ Wrote (now (out .entry)) at (stagesBytes (shape .variables) (shape .modes) from (stagesIn shape effects)) (now (out .exit)) r ⌝ }
+    requires { ⌜ AllFit (keptStages first (sumsIs sums) (shape .variables) (shape .modes) from (stagesIn shape effects)) ⌝ }
+    requires { ⌜ Room (now out) at (stagesBytes first (sumsIs sums) (shape .variables) (shape .modes) from (stagesIn shape effects)) ⌝ }
+    ensures { λ r. ⌜ Wrote (now (out .entry)) at (stagesBytes first (sumsIs sums) (shape .variables) (shape .modes) from (stagesIn shape effects))
+        (now (out .exit)) r ⌝ }
 {
     let a = shape.variables as u8;
     let control = shape.modes as u8;
@@ -250,6 +284,8 @@ fn put_stages(
             control,
             number,
             next,
+            first,
+            sums,
         );
         number += 1;
     }
@@ -266,47 +302,75 @@ fn first_stage(from: u16, count: usize) -> u16
     from
 }
 
-// The opening or single action, from rows that have the parts of the source action.
+// The opening or single action, from rows that have the parts of the source action but for its own K's, which are on the kept variables from
+// `at_sum` on.
 fn put_opening(
     out: &mut [u8],
     at: usize,
     marks: &mut [u16; MARKS],
     numbers: &mut [i64; NUMBERS],
     effects: Effects,
+    own: SumConditions,
     shape: Shape,
     next: u16,
+    at_sum: u8,
+    first: u8,
+    sums: Sums,
 ) -> usize
-    requires { ⌜ PartsFit 1 1 1 1 (now marks) × (length (now numbers) ≡ NUMBERS) × Bounded shape × PlacesOk (shape .variables) effects ⌝ }
-    requires { ⌜ Fit (openingIn shape next (effectsIs effects) (rowIs (now marks) (now numbers))) ⌝ }
-    requires { ⌜ Room (now out) at (rowBytes letterA (inFour (openingIn shape next (effectsIs effects) (rowIs (now marks) (now numbers))))) ⌝ }
-    ensures { λ r. ⌜ WroteRows (now (out .entry)) at
-        (rowBytes letterA (inFour (openingIn shape next (effectsIs effects) (rowIs (now (marks .entry)) (now (numbers .entry))))))
+    requires { ⌜ PartsFit (1 + sumRoom) 1 1 (1 + sumRoom) (now marks) × (length (now numbers) ≡ NUMBERS)
+        × AmountsSmall (additionsIn (now marks) (now numbers)) ⌝ }
+    requires { ⌜ Bounded shape × PlacesOk (shape .variables) effects × (own .count ≤ sumRoom) × («at_sum» + sumRoom ≤ 255) × Keeps first sums ⌝ }
+    requires { ⌜ Fit (withKept first (sumsIs sums) (openingIn shape next (effectsIs effects) (withOwn «at_sum» own (rowIs (now marks) (now numbers))))) ⌝ }
+    requires { ⌜ Room (now out) at (rowBytes letterA (inFour (withKept first (sumsIs sums)
+        (openingIn shape next (effectsIs effects) (withOwn «at_sum» own (rowIs (now marks) (now numbers))))))) ⌝ }
+    ensures { λ r. ⌜ WroteRows (now (out .entry)) at (rowBytes letterA (inFour (withKept first (sumsIs sums)
+        (openingIn shape next (effectsIs effects) (withOwn «at_sum» own (rowIs (now (marks .entry)) (now (numbers .entry))))))))
         (now (out .exit)) r (now (marks .exit)) (now (numbers .exit)) ⌝ }
 {
     let a = shape.variables as u8;
     let control = shape.modes as u8;
+    lowering_sums::push_sums(marks, numbers, at_sum, own);
     lowering_stages::push_opening(marks, numbers, effects, shape, a, control, next);
-    put_row(out, at, commands::ACTION_BYTE, marks, numbers)
+    put_kept(out, at, marks, numbers, first, sums)
 }
 
-// What a source action becomes whose parts stand in two lent rows, its stages being numbered from `from`. The rows are written over.
+// What a source action becomes whose parts, but for its own K's, stand in two lent rows, its stages being numbered from `from`, and its own K's
+// being on the kept variables from `at_sum` on. The rows are written over.
 pub fn put_macro(
     out: &mut [u8],
     at: usize,
     marks: &mut [u16; MARKS],
     numbers: &mut [i64; NUMBERS],
     effects: Effects,
+    own: SumConditions,
     shape: Shape,
     from: u16,
+    at_sum: u8,
+    first: u8,
+    sums: Sums,
 ) -> usize
-    requires { ⌜ Lowerable shape (now marks) (now numbers) effects × (0 < from) × (from ≤ stageNumbers)
-        × Sound (macroIn shape from (sourceActionIs (now marks) (now numbers) effects)) ⌝ }
-    requires { ⌜ Room (now out) at (flatMap restrictedActionBytes (macroIn shape from (sourceActionIs (now marks) (now numbers) effects))) ⌝ }
-    ensures { λ r. ⌜ WroteRows (now (out .entry)) at (flatMap restrictedActionBytes (macroIn shape from
-        (sourceActionIs (now (marks .entry)) (now (numbers .entry)) effects))) (now (out .exit)) r (now (marks .exit)) (now (numbers .exit)) ⌝ }
+    requires { ⌜ Lowerable shape (now marks) (now numbers) effects own «at_sum» × Keeps first sums × (0 < from) × (from ≤ stageNumbers)
+        × Sound (keepingAll first (sumsIs sums) «at_sum» (macroIn shape from (sourceActionIs (now marks) (now numbers) effects own))) ⌝ }
+    requires { ⌜ Room (now out) at (flatMap restrictedActionBytes
+        (keepingAll first (sumsIs sums) «at_sum» (macroIn shape from (sourceActionIs (now marks) (now numbers) effects own)))) ⌝ }
+    ensures { λ r. ⌜ WroteRows (now (out .entry)) at (flatMap restrictedActionBytes
+        (keepingAll first (sumsIs sums) «at_sum» (macroIn shape from (sourceActionIs (now (marks .entry)) (now (numbers .entry)) effects own))))
+        (now (out .exit)) r (now (marks .exit)) (now (numbers .exit)) ⌝ }
 {
     let count = lowering_stages::stage_count(effects);
     let next = first_stage(from, count);
-    let place = put_opening(out, at, marks, numbers, effects, shape, next);
-    put_stages(out, place, effects, shape, count, from)
+    let place = put_opening(
+        out,
+        at,
+        marks,
+        numbers,
+        effects,
+        own,
+        shape,
+        next,
+        at_sum,
+        first,
+        sums,
+    );
+    put_stages(out, place, effects, shape, count, from, first, sums)
 }

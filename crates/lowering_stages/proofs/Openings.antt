@@ -3,7 +3,7 @@
 use mathlib.Core.Path.{_≡_, refl, sym}
 use mathlib.Core.Bool.{Bool, true, false, cond}
 use mathlib.Core.List.{List, [], _∷_, _++_, append-nil}
-use Prim.Native.Nat.{ℕ, zero, suc, _≤_}
+use Prim.Native.Nat.{ℕ, zero, suc, _+_, _≤_}
 use native.Mathlib.Omega.{arith}
 use borrow.Author.Tests.{ne-eqb}
 use lib.Dec.{eqb, lit≤}
@@ -15,9 +15,9 @@ use Rattle.integers.specs.Relation.{atMost, atLeast}
 use Rattle.model.specs.Stages.{source, when, addToA, enteringAdditions, addedBound, openingAdditions}
 use Rattle.model.specs.Lowering.{numberedAdditions, numberedConditions}
 use Rattle.file_parts.specs.Row.{rowIs, PartsFit, Says}
-use Rattle.file_parts.specs.With.{condition, withCondition, withModeCondition, withModeEffect, withAddition}
+use Rattle.file_parts.specs.With.{condition, withCondition, withModeCondition, withModeEffect, withAddition, withAdditions}
 use Rattle.file_parts.proofs.Pushing.{Sized, parts-fit}
-use Rattle.lowering_stages.specs.Stages.{givenIs, withAdditions, enteringAmount}
+use Rattle.lowering_stages.specs.Stages.{givenIs, enteringAmount}
 use Rattle.lowering_stages.specs.Openings.{boundIs, withNumeric, withOpening}
 use Rattle.lowering_stages.proofs.Effects.{entering-given}
 use Rattle.lowering_stages.proofs.Rows.{sized}
@@ -143,9 +143,9 @@ module _ {marks : List ℕ} where
             additions = omega (arith, additions-few);
           })
 
-      -- the whole has no more parts than there is room for
-      pub opening-sized : (m next : ℕ) → Sized 0 0 0 0 (withOpening a m next lower upper es (rowIs marks numbers))
-      opening-sized m next = record {
+      -- the whole has no more parts than there is room for; of the + as many more as there is room for behind its own
+      pub opening-sized : (m next more : ℕ) → PartsFit 0 0 0 (1 + more) marks → Sized 0 0 0 more (withOpening a m next lower upper es (rowIs marks numbers))
+      opening-sized m next more q = record {
         conditions = omega (arith, conditions-few);
         modeConditions = omega (arith, asked-few (m, 0));
         modeEffects = omega (
@@ -154,7 +154,12 @@ module _ {marks : List ℕ} where
           length-append (rowIs marks numbers .modeEffects) (cond (eqb 0 next) [] ((m, next) ∷ [])),
           set-few (eqb 0 next) (m, next),
         );
-        additions = omega (arith, additions-few);
+        additions = omega (
+          arith,
+          sized numbers q .additions,
+          length-append (rowIs marks numbers .additions) (numberedAdditions a (openingAdditions es)),
+          added-few es,
+        );
       }
         where
           set-few : (b : Bool) (e : ℕ × ℕ) → length (cond b [] (e ∷ [])) ≤ 1

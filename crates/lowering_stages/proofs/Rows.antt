@@ -19,14 +19,15 @@ use Rattle.lists.proofs.Each.{length-tabulate}
 use Rattle.model.specs.Tasks.{NumericCondition, RestrictedAction}
 use Rattle.model.specs.Steps.{naturalAt}
 use Rattle.model.specs.Stages.{Stage, Name, leftOver, opposite, falling, rising, turn}
-use Rattle.model.specs.Lowering.{numberOfName, numberedAdditions, allInFourRelations, numbered}
+use Rattle.model.specs.FourRelations.{allInFourRelations}
+use Rattle.model.specs.Lowering.{numberOfName, numberedAdditions, numbered}
 use Rattle.file_parts.specs.Layout.{MARKS, NUMBERS, conditionCount, modeConditionCount, modeEffectCount, additionCount}
 use Rattle.file_parts.specs.Row.{conditionIn, modeConditionIn, modeEffectIn, additionIn, rowIs, PartsFit, Says}
-use Rattle.file_parts.specs.With.{condition, withCondition, withAddition}
+use Rattle.file_parts.specs.With.{condition, withCondition, withConditions, withAddition, withAdditions}
 use Rattle.file_parts.proofs.Pushing.{Sized, parts-fit, pushed}
 use Rattle.lowering_stages.proofs.Numbers.{one-less}
 use Rattle.lowering_stages.specs.declared.Stage.{Stage as Numbers}
-use Rattle.lowering_stages.specs.Stages.{signedAt, addedIs, askedIs, givenIs, strokeIs, turnIs, Stands, StandsAt, withConditions, withAdditions}
+use Rattle.lowering_stages.specs.Stages.{signedAt, addedIs, askedIs, givenIs, strokeIs, turnIs, Stands, StandsAt}
 
 -- ---- what a turn asks of its target is in the four relations as it is
 pub asks-in-four : (s : Numbers) → allInFourRelations (askedIs s) ≡ askedIs s
@@ -199,4 +200,4 @@ module _ (a m n : ℕ) {d : Stage} {s : Numbers} (h : Stands a d s) where
   rising-is = rw (h .counter, h .deep, opposed (s .added) (s .variables) (s .amounts) (d .additions) (h .adds), eq-eqb n n refl)
 
   pub turn-is : (next : ℕ) → eqb n next ≡ false → turnIs a m n next s ≡ numbered a m (turn n d next)
-  turn-is next e = rw (h .counter, most, least, h .asks, subst (λ (cs : List (NumericCondition ℕ)). allInFourRelations cs ≡ cs) (h .asks) (asks-in-four s), h .gives, e)
+  turn-is next e = rw (h .counter, most, least, h .asks, h .gives, e)

@@ -85,13 +85,6 @@ pub record Stands (a : ℕ) (d : Stage) (s : Numbers) : Type 0 where
   pub asks : askedIs s ≡ numberedConditions a (d .turnConditions)
   pub gives : givenIs a (s .gives) ≡ numberedAdditions a (d .turnAdditions)
 
--- ---- actions with more parts
-abbrev pub withConditions : RestrictedAction → List (NumericCondition ℕ) → RestrictedAction
-withConditions x cs = record { modeConditions = x .modeConditions; conditions = x .conditions ++ cs; modeEffects = x .modeEffects; additions = x .additions }
-
-abbrev pub withAdditions : RestrictedAction → List (ℕ × ℤ) → RestrictedAction
-withAdditions x es = record { modeConditions = x .modeConditions; conditions = x .conditions; modeEffects = x .modeEffects; additions = x .additions ++ es }
-
 -- ---- the numbers of stage j of a list, where it has one
 abbrev pub StandsAt : ℕ → List Stage → ℕ → Numbers → Type 0
 StandsAt a stages j s = (d : Stage) → getElem? stages j ≡ some d → Stands a d s

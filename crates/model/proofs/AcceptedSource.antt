@@ -14,13 +14,15 @@ use Rattle.integers.specs.All.{All}
 use Rattle.integers.specs.Division.{unitLess}
 use Rattle.integers.specs.Parts.{up, down}
 use Rattle.integers.proofs.Parts.{ints}
-use Rattle.model.specs.Tasks.{NumericCondition, SourceAction, Effect, addEffect, linearEffect, quotientEffect, residueEffect, SourceTask, SourceVariable}
+use Rattle.model.specs.Tasks.{Measured, variable, weightedSum, NumericCondition, SourceAction, Effect, addEffect, linearEffect, quotientEffect}
+use Rattle.model.specs.Tasks.{residueEffect, SourceTask, SourceVariable}
 use Rattle.model.specs.NamedSystems.{modeEffectOn}
 use Rattle.model.specs.Steps.{integerAt, naturalAt, sizesOf, lowerBounds, upperBounds, sourceStart}
-use Rattle.model.specs.InTask.{Once, EffectIn, ActionIn, HoldsFor}
+use Rattle.model.specs.InTask.{MeasureIn, Once, EffectIn, ActionIn, HoldsFor}
 use Rattle.model.specs.Stages.{several, holdCount}
 use Rattle.model.specs.Limits.{Limits, sourceLimits}
-use Rattle.model.specs.TaskOk.{Distinct, keys, ValuesIn, Factor, AmountOk, ModeOk, ConditionIn, ConditionOk, EffectOk, SourceActionOk, SourceVariableOk, SourceTaskOk}
+use Rattle.model.specs.TaskOk.{Distinct, keys, ValuesIn, Factor, AmountOk, ModeOk, MeasureOk, ConditionIn, ConditionOk, EffectOk, SourceActionOk}
+use Rattle.model.specs.TaskOk.{SourceVariableOk, SourceTaskOk}
 use Rattle.model.proofs.StageWalk.{all-map}
 use Rattle.model.proofs.AcceptedPairing.{Accepted}
 use Rattle.model.proofs.ReadingLaws.{length-keys}
@@ -46,9 +48,17 @@ firsts : (sizes : List ℕ) (ps : List (ℕ × ℕ)) → ValuesIn sizes ps → D
 firsts sizes [] h = tt
 firsts sizes (p ∷ ps) (h, hs) = (h .0, firsts sizes ps hs)
 
+-- the variables of T's are declared
+terms-in : (n : ℕ) (ts : List (ℕ × ℤ)) → All (AmountOk sourceLimits n) ts → All (λ (t : ℕ × ℤ). t .0 < n) ts
+terms-in n = all-map (AmountOk sourceLimits n) (λ (t : ℕ × ℤ). t .0 < n) (λ t h. h .0)
+
+measure-in : (n : ℕ) (m : Measured ℕ) (k : ℤ) → MeasureOk sourceLimits n m k → MeasureIn (λ (i : ℕ). i < n) m
+measure-in n (variable i) k h = h .0
+measure-in n (weightedSum ts) k h = terms-in n ts (h .2 .0)
+
 pub conditions-in : (n : ℕ) (cs : List (NumericCondition ℕ)) → All (ConditionOk sourceLimits n) cs → All (ConditionIn n) cs
 conditions-in n [] h = tt
-conditions-in n (c ∷ cs) (h, hs) = (h .declared, conditions-in n cs hs)
+conditions-in n (c ∷ cs) (h, hs) = (measure-in n (c .measured) (c .constant) (h .measures), conditions-in n cs hs)
 
 pub factor-less : (c : ℤ) → Factor sourceLimits c → suc (unitLess c) ≡ natAbs c
 factor-less (pos zero) h = absurd (omega (arith, h .0))
@@ -57,11 +67,7 @@ factor-less (negsuc n) h = refl
 
 eff-in : (n : ℕ) (e : Effect) → EffectOk sourceLimits n e → EffectIn n e
 eff-in n (addEffect t c) h = h .0
-eff-in n (linearEffect t w ts) (h, k, f, (i, a)) = (h, go ts i)
-  where
-    go : (ts : List (ℕ × ℤ)) → All (AmountOk sourceLimits n) ts → All (λ (p : ℕ × ℤ). p .0 < n) ts
-    go [] i = tt
-    go (p ∷ ts) (i, is) = (i .0, go ts is)
+eff-in n (linearEffect t w ts) (h, k, f, (i, a)) = (h, terms-in n ts i)
 eff-in n (quotientEffect t y c) (h, k, f) = (h, k)
 eff-in n (residueEffect t y c) (h, k, f) = (h, k)
 

@@ -13,12 +13,13 @@ use Rattle.commands.specs.Reading.{commandAt}
 use Rattle.commands.specs.Encoding.{byteOf, NoRefusal}
 use Rattle.commands.proofs.Encoding.{byte-read}
 use Rattle.model.specs.Limits.{Limits}
-use Rattle.model.specs.ReadingState.{ReadingState, Taken, Progress, Going, Ended, Stopped, begin, stop}
-use Rattle.model.specs.Rules.{allowed, testsOf, nextOf, ruleOf, takeOf}
+use Rattle.model.specs.ReadingState.{ReadingState, Taken, Progress, Going, Ended, Stopped, begin, stop, finish}
+use Rattle.model.specs.Rules.{allowed, ruleOf, takeOf}
 use Rattle.model.specs.Reading.{Verdict, Accepted, Rejected, acceptedWith, afterCommand, refusedAt, verdictFrom, verdictOf, gather, commandsFrom}
 use Rattle.model.specs.Reading.{commandsOf, commandsAlong, verdictAlong, remainders}
 use Rattle.model.specs.Trail.{Trail, endState}
-use Rattle.model.proofs.CommandFacts.{Alive, alive-is-no-refusal, end-only}
+use Rattle.model.proofs.ReadingLaws.{Alive, end-taken}
+use Rattle.model.proofs.CommandFacts.{alive-is-no-refusal, end-only}
 
 -- ---- what is taken is the command, by its rule
 pub take-inv : (l : Limits) (p : ReadingState) (s : List ℕ) → Alive (takeOf l p s .progress)
@@ -33,10 +34,6 @@ take-inv l p s h = step (eqb (length s) 0) (allowed l p (getD s 0 0)) refl refl 
     step true y e₁ e₂ h = absurd h
     step false true e₁ e₂ h = let k : NoRefusal (commandAt s) = alive-is-no-refusal l p (commandAt s) h in (ap (allowed l p) (byte-read s k) ∙ e₂, refl, k)
     step false false e₁ e₂ h = absurd h
-
-end-same : (l : Limits) (p : ReadingState) → ruleOf l p End .state ≡ p
-unfolding testsOf nextOf
-end-same l p = refl
 
 -- ---- the whole walk
 abbrev pub Is : Verdict → Type 0
@@ -84,9 +81,11 @@ module _ (l : Limits) where
       step q Ended e f h rec =
           let (a, b, c) = take-inv l p s (subst Alive (sym f) tt) in
           let z : commandAt s ≡ End = end-only l p (commandAt s) (sym (ap (λ (t : Taken). t .progress) b) ∙ f) in
-          let st : eqb (p .section) 3 ≡ true = sym (ap (λ (c : Command). allowed l p (byteOf c)) z) ∙ a in (
-            eqb→eq (p .section) 3 (subst T (sym st) tt),
-            over-z (eqb (length s) 1) refl h (sym e ∙ ap (λ (t : Taken). t .state) b ∙ ap (λ (c : Command). ruleOf l p c .state) z ∙ end-same l p),
+          let st : eqb (p .section) 3 ≡ true = sym (ap (λ (c : Command). allowed l p (byteOf c)) z) ∙ a in
+          let is : takeOf l p s ≡ ruleOf l p End = b ∙ ap (ruleOf l p) z in
+          let n : ruleOf l p End ≡ finish p = end-taken l p (sym (ap (λ (t : Taken). t .progress) is) ∙ f) in (
+            (eqb→eq (p .section) 3 (subst T (sym st) tt), n),
+            over-z (eqb (length s) 1) refl h (sym e ∙ ap (λ (t : Taken). t .state) (is ∙ n)),
           )
         where
           over-z : (b : Bool) → eqb (length s) 1 ≡ b → Is (cond b (acceptedWith q) (Rejected 3 (at + 1))) → q ≡ p

@@ -44,7 +44,7 @@ no-edge l (c ∷ cs) p s (a, g, t) = step (isEdge c) refl (λ s′. no-edge l cs
     step false e f = let (x, y) = no-edge-byte c e in (e, f (section-taken l p c g ∙ rw (x, y) s))
 
 pub goal-in : (l : Limits) (cs : List Command) (p : ReadingState) → p .section ≤ 2 → Trail l p cs → GoalIn cs
-goal-in l [] p s t = omega (arith, s, t)
+goal-in l [] p s t = omega (arith, s, t .0)
 goal-in l (c ∷ cs) p s (a, g, t) =
     step (eqb (byteOf c) letterG) (eqb (byteOf c) letterA) (section-taken l p c g) (λ s′. goal-in l cs (ruleOf l p c .state) s′ t)
   where

@@ -10,10 +10,10 @@ use mathlib.Core.Option.{Option, none, some}
 use mathlib.Core.List.{List, [], _∷_, _++_}
 use lib.ListN.{length, length-set, getD, set, replicate, List·getD-append}
 use lib.Dec.{T, eqb, eqb→eq, eqb·suc-suc, eqb·zero-suc, eqb·suc-zero}
-use lib.IntN.{ℤ, pos, _+ℤ_}
+use lib.IntN.{ℤ, pos, _+ℤ_, _*ℤ_}
 use Rattle.integers.specs.All.{All}
 use Rattle.model.specs.Tasks.{Measured, variable, weightedSum, NumericCondition}
-use Rattle.model.specs.Steps.{measure, conditionsHold, modesHold, integerAt, naturalAt, addAll, setAll}
+use Rattle.model.specs.Steps.{measure, conditionsHold, modesHold, integerAt, naturalAt, addAll, setAll, weigh}
 use Rattle.integers.specs.Relation.{related}
 use Rattle.model.specs.NamedSystems.{modeEffectOn, orDefault, setModes}
 use Rattle.model.specs.Stages.{Name, source, helperA, helperB, hold}
@@ -202,9 +202,13 @@ values-laid-conditions n holds [] l f i L = refl
 values-laid-conditions n holds (c ∷ cs) l f (i, is) L =
     ap₂ _&&_ (ap (λ (z : ℤ). related (c .relation) z (c .constant)) (lhs (c .measured) i)) (values-laid-conditions n holds cs l f is L)
   where
+    sums : (ts : List (Name × ℤ)) → All (λ (t : Name × ℤ). NameIn n holds (t .0)) ts → weigh (numberedAdditions n ts) (integerAt l) ≡ weigh ts f
+    sums [] h = refl
+    sums (t ∷ ts) (h, hs) = ap₂ (λ (x y : ℤ). x *ℤ t .1 +ℤ y) (values-laid-get n holds l f (t .0) L h) (sums ts hs)
+
     lhs : (e : Measured Name) → MeasureIn (NameIn n holds) e → measure (numberedMeasure n e) (integerAt l) ≡ measure e f
     lhs (variable w) h = values-laid-get n holds l f w L h
-    lhs (weightedSum ts) h = absurd h
+    lhs (weightedSum ts) h = sums ts h
 
 -- ---- modes: m source modes, then control
 pub record ModesLaid (m : ℕ) (l : List ℕ) (g : ℕ → ℕ) (c : ℕ) : Type 0 where

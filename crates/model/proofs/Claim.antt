@@ -7,9 +7,8 @@ use native.Mathlib.Omega.{arith}
 use mathlib.Core.Bool.{Bool}
 use mathlib.Core.Option.{Option, some}
 use mathlib.Core.List.{List, [], _∷_}
-use lib.ListN.{length, length-append, length-replicate}
+use lib.ListN.{length, length-append}
 use lib.Dec.{T}
-use lib.IntN.{pos}
 use borrow.Author.Tests.{eq-eqb}
 use Rattle.integers.specs.All.{All}
 use Rattle.integers.specs.Numbers.{Bytes}
@@ -19,8 +18,8 @@ use Rattle.model.specs.Systems.{runPlan, totalPrice}
 use Rattle.model.specs.Steps.{conditionsHold, modesHold, integerAt, naturalAt, soundSource, soundRestricted, sizesOf, lowerBounds, upperBounds}
 use Rattle.model.specs.Steps.{sourceStart, restrictedStart, stepSource, stepRestricted, sourceGoalHolds, restrictedGoalHolds}
 use Rattle.model.specs.Tasks.{State, SourceTask, RestrictedTask}
-use Rattle.model.specs.Stages.{stageCount, holdCount}
-use Rattle.model.specs.Lowering.{restingHelpers, helpersAtRest, lowerTask, lowerFile}
+use Rattle.model.specs.Stages.{stageCount}
+use Rattle.model.specs.Lowering.{lowerMeasuring, lowerTask, lowerFile, restState}
 use Rattle.model.specs.Expansion.{sourceNumberOf, priceFrom, expandTask, projectTask}
 use Rattle.model.specs.InTask.{SourceGoal, LoweredGoal}
 use Rattle.model.specs.Decoding.{readSource, readRestricted}
@@ -29,12 +28,14 @@ use Rattle.model.specs.Plans.{planBytes, planNumbers, readPlan}
 use Rattle.model.specs.Judging.{judge, judgeSourceTask, judgeRestrictedTask, judgeSource, judgeRestricted}
 use Rattle.model.specs.Judging.{pricePlan, lowerBytes, expandBytes, projectBytes}
 use Rattle.model.specs.Claim.{Pair, PlansPair, RoundTrip}
-use Rattle.model.proofs.FourRelations.{four-hold}
 use Rattle.model.proofs.StageWalk.{and-intro, and-parts}
-use Rattle.model.proofs.LoweredPairing.{PlansPairOff, rest-of-start, plans-pair-off}
+use Rattle.model.proofs.LoweredPairing.{Kept, kept-goals, PlansPairOff, rest-of-start, plans-pair-off}
+use Rattle.model.proofs.SumsTrue.{sums-true-where-R-comes}
 use Rattle.model.proofs.ReadsBack.{reads-back}
 use Rattle.model.proofs.AcceptedSource.{accepted}
-use Rattle.model.proofs.LoweredOk.{lowered-task-ok}
+use Rattle.model.proofs.KeptOk.{kept-starts}
+use Rattle.model.proofs.LoweredSums.{sums-in-file-order}
+use Rattle.model.proofs.LoweredOk.{lowered-task-ok, measuring-starts, measuring-task-ok}
 use Rattle.model.proofs.Answers.{given-injective, then-gives, written-at-the-front}
 use Rattle.model.proofs.JudgedPlans.{judged, judges, run-count, priced, capped, plan-reads-back, plan-is-bytes, read-numbers, plan-read}
 use Rattle.model.proofs.JudgedPlans.{source-step-counts, restricted-step-counts, keep-few, few-all}
@@ -87,14 +88,29 @@ module _ (t : SourceTask) (S : SourceTaskOk t) (file : List ℕ) (e : readSource
   abbrev R : RestrictedTask
   R = lowerTask t
 
-  abbrev resting : State → State
-  resting = helpersAtRest (holdCount (t .actions))
-
   R-reads : readRestricted (lowerFile t) ≡ given R
   R-reads = reads-back R (lowered-task-ok t S)
 
-  pairing : PlansPairOff t (t .goalModes) (t .goalConditions)
-  pairing = plans-pair-off t S (t .goalModes) (t .goalConditions) (accepted t S .goalModesIn) (accepted t S .goalConditionsIn)
+  -- ---- what the pairing of lists of numbers asks and gives of the goals
+  goal-in : (x : State) → T (sourceGoalHolds t x) → SourceGoal (t .goalModes) (t .goalConditions) x
+  goal-in x = and-parts (modesHold (t .goalModes) (naturalAt (x .modes))) (conditionsHold (t .goalConditions) (integerAt (x .values)))
+
+  goal-out : (x : State) → SourceGoal (t .goalModes) (t .goalConditions) x → T (sourceGoalHolds t x)
+  goal-out x (a, b) = and-intro (modesHold (t .goalModes) (naturalAt (x .modes))) (conditionsHold (t .goalConditions) (integerAt (x .values))) a b
+
+  abbrev GoalR : State → Type 0
+  GoalR x = T (restrictedGoalHolds R x)
+
+  goalR-in : (X x : State) → Kept t X x → GoalR X → LoweredGoal (length (t .modes)) (t .goalModes) (t .goalConditions) x
+  goalR-in X x k h = and-parts (modesHold (R .goalModes) (naturalAt (x .modes))) (conditionsHold (t .goalConditions) (integerAt (x .values)))
+      (subst T (kept-goals t S X x k) h)
+
+  goalR-out : (X x : State) → Kept t X x → LoweredGoal (length (t .modes)) (t .goalModes) (t .goalConditions) x → GoalR X
+  goalR-out X x k (a, b) = subst T (sym (kept-goals t S X x k))
+      (and-intro (modesHold (R .goalModes) (naturalAt (x .modes))) (conditionsHold (t .goalConditions) (integerAt (x .values))) a b)
+
+  pairing : PlansPairOff t (t .goalModes) (t .goalConditions) GoalR
+  pairing = plans-pair-off t S (t .goalModes) (t .goalConditions) (accepted t S .goalModesIn) (accepted t S .goalConditionsIn) GoalR goalR-in goalR-out
 
   abbrev ValidT : List ℕ → State → Type 0
   ValidT = Valid (length (t .actions)) (stepSource t) (sourceGoalHolds t) (sourceStart t)
@@ -136,7 +152,7 @@ module _ (t : SourceTask) (S : SourceTaskOk t) (file : List ℕ) (e : readSource
       ∙ sym (pairing .lengths (planNumbers plan) s (v .runs))))
 
   -- ---- two valid plans, one the expansion of the other and the other its projection, are a pair
-  module _ (plan restricted : List ℕ) (b : Bytes plan) (c : Bytes restricted) (s : State) (v : ValidT plan s) (w : ValidR restricted (resting s))
+  module _ (plan restricted : List ℕ) (b : Bytes plan) (c : Bytes restricted) (s : State) (v : ValidT plan s) (w : ValidR restricted (restState t s))
       (expanded : expandTask t (planNumbers plan) ≡ planNumbers restricted) (projected : projectTask t (planNumbers restricted) ≡ planNumbers plan) where
     few : length (planNumbers restricted) ≤ 1_000_000
     few = plan-read restricted (planNumbers restricted) c (w .reads) .1
@@ -152,7 +168,7 @@ module _ (t : SourceTask) (S : SourceTaskOk t) (file : List ℕ) (e : readSource
         (ap given (ap planBytes expanded ∙ plan-read restricted (planNumbers restricted) c (w .reads) .0))
 
     projects : projectBytes file restricted ≡ given plan
-    projects = rw (e, R-reads, w .reads, judged-R restricted (resting s) w)
+    projects = rw (e, R-reads, w .reads, judged-R restricted (restState t s) w)
         (ap given (ap planBytes projected ∙ plan-read plan (planNumbers plan) b (v .reads) .0))
 
     pair : Pair t R file (lowerFile t) plan restricted
@@ -164,7 +180,7 @@ module _ (t : SourceTask) (S : SourceTaskOk t) (file : List ℕ) (e : readSource
       valid = rw (e, v .reads) (judged-T plan s v);
       endValues = values;
       endModes = modes;
-      validInR = rw (R-reads, w .reads) (judged-R restricted (resting s) w);
+      validInR = rw (R-reads, w .reads) (judged-R restricted (restState t s) w);
       price = price-is plan s v ∙ ap (λ (l : List ℕ). given (length l)) expanded;
       few = few;
       expands = expands;
@@ -174,25 +190,8 @@ module _ (t : SourceTask) (S : SourceTaskOk t) (file : List ℕ) (e : readSource
       forced = sym (expansion-follows t S (planNumbers plan) s (v .runs) (omega (arith, few, ap length expanded)) ∙ expanded);
     }
 
-  -- ---- what the pairing of lists of numbers asks and gives of the goals
-  goal-in : (x : State) → T (sourceGoalHolds t x) → SourceGoal (t .goalModes) (t .goalConditions) x
-  goal-in x = and-parts (modesHold (t .goalModes) (naturalAt (x .modes))) (conditionsHold (t .goalConditions) (integerAt (x .values)))
-
-  goal-out : (x : State) → SourceGoal (t .goalModes) (t .goalConditions) x → T (sourceGoalHolds t x)
-  goal-out x (a, b) = and-intro (modesHold (t .goalModes) (naturalAt (x .modes))) (conditionsHold (t .goalConditions) (integerAt (x .values))) a b
-
-  goalR-in : (x : State) → T (restrictedGoalHolds R x) → LoweredGoal (length (t .modes)) (t .goalModes) (t .goalConditions) x
-  goalR-in x h =
-      let (a, b) = and-parts (modesHold (R .goalModes) (naturalAt (x .modes))) (conditionsHold (R .goalConditions) (integerAt (x .values))) h in
-      (a, subst T (four-hold (t .goalConditions) (integerAt (x .values))) b)
-
-  goalR-out : (x : State) → LoweredGoal (length (t .modes)) (t .goalModes) (t .goalConditions) x → T (restrictedGoalHolds R x)
-  goalR-out x (a, b) =
-      and-intro (modesHold (R .goalModes) (naturalAt (x .modes))) (conditionsHold (R .goalConditions) (integerAt (x .values)))
-      a (subst T (sym (four-hold (t .goalConditions) (integerAt (x .values)))) b)
-
-  -- a run of R from its start is one from T's start, helpers at rest
-  from-start : (q : List ℕ) → runPlan (stepRestricted R) q (resting (sourceStart t)) ≡ runPlan (stepRestricted R) q (restrictedStart R)
+  -- a run of R from its start is one from T's start, helpers at rest and sums true
+  from-start : (q : List ℕ) → runPlan (stepRestricted R) q (restState t (sourceStart t)) ≡ runPlan (stepRestricted R) q (restrictedStart R)
   from-start q = ap (runPlan (stepRestricted R) q) (rest-of-start t S)
 
   forth : (plan : List ℕ) → Bytes plan → (n : ℕ) (s : State) → judgeSource file plan ≡ given (n, s)
@@ -202,8 +201,8 @@ module _ (t : SourceTask) (S : SourceTaskOk t) (file : List ℕ) (e : readSource
       let p : List ℕ = planNumbers plan in
       let q : List ℕ = expandTask t p in
       let (run, end, kept, _) = pairing .forth p s (v .runs) (goal-in s (v .ends)) short in
-      let (same, w) = written-is-valid (length (R .actions)) (stepRestricted R) (restrictedGoalHolds R) (restrictedStart R) few-R counts-R q (resting s)
-      short (sym (from-start q) ∙ run) (goalR-out (resting s) end) in
+      let (same, w) = written-is-valid (length (R .actions)) (stepRestricted R) (restrictedGoalHolds R) (restrictedStart R) few-R counts-R q (restState t s)
+      short (sym (from-start q) ∙ run) end in
       (planBytes q, pair plan (planBytes q) b (plan-is-bytes q) s v w (sym same) (ap (projectTask t) same ∙ kept))
 
   back : (restricted : List ℕ) → Bytes restricted → (n : ℕ) (x : State) → judgeRestricted (lowerFile t) restricted ≡ given (n, x)
@@ -213,7 +212,7 @@ module _ (t : SourceTask) (S : SourceTaskOk t) (file : List ℕ) (e : readSource
       let q : List ℕ = planNumbers restricted in
       let p : List ℕ = projectTask t q in
       let short : length q ≤ 1_000_000 = plan-read restricted q c (w .reads) .1 in
-      let (s, run, end, is, made, _) = pairing .back q x (from-start q ∙ w .runs) (goalR-in x (w .ends)) short in
+      let (s, run, end, is, made, _) = pairing .back q x (from-start q ∙ w .runs) (w .ends) short in
       let (same, v) = written-is-valid (length (t .actions)) (stepSource t) (sourceGoalHolds t) (sourceStart t) few-T counts-T p s
       (omega (arith, short, keep-few (sourceNumberOf t) q)) run (goal-out s end) in
       (planBytes p, pair (planBytes p) restricted (plan-is-bytes p) c s v (subst (ValidR restricted) is w) (ap (expandTask t) same ∙ made) (sym same))
@@ -224,10 +223,10 @@ module _ (t : SourceTask) (S : SourceTaskOk t) (file : List ℕ) (e : readSource
     reads = e;
     lowering = R;
     readsLowered = R-reads;
-    variables = length-append (sourceStart t .values) (restingHelpers (holdCount (t .actions)))
-        ∙ omega (arith, accepted t S .valuesLength, length-replicate (holdCount (t .actions)) (pos 0));
+    variables = omega (arith, kept-starts (lowerMeasuring t) (measuring-task-ok t S), measuring-starts t S, ap length (sums-in-file-order t));
     modes = length-append (t .modes) ((suc (stageCount (lowerBounds t) (upperBounds t) (t .actions)), 0) ∷ []);
     oneApplies = λ x busy. at-most-one-action-applies t x (λ z. subst T (sym (eq-eqb (naturalAt (x .modes) (length (t .modes))) 0 z) ∙ busy) tt);
+    sumsKept = sums-true-where-R-comes t S;
     priced = λ plan n s j. price-is plan s (valid-T plan n s j);
     forth = forth;
     back = back;

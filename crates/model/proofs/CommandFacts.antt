@@ -6,16 +6,17 @@ use Prim.Native.Nat.{ℕ, _+_, _≤_}
 use mathlib.Core.Bool.{Bool, true, false, cond}
 use mathlib.Core.List.{List, [], _∷_}
 use lib.Dec.{eqb, eqb→eq, leb→le}
-use Rattle.commands.specs.Table.{letterA, letterG, letterZ}
+use Rattle.commands.specs.Table.{letterA, letterT, letterG, letterZ, letterK}
 use Rattle.commands.specs.declared.Command.{Command}
-use Rattle.commands.specs.declared.Command.the-variants.{End}
+use Rattle.commands.specs.declared.Command.the-variants.{End, Refused}
 use Rattle.commands.specs.Encoding.{byteOf, NoRefusal}
-use Rattle.commands.proofs.Commands.{same, row-or-refusal, by-byte}
+use Rattle.commands.proofs.Commands.{same, same-row, row-or-refusal, by-byte}
 use Rattle.model.specs.Limits.{Limits}
 use Rattle.model.specs.ReadingState.{inAction, inGoal, ReadingState, Taken, Progress, Going, Ended, Stopped, rule, stop, finish, goOn}
-use Rattle.model.specs.Rules.{allowed, testsOf, nextOf, onwards, ruleOf}
+use Rattle.model.specs.Rules.{allowed, testsOf, nextOf, onwards, ownRuleOf, ruleOf}
 use Rattle.model.specs.Decoding.{isEdge}
-use Rattle.model.proofs.ReadingLaws.{clash, holds, Off, rule-none}
+use Rattle.model.proofs.ReadingLaws.{clash, holds, Off, rule-none, own-alive, own-goes}
+pub use Rattle.model.proofs.ReadingLaws.{Alive}
 
 -- ---- a command by its byte
 pub has-byte : (c : Command) (b : ℕ) → eqb (byteOf c) b ≡ true → byteOf c ≡ b
@@ -50,6 +51,17 @@ unfolding nextOf
 actions-after p = same (λ (c : Command). nextOf p c .actions) (λ (c : Command). cond (eqb (byteOf c) letterA) (p .actions + 1) (p .actions))
     (λ x y z. refl) (λ number. refl)
 
+pub sums-after : (p : ReadingState) (c : Command) → nextOf p c .sums ≡ cond (eqb (byteOf c) letterK) (p .sums + 1) (p .sums)
+unfolding nextOf
+sums-after p = same (λ (c : Command). nextOf p c .sums) (λ (c : Command). cond (eqb (byteOf c) letterK) (p .sums + 1) (p .sums))
+    (λ x y z. refl) (λ number. refl)
+
+pub bare-sum-after : (p : ReadingState) (c : Command)
+    → nextOf p c .bareSum ≡ cond (eqb (byteOf c) letterK) 1 (cond (eqb (byteOf c) letterT) 0 (p .bareSum))
+unfolding nextOf
+bare-sum-after p = same (λ (c : Command). nextOf p c .bareSum) (λ (c : Command). cond (eqb (byteOf c) letterK) 1 (cond (eqb (byteOf c) letterT) 0 (p .bareSum)))
+    (λ x y z. refl) (λ number. refl)
+
 -- Z ends the commands; any other goes on
 pub onwards-is : (q : ReadingState) (c : Command) → onwards c q ≡ cond (eqb (byteOf c) letterZ) (finish q) (goOn q)
 onwards-is q = same (λ (c : Command). onwards c q) (λ (c : Command). cond (eqb (byteOf c) letterZ) (finish q) (goOn q)) (λ x y z. refl) (λ number. refl)
@@ -57,8 +69,9 @@ onwards-is q = same (λ (c : Command). onwards c q) (λ (c : Command). cond (eqb
 -- a command that is taken: none of its tests holds, and the state after it is the next
 pub taken : (l : Limits) (p : ReadingState) (c : Command) → ruleOf l p c .progress ≡ Going → Off (testsOf l p c) × (ruleOf l p c .state ≡ nextOf p c)
 taken l p c g =
-    let (o, e) = rule-none p (testsOf l p c) (onwards c (nextOf p c)) g in
-    (o, ap (λ (x : Taken). x .state) (e ∙ onwards-is (nextOf p c) c) ∙ either-way (eqb (byteOf c) letterZ))
+    let (g′, own) = own-goes l p c g in
+    let (o, e) = rule-none p (testsOf l p c) (onwards c (nextOf p c)) g′ in
+    (o, ap (λ (x : Taken). x .state) (own ∙ e ∙ onwards-is (nextOf p c) c) ∙ either-way (eqb (byteOf c) letterZ))
   where
     either-way : (b : Bool) → cond b (finish (nextOf p c)) (goOn (nextOf p c)) .state ≡ nextOf p c
     either-way true = refl
@@ -72,14 +85,14 @@ module _ (l : Limits) (p : ReadingState) (c : Command) (g : ruleOf l p c .progre
   actions-taken = ap (λ (q : ReadingState). q .actions) (taken l p c g .1) ∙ actions-after p c
 
 -- ---- a refusal fails the test that it has
-abbrev pub Alive : Progress → Type 0
-Alive Going = Unit {0}
-Alive Ended = Unit {0}
-Alive (Stopped n) = ⊥
-
 pub alive-is-no-refusal : (l : Limits) (p : ReadingState) (c : Command) → Alive (ruleOf l p c .progress) → NoRefusal c
 unfolding testsOf
-alive-is-no-refusal l p = row-or-refusal (λ (c : Command). Alive (ruleOf l p c .progress) → NoRefusal c) (λ c h a. h) (λ number a. a)
+alive-is-no-refusal l p = row-or-refusal (λ (c : Command). Alive (ruleOf l p c .progress) → NoRefusal c) (λ c h a. h)
+    (λ number a. subst (λ (x : Taken). Alive (x .progress)) (own-alive l p (Refused number) a) a)
+
+-- only a refusal has byte 0
+pub has-no-zero : (c : Command) → NoRefusal c → eqb (byteOf c) 0 ≡ false
+has-no-zero = same-row (λ (c : Command). eqb (byteOf c) 0) (λ (c : Command). false) (λ x y z. refl)
 
 -- ---- only Z ends
 abbrev Ends : Progress → Type 0
@@ -97,8 +110,11 @@ rule-ends p (t ∷ ts) q h = step (t .0) h (rule-ends p ts q)
 
 pub end-only : (l : Limits) (p : ReadingState) (c : Command) → ruleOf l p c .progress ≡ Ended → c ≡ End
 end-only l p c e = step (eqb (byteOf c) letterZ) refl
-    (subst (λ (x : Taken). Ends (x .progress)) (onwards-is (nextOf p c) c) (rule-ends p (testsOf l p c) (onwards c (nextOf p c)) (subst Ends (sym e) tt)))
+    (subst (λ (x : Taken). Ends (x .progress)) (onwards-is (nextOf p c) c) (rule-ends p (testsOf l p c) (onwards c (nextOf p c)) own))
   where
+    own : Ends (ownRuleOf l p c .progress)
+    own = subst (λ (x : Taken). Ends (x .progress)) (own-alive l p c (subst Alive (sym e) tt)) (subst Ends (sym e) tt)
+
     step : (b : Bool) → eqb (byteOf c) letterZ ≡ b → Ends (cond b (finish (nextOf p c)) (goOn (nextOf p c)) .progress) → c ≡ End
     step true z h = by-byte c End (alive-is-no-refusal l p c (subst Alive (sym e) tt)) tt (has-byte c letterZ z)
     step false z h = absurd h

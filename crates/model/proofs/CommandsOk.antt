@@ -6,26 +6,32 @@ use Prim.Native.Nat.{ℕ, zero, suc, _+_, _≤_, _<_}
 use native.Mathlib.Omega.{arith}
 use mathlib.Core.Bool.{false}
 use mathlib.Core.List.{List, [], _∷_}
-use lib.ListN.{length, length-set, getD, set}
+use lib.ListN.{length, length-append, length-set, getD, set}
 use lib.Dec.{eqb, leb}
 use lib.IntN.{ℤ, natAbs}
 use Rattle.integers.specs.All.{All}
+use Rattle.integers.proofs.All.{all-app}
 use Rattle.integers.specs.Relation.{relationOf, relationNumber}
 use Rattle.commands.specs.declared.Command.{Command}
-use Rattle.commands.specs.declared.Command.the-variants.{Condition, ModeCondition, ModeEffect, Add, Linear, Term, Quotient, Residue}
-use Rattle.model.specs.Tasks.{variable, NumericCondition, Effect}
+use Rattle.commands.specs.declared.Command.the-variants.{Condition, ModeCondition, ModeEffect, Add, Linear, Term, Quotient, Residue, Sum}
+use Rattle.model.specs.Tasks.{variable, weightedSum, NumericCondition, Effect}
 use Rattle.model.specs.Steps.{naturalAt, target}
 use Rattle.model.specs.InTask.{targets}
 use Rattle.model.specs.Limits.{Limits}
 use Rattle.model.specs.ReadingState.{ReadingState, opened, withNumericEffect}
 use Rattle.model.specs.Rules.{testsOf, nextOf, constant, outside, noVariable, noMode, noRoom, alreadyTarget, notBelowSize}
-use Rattle.model.specs.Decoding.{conditionsOf, modeConditionsOf, modeEffectsOf, additionsOf, termsOf, effectsOf}
+use Rattle.model.specs.Decoding.{conditionsOf, sumConditionsOf, sourceConditionsOf, modeConditionsOf, modeEffectsOf, additionsOf, termsOf, effectsOf}
 use Rattle.model.specs.TaskOk.{Distinct, keys, ValuesIn, InRange, Factor, AmountOk, ConditionOk, ConditionsOk, TermsOk, EffectOk}
 use Rattle.model.proofs.ReadingLaws.{over, up-to, not-zero, Off, Core, Free, unset}
 
+-- the conditions of an action or goal: its C's, as a restricted task has them; its C's and K's, as a source task has them
+pub record PartConditionsOk (l : Limits) (n : ℕ) (sizes : List ℕ) (a : List Command) : Type 0 where
+  pub restricted : ConditionsOk l n sizes (modeConditionsOf a) (conditionsOf a)
+  pub source : ConditionsOk l n sizes (modeConditionsOf a) (sourceConditionsOf a)
+
 -- the commands of an action, in a task with n variables and modes of the sizes: the effects are read of it in a source file, the additions in a restricted one
 pub record PartOk (l : Limits) (n : ℕ) (sizes : List ℕ) (a : List Command) : Type 0 where
-  pub conditionsOk : ConditionsOk l n sizes (modeConditionsOf a) (conditionsOf a)
+  pub conditionsOk : PartConditionsOk l n sizes a
   pub modeEffectsIn : ValuesIn sizes (modeEffectsOf a)
   pub modeEffectsOnce : Distinct (keys (modeEffectsOf a))
   pub effectsFew : length (effectsOf a) ≤ l .numericEffects
@@ -51,8 +57,11 @@ module _ (l : Limits) (n : ℕ) (sizes : List ℕ) where
   abbrev pub ModeConditionsFrom : ℕ → List (ℕ × ℕ) → Type 0
   ModeConditionsFrom k ps = (k + length ps ≤ l .modeConditions) × ValuesIn sizes ps
 
-  abbrev pub ConditionsFrom : ℕ → List (NumericCondition ℕ) → Type 0
-  ConditionsFrom k cs = (k + length cs ≤ l .conditions) × All (ConditionOk l n) cs
+  -- C's and K's, counted together
+  pub record ConditionsFrom (k : ℕ) (cs sums : List (NumericCondition ℕ)) : Type 0 where
+    pub conditionsFew : k + (length cs + length sums) ≤ l .conditions
+    pub conditionsIn : All (ConditionOk l n) cs
+    pub sumsOk : All (ConditionOk l n) sums
 
   abbrev pub ModeEffectsFrom : List ℕ → List (ℕ × ℕ) → Type 0
   ModeEffectsFrom marks es = ValuesIn sizes es × Distinct (keys es) × Free marks (keys es)
@@ -75,7 +84,8 @@ module _ (l : Limits) (n : ℕ) (sizes : List ℕ) where
     pub termsFew : terms + length ts ≤ suc (l .terms)
 
   abbrev pub PartFrom : ReadingState → List Command → Type 0
-  PartFrom p a = ModeConditionsFrom (p .counts .modeConditions) (modeConditionsOf a) × ConditionsFrom (p .counts .conditions) (conditionsOf a)
+  PartFrom p a = ModeConditionsFrom (p .counts .modeConditions) (modeConditionsOf a)
+      × ConditionsFrom (p .counts .conditions) (conditionsOf a) (sumConditionsOf a)
       × ModeEffectsFrom (p .marks .modesSet) (modeEffectsOf a)
       × EffectsFrom (p .counts .numericEffects) (p .marks .targetsSeen) (effectsOf a) (additionsOf a) × TermsFrom (p .terms) (p .marks .termsSeen) (termsOf a)
 
@@ -111,7 +121,7 @@ module _ (l : Limits) (n : ℕ) (sizes : List ℕ) where
   pub nothing-follows : (p : ReadingState) → Counted p → PartFrom p []
   nothing-follows p i = (
     (omega (arith, i .modeConditions), tt),
-    (omega (arith, i .conditions), tt),
+    record { conditionsFew = omega (arith, i .conditions); conditionsIn = tt; sumsOk = tt },
     (tt, tt, tt),
     record {
       effectsOk = tt;
@@ -127,12 +137,20 @@ module _ (l : Limits) (n : ℕ) (sizes : List ℕ) where
   )
 
   pub conditions-whole : (p : ReadingState) (s k : ℕ) (a : List Command) → PartFrom (opened p s k) a
-      → ConditionsOk l n sizes (modeConditionsOf a) (conditionsOf a)
+      → PartConditionsOk l n sizes a
   conditions-whole p s k a (ps, cs, es, nu, ts) = record {
-    modeConditionsFew = omega (arith, ps .0);
-    modeConditionsIn = ps .1;
-    conditionsFew = omega (arith, cs .0);
-    conditionsIn = cs .1;
+    restricted = record {
+      modeConditionsFew = omega (arith, ps .0);
+      modeConditionsIn = ps .1;
+      conditionsFew = omega (arith, cs .conditionsFew);
+      conditionsIn = cs .conditionsIn;
+    };
+    source = record {
+      modeConditionsFew = omega (arith, ps .0);
+      modeConditionsIn = ps .1;
+      conditionsFew = omega (arith, cs .conditionsFew, length-append (conditionsOf a) (sumConditionsOf a));
+      conditionsIn = all-app (ConditionOk l n) (conditionsOf a) (sumConditionsOf a) (cs .conditionsIn) (cs .sumsOk);
+    };
   }
 
   pub part-whole : (p : ReadingState) (s k : ℕ) (a : List Command) → PartFrom (opened p s k) a → PartOk l n sizes a
@@ -182,11 +200,42 @@ module _ (l : Limits) (n : ℕ) (sizes : List ℕ) where
     },
     λ x R. let (ps, cs, es, nu, ts) = R in
         let ok : ConditionOk l n (record { measured = variable v; relation = relationOf r; constant = constant k }) = record {
-          declared = variable-there p v i b;
-          inRange = constant-in k e;
+          measures = (variable-there p v i b, constant-in k e);
           known = relation-within r (l .relations) (up-to (l .relations) r c);
-        } in
-        (ps, (omega (arith, cs .0), (ok, cs .1)), es, nu, no-terms p i),
+        } in (
+          ps,
+          record { conditionsFew = omega (arith, cs .conditionsFew); conditionsIn = (ok, cs .conditionsIn); sumsOk = cs .sumsOk },
+          es,
+          nu,
+          no-terms p i,
+        ),
+  )
+
+  pub sum-carries : (p : ReadingState) (r k : ℕ) → Counted p → l .restricted ≡ false → Off (testsOf l p (Sum r k)) → Carries p (Sum r k)
+  unfolding testsOf nextOf
+  sum-carries p r k i s (a, (b, (c, (e, t)))) = (
+    record {
+      core = i .core;
+      actions = i .actions;
+      modeConditions = i .modeConditions;
+      conditions = omega (arith, over (l .conditions) (p .counts .conditions) a);
+      effects = i .effects;
+      terms = omega arith;
+      modeMarks = i .modeMarks;
+      targetMarks = i .targetMarks;
+      termMarks = refl;
+    },
+    λ x R. let (ps, cs, es, nu, ts) = R in
+        let ok : ConditionOk l n (record { measured = weightedSum (termsOf x); relation = relationOf r; constant = constant k }) = record {
+          measures = (s, omega (arith, ts .termsFew), ts .termsOk, up-to (l .sumConstant) (natAbs (constant k)) e);
+          known = relation-within r (l .relations) (up-to (l .relations) r c);
+        } in (
+          ps,
+          record { conditionsFew = omega (arith, cs .conditionsFew); conditionsIn = cs .conditionsIn; sumsOk = (ok, cs .sumsOk) },
+          es,
+          nu,
+          no-terms p i,
+        ),
   )
 
   pub mode-condition-carries : (p : ReadingState) (m x : ℕ) → Counted p → Off (testsOf l p (ModeCondition m x)) → Carries p (ModeCondition m x)

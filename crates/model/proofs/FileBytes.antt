@@ -20,7 +20,8 @@ use Rattle.model.specs.ReadingState.{ReadingState, Taken, Progress, Goin
 use Rattle.model.specs.Rules.{takeOf}
 use Rattle.model.specs.Reading.{acceptedWith, Rejected, afterCommand, verdictFrom, verdictOf, gather, commandsFrom, commandsOf, commandsAlong}
 use Rattle.model.specs.Reading.{verdictAlong, remainders}
-use Rattle.model.proofs.CommandFacts.{Alive, end-only}
+use Rattle.model.proofs.ReadingLaws.{Alive}
+use Rattle.model.proofs.CommandFacts.{end-only}
 use Rattle.model.proofs.AcceptedTrail.{take-inv, Is, not-refused}
 
 one-byte : (s : List ℕ) → eqb (length s) 1 ≡ true → s ≡ getD s 0 0 ∷ []

@@ -7,23 +7,25 @@ use Prim.Native.Nat.{ℕ, _≤_}
 use native.Mathlib.Omega.{arith}
 use mathlib.Core.Bool.{_&&_, true}
 use mathlib.Core.Option.{some}
-use mathlib.Core.List.{List, []}
+use mathlib.Core.List.{List, [], _∷_}
 use lib.ListN.{length}
 use lib.Dec.{T, eqb, eqb→eq}
 use borrow.Author.Tests.{eq-eqb, ne-eqb}
 use Rattle.model.specs.Systems.{runPlan}
 use Rattle.model.specs.Tasks.{SourceTask, State}
-use Rattle.model.specs.Steps.{naturalAt, soundRestricted, sizesOf, lowerBounds, upperBounds, sourceStart, stepSource, restrictedStart, stepRestricted}
-use Rattle.model.specs.Stages.{NamedAction, holdCount}
-use Rattle.model.specs.Lowering.{helpersAtRest, lowerTask}
+use Rattle.model.specs.Steps.{naturalAt, modesHold, soundRestricted, sizesOf, lowerBounds, upperBounds, sourceStart, stepSource}
+use Rattle.model.specs.Steps.{restrictedStart, stepRestricted}
+use Rattle.model.specs.Stages.{NamedAction}
+use Rattle.model.specs.Lowering.{lowerTask, restState}
 use Rattle.model.specs.Expansion.{openingOf, sourceNumberOf, controlAtRest, expandTask, expandByFollowing, projectTask}
+use Rattle.model.specs.InTask.{LoweredGoal}
 use Rattle.model.specs.TaskOk.{SourceTaskOk}
 use Rattle.model.proofs.StageWalk.{and-parts}
 use Rattle.model.proofs.MacroPlace.{OpensOrOfAStage, opens-or-of-a-stage}
 use Rattle.model.proofs.Follow.{OpensOrGoesOn, run-is-followed}
 use Rattle.model.proofs.LoweredPairing.{PlansPairOff, rest-of-start, plans-pair-off}
 use Rattle.model.proofs.JudgedPlans.{restricted-step-counts}
-use Rattle.model.proofs.Forced.{applies-at-its-control, action-taken, at-most-one-action-applies}
+use Rattle.model.proofs.Forced.{firstKept, keptSums, applies-at-its-control, action-taken, at-most-one-action-applies}
 
 module _ (t : SourceTask) where
   abbrev control : State → ℕ
@@ -33,7 +35,8 @@ module _ (t : SourceTask) where
   opens-or-goes-on : (x : State) (k : ℕ) (y : State) → stepRestricted (lowerTask t) x k ≡ some y → OpensOrGoesOn (controlAtRest t) (openingOf t) (sourceNumberOf t) x k
   opens-or-goes-on x k y e =
       let (r, e₁, a) = action-taken t x k y e in
-      go r (opens-or-of-a-stage (lowerBounds t) (upperBounds t) (t .actions) 1 k r (omega arith) e₁) (applies-at-its-control (length (t .variables)) (length (t .modes)) x r a)
+      go r (opens-or-of-a-stage (lowerBounds t) (upperBounds t) (t .actions) 1 k r (omega arith) e₁)
+      (applies-at-its-control (length (t .variables)) (length (t .modes)) (firstKept t) (keptSums t) x r a)
     where
       go : (r : NamedAction) → OpensOrOfAStage (lowerBounds t) (upperBounds t) (t .actions) k r → control x ≡ r .control
           → OpensOrGoesOn (controlAtRest t) (openingOf t) (sourceNumberOf t) x k
@@ -48,9 +51,17 @@ module _ (t : SourceTask) where
       q 1_000_000 (restrictedStart (lowerTask t)) x l r (eq-eqb (control x) 0 h)
 
 module _ (t : SourceTask) (S : SourceTaskOk t) where
+  -- the goal of R where T has none: control is 0
+  abbrev Rests : State → Type 0
+  Rests = LoweredGoal (length (t .modes)) [] []
+
+  rests-too : (x y : State) → x .modes ≡ y .modes → Rests x → Rests y
+  rests-too x y e (h, _) = (subst (λ (ms : List ℕ). T (modesHold ((length (t .modes), 0) ∷ []) (naturalAt ms))) e h, tt)
+
   -- the pairing of plans that have no goal to reach
-  pairing : PlansPairOff t [] []
-  pairing = plans-pair-off t S [] [] tt tt
+  pairing : PlansPairOff t [] [] Rests
+  pairing = plans-pair-off t S [] [] tt tt Rests
+      (λ X x k. rests-too X x (ap (λ (y : State). y .modes) (k .1))) (λ X x k. rests-too x X (sym (ap (λ (y : State). y .modes) (k .1))))
 
   pub expansion-follows : (p : List ℕ) (s : State) → runPlan (stepSource t) p (sourceStart t) ≡ some s → length (expandTask t p) ≤ 1_000_000
       → expandByFollowing t (lowerTask t) p ≡ expandTask t p
@@ -61,7 +72,7 @@ module _ (t : SourceTask) (S : SourceTaskOk t) where
       (ended (rest .0)) l
     where
       end : State
-      end = helpersAtRest (holdCount (t .actions)) s
+      end = restState t s
 
       control : ℕ
       control = naturalAt (end .modes) (length (t .modes))

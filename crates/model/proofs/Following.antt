@@ -14,10 +14,10 @@ use Rattle.integers.specs.All.{All}
 use Rattle.lists.specs.Answer.{Answer, given, refused, then}
 use Rattle.lists.proofs.Numbers.{length-halves}
 use Rattle.model.specs.Tasks.{SourceAction, SourceTask, RestrictedTask, State}
-use Rattle.model.specs.Steps.{integerAt, sourceStep, restrictedStep, soundSource, soundRestricted, sizesOf, lowerBounds, upperBounds, sourceStart}
+use Rattle.model.specs.Steps.{sourceStep, restrictedStep, soundSource, soundRestricted, sizesOf, lowerBounds, upperBounds, sourceStart}
 use Rattle.model.specs.Steps.{stepSource, sourceGoalHolds, restrictedStart, restrictedGoalHolds}
 use Rattle.model.specs.Stages.{NamedAction, lowerActions, opening, sourceNumber, holdCount}
-use Rattle.model.specs.Lowering.{helpersAtRest, lowerTask, lowerFile}
+use Rattle.model.specs.Lowering.{helpersAtRest, lowerMeasuring, lowerTask, lowerFile, restState}
 use Rattle.model.specs.Expansion.{projectTask}
 use Rattle.model.specs.NamedSystems.{NamedState, NamedSource, byName, atRest, stepNamed, stepNamedSource, stageSteps, priceAt, deadEndSteps}
 use Rattle.model.specs.Decoding.{readSource, readRestricted}
@@ -26,7 +26,6 @@ use Rattle.model.specs.Judging.{judge, judgeRestrictedTask, projectBytes
 use Rattle.model.specs.InTask.{ActionIn, Distinct, targets}
 use Rattle.model.specs.TaskOk.{SourceTaskOk}
 use Rattle.model.specs.Following.{projectOver, macroNumbers, deadEndNumbers, opens, projectFrom}
-use Rattle.model.proofs.FourRelations.{four-hold}
 use Rattle.model.proofs.Answers.{Gives, given-injective}
 use Rattle.model.proofs.StageWalk.{Rest, all-map}
 use Rattle.model.proofs.Arrays.{modes-laid-hold}
@@ -37,9 +36,9 @@ use Rattle.model.proofs.Guards.{guard-step}
 use Rattle.model.proofs.GuardedPairing.{WithinBounds, within-bounds-is-sound, step-within-bounds}
 use Rattle.model.proofs.AcceptedPairing.{Accepted}
 use Rattle.model.proofs.AcceptedSource.{accepted}
-use Rattle.model.proofs.LoweredOk.{lowered-task-ok, write-length}
+use Rattle.model.proofs.LoweredOk.{lowered-task-ok, lowered-length}
 use Rattle.model.proofs.Figure.{Within, start-within, steps-within}
-use Rattle.model.proofs.LoweredPairing.{rest-of-start}
+use Rattle.model.proofs.LoweredPairing.{Kept, kept-steps, kept-goals, rest-of-start}
 use Rattle.model.proofs.ReadsBack.{reads-back}
 use Rattle.model.proofs.AcceptedOk.{accepted-source-ok}
 use Rattle.model.proofs.FollowingWalks.{then-made, judgedAs}
@@ -129,11 +128,15 @@ module _ (t : SourceTask) (S : SourceTaskOk t) where
   abbrev goalNames : NamedState → Bool
   goalNames = goalLowered lo hi (t .actions) all-once (t .goalModes) (t .goalConditions)
 
-  goals-same : (x : State) (y : NamedState) → RestrictedAgrees n holds m x y → goalR x ≡ goalNames y
-  goals-same x y (L, M) = ap₂ _&&_ (modes-laid-hold m (t .goalModes) (x .modes) (y .mode) (y .control) 0 (A .goalModesIn) M)
-      (four-hold (t .goalConditions) (integerAt (x .values))
-      ∙ goal-conds n holds m lo hi (t .goalConditions) (A .goalConditionsIn) (x .values) (y .value) L)
+  -- R with its sums measured
+  abbrev measuring : RestrictedTask
+  measuring = lowerMeasuring t
 
+  goals-same : (x : State) (y : NamedState) → RestrictedAgrees n holds m x y → restrictedGoalHolds measuring x ≡ goalNames y
+  goals-same x y (L, M) = ap₂ _&&_ (modes-laid-hold m (t .goalModes) (x .modes) (y .mode) (y .control) 0 (A .goalModesIn) M)
+      (goal-conds n holds m lo hi (t .goalConditions) (A .goalConditionsIn) (x .values) (y .value) L)
+
+  -- with its sums kept, with its sums measured, by names
   R-side : (c q : List ℕ) → length q ≤ 1_000_000
       → then (judgeRestrictedTask (lowerTask t) q) (λ v. given c) ≡ judgedAs count (stepNamed R) goalNames c 0 q (atRest (byName (sourceStart t)))
   R-side c q l =
@@ -143,15 +146,17 @@ module _ (t : SourceTask) (S : SourceTaskOk t) where
       (steps-within (lowerTask t) F) (within-is-sound (length (lowerTask t .starts)) (sizesOf (lowerTask t .modes)))
       q 0 (restrictedStart (lowerTask t)) (omega arith) (start-within (lowerTask t) F)
       ∙ ap (judge count (restrictedStep (lowerTask t .actions)) goalR 0 q) (sym (rest-of-start t S)))
-      ∙ judges-agree (RestrictedAgrees n holds m) (restrictedStep (lowerTask t .actions)) (stepNamed R)
+      ∙ judges-agree (Kept t) (restrictedStep (lowerTask t .actions)) (restrictedStep (measuring .actions)) (kept-steps t S)
+      goalR (restrictedGoalHolds measuring) (kept-goals t S) count c q 0 (restState t (sourceStart t)) (helpersAtRest holds (sourceStart t)) (refl, refl)
+      ∙ judges-agree (RestrictedAgrees n holds m) (restrictedStep (measuring .actions)) (stepNamed R)
       (restricted-steps-agree n holds m R (lower-in n holds m lo hi (t .actions) 1 (A .actionsIn)))
-      goalR goalNames goals-same count c q 0 (helpersAtRest holds (sourceStart t)) (atRest (byName (sourceStart t)))
+      (restrictedGoalHolds measuring) goalNames goals-same count c q 0 (helpersAtRest holds (sourceStart t)) (atRest (byName (sourceStart t)))
       (rest-agrees n holds m lo hi (sourceStart t) (A .valuesLength) (A .modesLength))
 
   -- judging a plan against R and projecting it, of an accepted task
   pub task-follows : (q : List ℕ) → length q ≤ 1_000_000
       → then (judgeRestrictedTask (lowerTask t) q) (λ v. given (projectTask t q)) ≡ projectFrom t (length q) 0 q (sourceStart t)
-  task-follows q l = R-side (projectTask t q) q l ∙ subst Statement (sym (write-length n m R)) named ∙ sym (source-side count (length q) 0 q)
+  task-follows q l = R-side (projectTask t q) q l ∙ subst Statement (sym (lowered-length t)) named ∙ sym (source-side count (length q) 0 q)
     where
       Statement : ℕ → Type 0
       Statement k = judgedAs k (stepNamed R) goalNames (projectTask t q) 0 q (atRest (byName (sourceStart t)))

@@ -18,7 +18,9 @@ use Rattle.integers.proofs.Parts.{ints}
 use Rattle.model.specs.Tasks.{SourceAction, RestrictedAction, SourceTask, State}
 use Rattle.model.specs.Steps.{integerAt, naturalAt, modesHold, conditionsHold, appliesRestricted, applyRestricted, tryRestricted, restrictedStep, soundRestricted, sizesOf, lowerBounds, upperBounds, stepRestricted}
 use Rattle.model.specs.Stages.{NamedAction, Stage, leftOver, falling, rising, turn, stageActions, firstStage, stagesActions, stagesOf, openingAction, lowerActions}
-use Rattle.model.specs.Lowering.{numberOfName, numberedConditions, numbered, numberedAll, lowerTask}
+use Rattle.model.specs.FourRelations.{inFour}
+use Rattle.model.specs.Sums.{sumsIn, sumsOf, onKept, kept, keepingAll}
+use Rattle.model.specs.Lowering.{numberOfName, numberedConditions, numbered, numberedAll, lowerMeasuring, lowerTask}
 use Rattle.model.proofs.FourRelations.{four-hold}
 use Rattle.model.proofs.Pairing.{bind-gives, some-injective}
 use Rattle.model.proofs.StageWalk.{and-parts, provided-gives, all-app, all-map, all-get, stages-from, stages-under}
@@ -45,10 +47,10 @@ module _ {A : Type 0} (P : A → Type 0) where
   one-place (r ∷ l) (h, hs) (suc j) zero u w e f a b = absurd (all-get (λ (v : A). ¬ (P v)) l j u (h (subst P (sym (some-injective f)) b)) e a)
   one-place (r ∷ l) (h, hs) (suc j) (suc k) u w e f a b = ap suc (one-place l hs j k u w e f a b)
 
--- ---- in state x, an action of R with n + 2 variables and m + 1 modes
-module _ (n m : ℕ) (x : State) where
-  abbrev Applies : NamedAction → Type 0
-  Applies r = T (appliesRestricted (numbered n m r) x)
+-- ---- in state x, an action of R, whose sums, all of them, are kept from number `first` on; its own begin at some number
+module _ (n m first : ℕ) (sums : List (List (ℕ × ℤ))) (x : State) where
+  abbrev pub Applies : NamedAction → Type 0
+  Applies r = (j : ℕ) × T (appliesRestricted (inFour (kept first sums j (numbered n m r))) x)
 
   abbrev control : ℕ
   control = naturalAt (x .modes) m
@@ -57,10 +59,14 @@ module _ (n m : ℕ) (x : State) where
   last-holds [] c t = eqb→eq control c (and-parts (eqb control c) true t .0)
   last-holds (p ∷ ps) c t = last-holds ps c (and-parts (eqb (naturalAt (x .modes) (p .0)) (p .1)) (modesHold (ps ++ ((m, c) ∷ [])) (naturalAt (x .modes))) t .1)
 
-  asked : (r : NamedAction) → Applies r → T (modesHold (numbered n m r .modeConditions) (naturalAt (x .modes))) × T (conditionsHold (numberedConditions n (r .conditions)) (integerAt (x .values)))
-  asked r t =
-      let (a, b) = and-parts (modesHold (numbered n m r .modeConditions) (naturalAt (x .modes))) (conditionsHold (numbered n m r .conditions) (integerAt (x .values))) t in
-      (a, subst T (four-hold (numberedConditions n (r .conditions)) (integerAt (x .values))) b)
+  asked : (r : NamedAction) (t : Applies r)
+      → T (modesHold (numbered n m r .modeConditions) (naturalAt (x .modes)))
+      × T (conditionsHold (onKept (t .0) (numberedConditions n (r .conditions))) (integerAt (x .values)))
+  asked r (j, t) =
+      let own = onKept j (numberedConditions n (r .conditions)) in
+      let (a, b) = and-parts (modesHold (numbered n m r .modeConditions) (naturalAt (x .modes)))
+      (conditionsHold (inFour (kept first sums j (numbered n m r)) .conditions) (integerAt (x .values))) t in
+      (a, subst T (four-hold own (integerAt (x .values))) b)
 
   pub applies-at-its-control : (r : NamedAction) → Applies r → control ≡ r .control
   applies-at-its-control r t = last-holds (r .modeConditions) (r .control) (asked r t .0)
@@ -78,8 +84,9 @@ module _ (n m : ℕ) (x : State) where
 
     turns : Applies (turn s d next) → T (leZ (pos 0) z) × T (leZ z (pos (leftOver (d .kind))))
     turns t =
-        let (a, b) = and-parts (leZ (pos 0) z) (leZ z (pos (leftOver (d .kind))) && conditionsHold (numberedConditions n (d .turnConditions)) (integerAt (x .values))) (asked (turn s d next) t .1) in
-        (a, and-parts (leZ z (pos (leftOver (d .kind)))) (conditionsHold (numberedConditions n (d .turnConditions)) (integerAt (x .values))) b .0)
+        let more : Bool = conditionsHold (onKept (t .0 + 0 + 0) (numberedConditions n (d .turnConditions))) (integerAt (x .values)) in
+        let (a, b) = and-parts (leZ (pos 0) z) (leZ z (pos (leftOver (d .kind))) && more) (asked (turn s d next) t .1) in
+        (a, and-parts (leZ z (pos (leftOver (d .kind)))) more b .0)
 
     one-of-a-stage : AtMostOne Applies (stageActions s d next)
     one-of-a-stage = (
@@ -126,15 +133,41 @@ numbered-at n m [] k a e = absurd (Option·none-ne-some a e)
 numbered-at n m (r ∷ l) zero a e = (r, refl, some-injective e)
 numbered-at n m (r ∷ l) (suc k) a e = numbered-at n m l k a e
 
+kept-at : (first : ℕ) (sums : List (List (ℕ × ℤ))) (acts : List RestrictedAction) (j k : ℕ) (b : RestrictedAction)
+    → getElem? (keepingAll first sums j acts) k ≡ some b → (a : RestrictedAction) × (i : ℕ) × (getElem? acts k ≡ some a) × (inFour (kept first sums i a) ≡ b)
+kept-at first sums [] j k b e = absurd (Option·none-ne-some b e)
+kept-at first sums (a ∷ acts) j zero b e = (a, j, refl, some-injective e)
+kept-at first sums (a ∷ acts) j (suc k) b e = kept-at first sums acts (j + length (sumsIn (a .conditions))) k b e
+
 module _ (t : SourceTask) where
+  abbrev n : ℕ
+  n = length (t .variables)
+
+  abbrev m : ℕ
+  m = length (t .modes)
+
+  -- the number of R's first kept variable, and its sums
+  abbrev pub firstKept : ℕ
+  firstKept = length (lowerMeasuring t .starts)
+
+  abbrev pub keptSums : List (List (ℕ × ℤ))
+  keptSums = sumsOf (lowerMeasuring t)
+
+  abbrev rows : List NamedAction
+  rows = lowerActions (lowerBounds t) (upperBounds t) 1 (t .actions)
+
   -- what a step takes is an action of R that applies
   pub action-taken : (x : State) (k : ℕ) (y : State) → stepRestricted (lowerTask t) x k ≡ some y
-      → (r : NamedAction) × (getElem? (lowerActions (lowerBounds t) (upperBounds t) 1 (t .actions)) k ≡ some r) × T (appliesRestricted (numbered (length (t .variables)) (length (t .modes)) r) x)
+      → (r : NamedAction) × (getElem? rows k ≡ some r) × Applies n m firstKept keptSums x r
   action-taken x k y e =
       let (z, e₁, e₂) = bind-gives (restrictedStep (lowerTask t .actions) x k) (λ y. cond (sound x) (cond (sound y) (some y) none) none) y e in
       let (a, e₃, e₄) = bind-gives (getElem? (lowerTask t .actions) k) (tryRestricted x) z e₁ in
-      let (r, e₅, e₆) = numbered-at (length (t .variables)) (length (t .modes)) (lowerActions (lowerBounds t) (upperBounds t) 1 (t .actions)) k a e₃ in
-      (r, e₅, subst (λ (u : RestrictedAction). T (appliesRestricted u x)) (sym e₆) (provided-gives (appliesRestricted a x) (applyRestricted a x) z e₄ .0))
+      let (b, j, e₅, e₆) = kept-at firstKept keptSums (lowerMeasuring t .actions) firstKept k a e₃ in
+      let (r, e₇, e₈) = numbered-at n m rows k b e₅ in
+      let same : inFour (kept firstKept keptSums j (numbered n m r)) ≡ a
+      = ap (λ (u : RestrictedAction). inFour (kept firstKept keptSums j u)) e₈ ∙ e₆ in
+      let applies = provided-gives (appliesRestricted a x) (applyRestricted a x) z e₄ .0 in
+      (r, e₇, (j, subst (λ (u : RestrictedAction). T (appliesRestricted u x)) (sym same) applies))
     where
       sound : State → Bool
       sound = soundRestricted (sizesOf (lowerTask t .modes))
@@ -145,10 +178,5 @@ module _ (t : SourceTask) where
   at-most-one-action-applies x busy j k y z e f =
       let (u, e₁, a) = action-taken x j y e in
       let (w, f₁, b) = action-taken x k z f in
-      one-place (Applies n m x) (lowerActions (lowerBounds t) (upperBounds t) 1 (t .actions)) (one-of-all n m x (lowerBounds t) (upperBounds t) 1 (t .actions) busy) j k u w e₁ f₁ a b
-    where
-      n : ℕ
-      n = length (t .variables)
-
-      m : ℕ
-      m = length (t .modes)
+      one-place (Applies n m firstKept keptSums x) rows
+      (one-of-all n m firstKept keptSums x (lowerBounds t) (upperBounds t) 1 (t .actions) busy) j k u w e₁ f₁ a b

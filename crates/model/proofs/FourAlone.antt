@@ -14,7 +14,8 @@ use Rattle.model.specs.Tasks.{NumericCondition, SourceTask, RestrictedAc
 use Rattle.model.specs.Steps.{sizesOf}
 use Rattle.model.specs.Limits.{restrictedLimits}
 use Rattle.model.specs.Decoding.{readSource, readRestricted}
-use Rattle.model.specs.Lowering.{comparing, inFourRelations, allInFourRelations, lowerTask}
+use Rattle.model.specs.FourRelations.{comparing, inFourRelations, allInFourRelations}
+use Rattle.model.specs.Lowering.{lowerTask}
 use Rattle.model.specs.TaskOk.{ConditionOk, RestrictedActionOk, RestrictedTaskOk, OneOfFour, FourAlone}
 use Rattle.model.proofs.AcceptedOk.{accepted-source-ok, accepted-restricted-ok}
 use Rattle.model.proofs.LoweredOk.{lowered-task-ok}

@@ -10,12 +10,11 @@ use lib.IntN.{ℤ}
 use lib.Signed.{leZ}
 use Rattle.integers.specs.All.{All}
 use Rattle.integers.specs.Relation.{Relation, below, atMost, atLeast, above, equal, relationNumber, related}
-use Rattle.model.specs.Tasks.{Measured, NumericCondition}
+use Rattle.model.specs.Tasks.{NumericCondition}
 use Rattle.model.specs.Steps.{measure, conditionsHold}
 use Rattle.model.specs.Limits.{restrictedLimits}
-use Rattle.model.specs.InTask.{MeasureIn}
-use Rattle.model.specs.TaskOk.{ConditionIn, InRange, ConditionOk}
-use Rattle.model.specs.Lowering.{comparing, inFourRelations, allInFourRelations}
+use Rattle.model.specs.TaskOk.{MeasureOk, ConditionOk}
+use Rattle.model.specs.FourRelations.{comparing, inFourRelations, allInFourRelations}
 use Rattle.model.proofs.StageWalk.{all-app}
 
 both-first : (a b c : Bool) → a && (b && c) ≡ (a && b) && c
@@ -47,12 +46,13 @@ four-length (c ∷ cs) = omega (arith, length-append (inFourRelations (c .measur
     one above = omega arith
     one equal = omega arith
 
-pub four-ok : (n : ℕ) (cs : List (NumericCondition ℕ)) → All (λ (c : NumericCondition ℕ). ConditionIn n c × InRange restrictedLimits (c .constant)) cs → All (ConditionOk restrictedLimits n) (allInFourRelations cs)
+pub four-ok : (n : ℕ) (cs : List (NumericCondition ℕ)) → All (λ (c : NumericCondition ℕ). MeasureOk restrictedLimits n (c .measured) (c .constant)) cs
+    → All (ConditionOk restrictedLimits n) (allInFourRelations cs)
 four-ok n [] h = tt
 four-ok n (c ∷ cs) (h, hs) = all-app (ConditionOk restrictedLimits n) (inFourRelations (c .measured) (c .relation) (c .constant)) (allInFourRelations cs) (one (c .relation)) (four-ok n cs hs)
   where
     ok : (r : Relation) → relationNumber r ≤ 3 → ConditionOk restrictedLimits n (comparing (c .measured) r (c .constant))
-    ok r k = record { declared = h .0; inRange = h .1; known = k }
+    ok r k = record { measures = h; known = k }
 
     one : (r : Relation) → All (ConditionOk restrictedLimits n) (inFourRelations (c .measured) r (c .constant))
     one below = (ok below (omega arith), tt)

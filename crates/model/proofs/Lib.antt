@@ -4,6 +4,7 @@ pub mod AcceptedSource
 pub mod AcceptedTrail
 pub mod ActionBytes
 pub mod ActionsAndGoal
+pub mod ActionsOk
 pub mod Answers
 pub mod Arrays
 pub mod Claim
@@ -28,8 +29,10 @@ pub mod FourRelations
 pub mod GuardedPairing
 pub mod Guards
 pub mod JudgedPlans
+pub mod KeptOk
 pub mod LoweredOk
 pub mod LoweredPairing
+pub mod LoweredSums
 pub mod MacroPlace
 pub mod NamedPairing
 pub mod NumberedPairing
@@ -44,6 +47,10 @@ pub mod StageValues
 pub mod StageWalk
 pub mod StagesOk
 pub mod StepBounds
+pub mod SumTerms
+pub mod Sums
+pub mod SumsAccepted
+pub mod SumsTrue
 pub mod Swapped
 pub mod TrailOfTask
 pub mod Walk

@@ -32,7 +32,6 @@ use Rattle.model.proofs.Pairing.{some-injective}
 use Rattle.model.proofs.StageWalk.{and-intro, and-parts, all-app, all-map}
 use Rattle.model.proofs.Outcomes.{Good}
 use Rattle.model.proofs.NamedPairing.{named-plans-pair-off, GoalS, GoalR}
-use Rattle.model.proofs.FourRelations.{four-hold}
 use Rattle.model.proofs.Arrays.{get-set, list-ext, replicated, NamesOnce, ValuesLaid, values-laid-all, values-laid-conditions, ModesLaid}
 use Rattle.model.proofs.Arrays.{modes-laid-all, modes-laid-set, modes-laid-hold}
 
@@ -94,8 +93,7 @@ shuffle false false c = refl
 row-applies : (n holds m : ℕ) (r : NamedAction) (X : State) (x : NamedState) → NamedActionIn n holds m r → RestrictedAgrees n holds m X x
     → appliesRestricted (numbered n m r) X ≡ applies r x
 row-applies n holds m r X x i (L, M) = ap₂ _&&_ (modes-laid-hold m (r .modeConditions) (X .modes) (x .mode) (x .control) (r .control) (i .modeConditionsIn) M)
-    (four-hold (numberedConditions n (r .conditions)) (integerAt (X .values))
-    ∙ values-laid-conditions n holds (r .conditions) (X .values) (x .value) (i .conditionsIn) L)
+    (values-laid-conditions n holds (r .conditions) (X .values) (x .value) (i .conditionsIn) L)
     ∙ shuffle (modesHold (r .modeConditions) (x .mode)) (eqb (x .control) (r .control)) (conditionsHold (r .conditions) (x .value))
 
 row-apply : (n holds m : ℕ) (r : NamedAction) (X : State) (x : NamedState) → NamedActionIn n holds m r → RestrictedAgrees n holds m X x → T (applies r x)
@@ -253,9 +251,13 @@ lift-in : (n holds : ℕ) (cs : List (NumericCondition ℕ)) → All (λ (c : Nu
 lift-in n holds [] h = tt
 lift-in n holds (c ∷ cs) (h, hs) = (lhs (c .measured) h, lift-in n holds cs hs)
   where
+    sums : (ts : List (ℕ × ℤ)) → All (λ (t : ℕ × ℤ). t .0 < n) ts → All (λ (t : Name × ℤ). NameIn n holds (t .0)) (onSourceTerms ts)
+    sums [] h = tt
+    sums (t ∷ ts) (h, hs) = (h, sums ts hs)
+
     lhs : (l : Measured ℕ) → MeasureIn (λ (i : ℕ). i < n) l → MeasureIn (NameIn n holds) (onSource l)
     lhs (variable i) h = h
-    lhs (weightedSum ts) h = absurd h
+    lhs (weightedSum ts) h = sums ts h
 
 bound-in : (n holds : ℕ) (lo hi : ℕ → ℤ) (es : List Effect) → All (EffectIn n) es
     → All (λ (c : NumericCondition Name). MeasureIn (NameIn n holds) (c .measured)) (addedBound lo hi es)
@@ -323,7 +325,7 @@ targets-in : (n k : ℕ) → k ≡ n → (es : List Effect) (v : ℕ → ℤ) �
 targets-in n k q [] v h = tt
 targets-in n k q (e ∷ es) v (h, hs) = (subst (λ (c : ℕ). target e < c) (sym q) (target-in n 0 e h), targets-in n k q es v hs)
 
-num-lift : (n : ℕ) (cs : List (NumericCondition ℕ)) → numberedConditions n (onSourceVariables cs) ≡ cs
+pub num-lift : (n : ℕ) (cs : List (NumericCondition ℕ)) → numberedConditions n (onSourceVariables cs) ≡ cs
 num-lift n [] = refl
 num-lift n (c ∷ cs) = λ i. record { measured = lhs (c .measured) i; relation = c .relation; constant = c .constant } ∷ num-lift n cs i
   where

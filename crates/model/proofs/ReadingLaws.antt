@@ -10,8 +10,12 @@ use lib.ListN.{length, length-append, length-set, getD, set, replicate, length-m
 use lib.Dec.{T, eqb, leb, ltb, nleb→lt, nltb→le, eqb·zero-suc, eqb·suc-zero, eqb·suc-suc}
 use borrow.Author.Tests.{eq-eqb, ne-eqb}
 use Rattle.integers.specs.All.{All}
+use Rattle.commands.specs.declared.Command.{Command}
+use Rattle.commands.specs.declared.Command.the-variants.{End}
+use Rattle.model.specs.Limits.{Limits}
 use Rattle.model.specs.Steps.{naturalAt}
-use Rattle.model.specs.ReadingState.{ReadingState, Taken, Progress, Going, Ended, Stopped, rule, stop, withMode}
+use Rattle.model.specs.ReadingState.{ReadingState, Taken, Progress, Going, Ended, Stopped, rule, stop, finish, withMode}
+use Rattle.model.specs.Rules.{testsOf, sumTests, nextOf, ownRuleOf, ruleOf}
 use Rattle.model.specs.TaskOk.{keys}
 use Rattle.model.proofs.Arrays.{get-set}
 
@@ -56,6 +60,38 @@ rule-none p (t ∷ ts) q e = step (t .0) refl e (λ f. rule-none p ts q f)
         → Off (t ∷ ts) × (cond b (stop p (t .1)) (rule p ts q) ≡ q)
     step true s f k = absurd (subst Goes (sym f) tt)
     step false s f k = let (o, g) = k f in ((s, o), g)
+
+-- a rule that does not stop is what is taken
+abbrev pub Alive : Progress → Type 0
+Alive Going = Unit {0}
+Alive Ended = Unit {0}
+Alive (Stopped n) = ⊥
+
+pub rule-alive : (p : ReadingState) (ts : List (Bool × ℕ)) (q : Taken) → Alive (rule p ts q .progress) → rule p ts q ≡ q
+rule-alive p [] q h = refl
+rule-alive p (t ∷ ts) q h = step (t .0) h (rule-alive p ts q)
+  where
+    step : (b : Bool) → Alive (cond b (stop p (t .1)) (rule p ts q) .progress) → (Alive (rule p ts q .progress) → rule p ts q ≡ q)
+        → cond b (stop p (t .1)) (rule p ts q) ≡ q
+    step true h k = absurd h
+    step false h k = k h
+
+-- ---- a command that is taken is taken by its own rule: no K before it has no T
+pub own-alive : (l : Limits) (p : ReadingState) (c : Command) → Alive (ruleOf l p c .progress) → ruleOf l p c ≡ ownRuleOf l p c
+own-alive l p c = rule-alive p (sumTests l p c) (ownRuleOf l p c)
+
+pub own-goes : (l : Limits) (p : ReadingState) (c : Command) → ruleOf l p c .progress ≡ Going
+    → (ownRuleOf l p c .progress ≡ Going) × (ruleOf l p c ≡ ownRuleOf l p c)
+own-goes l p c g = let e : ruleOf l p c ≡ ownRuleOf l p c = own-alive l p c (subst Alive (sym g) tt) in (sym (ap (λ (t : Taken). t .progress) e) ∙ g, e)
+
+-- Z never goes on: it is taken as the end
+pub end-never-goes : (l : Limits) (p : ReadingState) → ruleOf l p End .progress ≡ Going → ⊥
+unfolding testsOf nextOf
+end-never-goes l p g = subst Goes (sym (own-goes l p End g .0)) tt
+
+pub end-taken : (l : Limits) (p : ReadingState) → ruleOf l p End .progress ≡ Ended → ruleOf l p End ≡ finish p
+unfolding testsOf nextOf
+end-taken l p e = own-alive l p End (subst Alive (sym e) tt)
 
 -- ---- what a state knows of the declarations: n variables, and modes of the sizes
 pub record Declared (n : ℕ) (sizes : List ℕ) (count modes : ℕ) (known : List ℕ) : Type 0 where

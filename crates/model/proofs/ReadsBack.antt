@@ -24,12 +24,11 @@ use Rattle.model.specs.Rules.{constant}
 use Rattle.model.specs.Reading.{Verdict, commandsOf}
 use Rattle.model.specs.Decoding.{those, upTo, partsAt, actionsOf, goalOf, startOf, pairOf, conditionOf, amountOf, startsOf, modesOf, conditionsOf, modeConditionsOf, modeEffectsOf, additionsOf, restrictedActionOf, restrictedTaskOf, onVerdict, readRestricted}
 use Rattle.model.specs.Lowering.{startCommand, modeCommand, modeConditionCommand, conditionCommand, modeEffectCommand, additionCommand, startCommands, modeCommands, modeConditionCommands, conditionCommands, modeEffectCommands, additionCommands, actionsCommands, fileCommands, encodeFile, variableOf}
-use Rattle.model.specs.TaskOk.{ValuesIn, InRange, AmountOk, ModeOk, ConditionOk, ConditionsOk, RestrictedActionOk, RestrictedTaskOk}
-use Rattle.model.specs.InTask.{MeasureIn}
+use Rattle.model.specs.TaskOk.{ValuesIn, InRange, AmountOk, ModeOk, MeasureOk, ConditionOk, ConditionsOk, RestrictedActionOk, RestrictedTaskOk}
 use Rattle.model.proofs.Walk.{trail-accepted, trail-commands}
 use Rattle.model.proofs.StageWalk.{all-map}
 use Rattle.model.proofs.Runs.{own, skipped, no-part, no-edge, read-back}
-use Rattle.model.proofs.ReadingLaws.{length-keys}
+use Rattle.model.proofs.ReadingLaws.{clash, length-keys}
 use Rattle.model.proofs.TrailOfTask.{const-back, trail, var-in}
 
 -- ---- the operands fit their widths
@@ -76,8 +75,8 @@ module _ (n : ℕ) (n-few : n ≤ 64) (sizes : List ℕ) (m-few : length sizes �
 
   compares-ok : (cs : List (NumericCondition ℕ)) (more : List Command) → All (ConditionOk restrictedLimits n) cs → Oks more → Oks (conditionCommands cs more)
   compares-ok [] more h o = o
-  compares-ok (c ∷ cs) more (h, hs) o =
-      ((tt, (omega (arith, var-in n (c .measured) (h .declared), n-few), (rel-fits (c .relation), (fit (c .constant) (h .inRange), tt)))), compares-ok cs more hs o)
+  compares-ok (c ∷ cs) more (h, hs) o = let (v, q) = var-in n (c .measured) (c .constant) (h .measures) in
+      ((tt, (omega (arith, v, n-few), (rel-fits (c .relation), (fit (c .constant) q, tt)))), compares-ok cs more hs o)
 
   adds-ok : (es : List (ℕ × ℤ)) (more : List Command) → All (AmountOk restrictedLimits n) es → Oks more → Oks (additionCommands es more)
   adds-ok [] more h o = o
@@ -108,15 +107,15 @@ rel-back atLeast = refl
 rel-back above = refl
 rel-back equal = refl
 
-var-back : (n : ℕ) (l : Measured ℕ) → MeasureIn (λ (i : ℕ). i < n) l → variable (variableOf l) ≡ l
-var-back n (variable i) h = refl
-var-back n (weightedSum ts) h = absurd h
+var-back : (n : ℕ) (m : Measured ℕ) (k : ℤ) → MeasureOk restrictedLimits n m k → variable (variableOf m) ≡ m
+var-back n (variable i) k h = refl
+var-back n (weightedSum ts) k h = absurd (clash (h .0))
 
 conditions-back : (n : ℕ) (cs : List (NumericCondition ℕ)) → All (ConditionOk restrictedLimits n) cs → map conditionOf (conditionCommands cs []) ≡ cs
 conditions-back n = read-back conditionCommand conditionOf (ConditionOk restrictedLimits n) (λ c h i. record {
-  measured = var-back n (c .measured) (h .declared) i;
+  measured = var-back n (c .measured) (c .constant) (h .measures) i;
   relation = rel-back (c .relation) i;
-  constant = const-back (c .constant) (h .inRange) i;
+  constant = const-back (c .constant) (var-in n (c .measured) (c .constant) (h .measures) .1) i;
 })
 
 pairs-back : (f : ℕ × ℕ → Command) → ((p : ℕ × ℕ) → pairOf (f p) ≡ p) → (ps : List (ℕ × ℕ)) → map pairOf (map f ps ++ []) ≡ ps

@@ -1,25 +1,31 @@
--- "Actions with one effect keep their stages, and tasks without a multiple effect keep their lowered bytes": where no action has several effects, the
--- lowered task and its bytes are those of document 01 by itself (specs/OneEffect); and an action that has not several becomes the same macro whatever
--- the others have.
+-- "Actions with one effect keep their stages, and tasks without a multiple effect keep their lowered bytes": where no action has several effects, and
+-- no condition is on a sum, the lowered task and its bytes are those of document 01 by itself (specs/OneEffect); and an action that has not several
+-- becomes the same macro whatever the others have.
 -- Assumes nothing.
 use mathlib.Core.Path.{_≡_, refl, ap, ap₂, _∙_}
 use Prim.Native.Nat.{ℕ, zero, suc, _+_}
+use native.Mathlib.Omega.{arith}
 use mathlib.Core.Bool.{Bool, false, cond}
-use mathlib.Core.List.{List, [], _∷_, _++_}
+use mathlib.Core.List.{List, [], _∷_, _++_, append-nil, map}
 use lib.ListN.{length}
 use lib.IntN.{ℤ}
 use Rattle.integers.specs.All.{All}
 use Rattle.lists.specs.Answer.{Answer, given, then}
-use Rattle.model.specs.Tasks.{Effect, addEffect, linearEffect, quotientEffect, residueEffect, SourceAction, SourceTask}
+use Rattle.model.specs.Tasks.{Measured, variable, weightedSum, NumericCondition, Effect, addEffect, linearEffect, quotientEffect, residueEffect}
+use Rattle.model.specs.Tasks.{SourceAction, RestrictedAction, SourceTask, RestrictedTask}
 use Rattle.model.specs.Steps.{lowerBounds, upperBounds, sourceStart}
 use Rattle.model.specs.Stages.{Stage}
 use Rattle.model.specs.Stages.{firstStage, stagesActions, onSourceVariables, stagesOf, addedBound, openingAdditions, macro, lowerActions}
 use Rattle.model.specs.Stages.{stageCount, several, holdCount}
-use Rattle.model.specs.Lowering.{numberedAll, allInFourRelations, restingHelpers, lowerTask, encodeFile, lowerFile}
+use Rattle.model.specs.FourRelations.{allInFourRelations, inFour}
+use Rattle.model.specs.Sums.{sumIn, sumsIn, sumsOfActions, sumsOf, sumsOfSource, keptVariable, onKept, kept, keepingAll}
+use Rattle.model.specs.Sums.{sumValues, keepSums}
+use Rattle.model.specs.Lowering.{numberedAll, restingHelpers, lowerMeasuring, lowerTask, encodeFile, lowerFile}
 use Rattle.model.specs.Decoding.{readSource}
 use Rattle.model.specs.Judging.{lowerBytes}
 use Rattle.model.specs.OneEffect.{theEffect, additionsOfOne, stagesOfOne, boundOfOne, macroOfOne, lowerActionsOfOne, stageCountOfOne, lowerTaskOfOne, Single}
 use Rattle.model.proofs.ReadingLaws.{clash}
+use Rattle.model.proofs.LoweredSums.{sums-in-file-order}
 
 additions-kept : (es : List Effect) → several es ≡ false → openingAdditions es ≡ additionsOfOne (theEffect es)
 additions-kept [] h = refl
@@ -73,20 +79,81 @@ pub no-hold : (acts : List SourceAction) → All Single acts → holdCount acts 
 no-hold [] h = refl
 no-hold (a ∷ acts) (h, hs) = ap (λ (b : Bool). cond b 3 (holdCount acts)) h ∙ no-hold acts hs
 
-pub lowered-task-kept : (t : SourceTask) → All Single (t .actions) → lowerTask t ≡ lowerTaskOfOne t
-lowered-task-kept t h = λ i. record {
+-- ---- a task without a condition on a sum
+front-none : {A : Type 0} (xs ys : List A) → xs ++ ys ≡ [] → xs ≡ []
+front-none [] ys e = refl
+front-none (x ∷ xs) ys e = absurd (omega (arith, ap length e))
+
+rest-none : {A : Type 0} (xs ys : List A) → xs ++ ys ≡ [] → ys ≡ []
+rest-none [] ys e = e
+rest-none (x ∷ xs) ys e = absurd (omega (arith, ap length e))
+
+conditions-stay : (cs : List (NumericCondition ℕ)) (j : ℕ) → sumsIn cs ≡ [] → onKept j cs ≡ cs
+conditions-stay [] j e = refl
+conditions-stay (c ∷ cs) j e = λ i. record {
+  measured = own (c .measured) (front-none (sumIn (c .measured)) (sumsIn cs) e) i;
+  relation = c .relation;
+  constant = c .constant;
+} ∷ conditions-stay cs (j + length (sumIn (c .measured))) (rest-none (sumIn (c .measured)) (sumsIn cs) e) i
+  where
+    own : (m : Measured ℕ) → sumIn m ≡ [] → variable (keptVariable j m) ≡ m
+    own (variable i) e = refl
+    own (weightedSum ts) e = absurd (omega (arith, ap length e))
+
+actions-stay : (first j : ℕ) (acts : List RestrictedAction) → sumsOfActions acts ≡ [] → keepingAll first [] j acts ≡ map inFour acts
+actions-stay first j [] e = refl
+actions-stay first j (a ∷ acts) e = ap₂ _∷_ (ap inFour stays)
+    (actions-stay first (j + length (sumsIn (a .conditions))) acts (rest-none (sumsIn (a .conditions)) (sumsOfActions acts) e))
+  where
+    stays : kept first [] j a ≡ a
+    stays = λ i. record {
+      modeConditions = a .modeConditions;
+      conditions = conditions-stay (a .conditions) j (front-none (sumsIn (a .conditions)) (sumsOfActions acts) e) i;
+      modeEffects = a .modeEffects;
+      additions = append-nil (a .additions) i;
+    }
+
+-- keeping its sums then only writes it in four relations
+pub no-sum-kept : (r : RestrictedTask) → sumsOf r ≡ [] → keepSums r ≡ record {
+  starts = r .starts;
+  modes = r .modes;
+  actions = map inFour (r .actions);
+  goalModes = r .goalModes;
+  goalConditions = allInFourRelations (r .goalConditions);
+}
+no-sum-kept r e = λ i. record {
+  starts = starts-stay i;
+  modes = r .modes;
+  actions = stay i;
+  goalModes = r .goalModes;
+  goalConditions = allInFourRelations (conditions-stay (r .goalConditions) (length (r .starts) + length (sumsOfActions (r .actions))) goal i);
+}
+  where
+    goal : sumsIn (r .goalConditions) ≡ []
+    goal = rest-none (sumsOfActions (r .actions)) (sumsIn (r .goalConditions)) e
+
+    starts-stay : keepSums r .starts ≡ r .starts
+    starts-stay = ap (λ (sums : List (List (ℕ × ℤ))). r .starts ++ sumValues sums (r .starts)) e ∙ append-nil (r .starts)
+
+    stay : keepSums r .actions ≡ map inFour (r .actions)
+    stay = ap (λ (sums : List (List (ℕ × ℤ))). keepingAll (length (r .starts)) sums (length (r .starts)) (r .actions)) e
+        ∙ actions-stay (length (r .starts)) (length (r .starts)) (r .actions) (front-none (sumsOfActions (r .actions)) (sumsIn (r .goalConditions)) e)
+
+-- ---- a task without either
+pub lowered-task-kept : (t : SourceTask) → All Single (t .actions) → sumsOfSource t ≡ [] → lowerTask t ≡ lowerTaskOfOne t
+lowered-task-kept t h k = no-sum-kept (lowerMeasuring t) (sums-in-file-order t ∙ k) ∙ (λ i. record {
   starts = sourceStart t .values ++ restingHelpers (no-hold (t .actions) h i);
   modes = t .modes ++ ((suc (count-kept (lowerBounds t) (upperBounds t) (t .actions) h i), 0) ∷ []);
-  actions = numberedAll (length (t .variables)) (length (t .modes)) (actions-kept (lowerBounds t) (upperBounds t) 1 (t .actions) h i);
+  actions = map inFour (numberedAll (length (t .variables)) (length (t .modes)) (actions-kept (lowerBounds t) (upperBounds t) 1 (t .actions) h i));
   goalModes = t .goalModes ++ ((length (t .modes), 0) ∷ []);
   goalConditions = allInFourRelations (t .goalConditions);
-}
+})
 
 -- "tasks without a multiple effect keep their lowered bytes"
-pub lowered-bytes-kept : (t : SourceTask) → All Single (t .actions) → lowerFile t ≡ encodeFile (lowerTaskOfOne t)
-lowered-bytes-kept t h = ap encodeFile (lowered-task-kept t h)
+pub lowered-bytes-kept : (t : SourceTask) → All Single (t .actions) → sumsOfSource t ≡ [] → lowerFile t ≡ encodeFile (lowerTaskOfOne t)
+lowered-bytes-kept t h k = ap encodeFile (lowered-task-kept t h k)
 
 -- of a file, by the call that lowers it
-pub lowered-file-kept : (file : List ℕ) (t : SourceTask) → readSource file ≡ given t → All Single (t .actions)
+pub lowered-file-kept : (file : List ℕ) (t : SourceTask) → readSource file ≡ given t → All Single (t .actions) → sumsOfSource t ≡ []
     → lowerBytes file ≡ given (encodeFile (lowerTaskOfOne t))
-lowered-file-kept file t e h = ap (λ (r : Answer SourceTask). then r (λ u. given (lowerFile u))) e ∙ ap given (lowered-bytes-kept t h)
+lowered-file-kept file t e h k = ap (λ (r : Answer SourceTask). then r (λ u. given (lowerFile u))) e ∙ ap given (lowered-bytes-kept t h k)

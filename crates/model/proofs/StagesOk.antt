@@ -1,4 +1,5 @@
--- The rows that accepted source actions become keep to the restricted limits before their variables are numbered, and are few enough.
+-- The rows that accepted source actions become keep to the limits under which sums can be kept, before their variables are numbered, and are few
+-- enough.
 -- Assumes nothing.
 use mathlib.Core.Path.{_≡_, refl, ap}
 use Prim.Native.Nat.{ℕ, zero, suc, _+_, _*_, _≤_, _<_}
@@ -10,26 +11,28 @@ use lib.Signed.{ltZ}
 use lib.IntN.{ℤ, pos, negsuc, negℤ, natAbs, _-ℤ_}
 use Rattle.integers.specs.All.{All}
 use Rattle.integers.specs.Relation.{atMost, atLeast}
-use Rattle.model.specs.Tasks.{NumericCondition, SourceAction, Effect, addEffect, linearEffect, quotientEffect, residueEffect}
+use Rattle.model.specs.Tasks.{Measured, variable, weightedSum, NumericCondition, SourceAction, Effect, addEffect, linearEffect, quotientEffect}
+use Rattle.model.specs.Tasks.{residueEffect}
 use Rattle.model.specs.Stages.{Name, source, helperA, helperB, hold, NamedAction, Stage, opposite, stageActions, firstStage, stagesActions, drain, refill}
 use Rattle.model.specs.Stages.{divide, empty, clear, move, drainTerms, moveToHold, resultStages, resultIn, addToA, enteringAdditions, nextAdditions}
-use Rattle.model.specs.Stages.{holdStages, setStages, unloadStages, stagesOf, openingAdditions, onSourceVariables, addedBound, openingAction}
-use Rattle.model.specs.Stages.{lowerActions, stageCount, when, leftOver, countActions}
+use Rattle.model.specs.Stages.{holdStages, setStages, unloadStages, stagesOf, openingAdditions, onSourceTerms, onSource}
+use Rattle.model.specs.Stages.{onSourceVariables, addedBound, openingAction, lowerActions, stageCount, when, leftOver, countActions}
 use Rattle.model.specs.Steps.{target}
-use Rattle.model.specs.Limits.{sourceLimits, restrictedLimits}
-use Rattle.model.specs.TaskOk.{Distinct, keys, ValuesIn, InRange, Factor, AmountOk, ConditionOk, EffectOk, SourceActionOk}
+use Rattle.model.specs.Limits.{sourceLimits}
+use Rattle.model.specs.TaskOk.{Distinct, keys, ValuesIn, InRange, Factor, AmountOk, MeasureOk, ConditionOk, EffectOk, SourceActionOk}
 use Rattle.model.proofs.StageWalk.{all-app, body-length}
+use Rattle.model.proofs.KeptOk.{MeasureFits}
 use Rattle.model.proofs.StepBounds.{abs-sum}
 use Rattle.model.proofs.AcceptedPairing.{abs-neg, sign-upTo}
 use Rattle.model.proofs.MacroPlace.{stages-length}
 use Rattle.model.proofs.AcceptedSource.{factor-less}
 
--- ---- constants and amounts that a restricted file may have; of amounts, no more than three
-abbrev pub ConstantsIn : List (NumericCondition Name) → Type 0
-ConstantsIn cs = All (λ (c : NumericCondition Name). InRange restrictedLimits (c .constant)) cs
+-- ---- conditions with which sums can be kept; amounts as in a source file, so that a weight times one fits, and no more than three
+abbrev pub NamedFits : NumericCondition Name → Type 0
+NamedFits c = MeasureFits (c .measured) (c .constant)
 
 abbrev pub AmountsIn : List (Name × ℤ) → Type 0
-AmountsIn es = All (λ (e : Name × ℤ). Factor restrictedLimits (e .1)) es
+AmountsIn es = All (λ (e : Name × ℤ). Factor sourceLimits (e .1)) es
 
 abbrev FewAmounts : List (Name × ℤ) → Type 0
 FewAmounts es = (length es ≤ 3) × AmountsIn es
@@ -39,7 +42,7 @@ pub record RowOk (sizes : List ℕ) (z : ℕ) (r : NamedAction) : Type 0 where
   pub modeConditionsFew : length (r .modeConditions) ≤ 8
   pub modeConditionsIn : ValuesIn sizes (r .modeConditions)
   pub conditionsFew : length (r .conditions) ≤ 9
-  pub csUp : ConstantsIn (r .conditions)
+  pub csUp : All NamedFits (r .conditions)
   pub modeEffectsIn : ValuesIn sizes (r .modeEffects)
   pub esApart : Distinct (keys (r .modeEffects))
   pub additionsFew : length (r .additions) ≤ 3
@@ -51,7 +54,7 @@ pub record RowOk (sizes : List ℕ) (z : ℕ) (r : NamedAction) : Type 0 where
 record StageOk (d : Stage) : Type 0 where
   highUp : leftOver (d .kind) ≤ 10_000
   xFew : length (d .turnConditions) ≤ 2
-  xUp : ConstantsIn (d .turnConditions)
+  xUp : All NamedFits (d .turnConditions)
   aFew : length (d .additions) ≤ 3
   aUp : AmountsIn (d .additions)
   tFew : length (d .turnAdditions) ≤ 3
@@ -118,7 +121,7 @@ rows-ok sizes z o (d ∷ ds) s h (a, as₁) = all-app (RowOk sizes z) (stageActi
 
 module _ (lo hi : ℕ → ℤ) (loUp : (j : ℕ) → natAbs (lo j) ≤ 10_000) (hiUp : (j : ℕ) → natAbs (hi j) ≤ 10_000) where
   abbrev One : Type 0
-  One = (1 ≤ 1) × (1 ≤ 1_000_000_000)
+  One = (1 ≤ 1) × (1 ≤ 10_000)
 
   one : One
   one = (omega arith, omega arith)
@@ -243,9 +246,21 @@ module _ (lo hi : ℕ → ℤ) (loUp : (j : ℕ) → natAbs (lo j) ≤ 10_000) (
   abs-diff : (a b : ℤ) → natAbs (a -ℤ b) ≤ natAbs a + natAbs b
   abs-diff a b = omega (arith, abs-sum a (negℤ b), abs-neg b)
 
-  lift-ok : (n : ℕ) (cs : List (NumericCondition ℕ)) → All (ConditionOk sourceLimits n) cs → ConstantsIn (onSourceVariables cs)
+  lift-ok : (n : ℕ) (cs : List (NumericCondition ℕ)) → All (ConditionOk sourceLimits n) cs → All NamedFits (onSourceVariables cs)
   lift-ok n [] h = tt
-  lift-ok n (c ∷ cs) (h, hs) = (omega (arith, h .inRange), lift-ok n cs hs)
+  lift-ok n (c ∷ cs) (h, hs) = (one-fits (c .measured) (c .constant) (h .measures), lift-ok n cs hs)
+    where
+      weights : (ts : List (ℕ × ℤ)) → All (AmountOk sourceLimits n) ts → All (λ (t : Name × ℤ). natAbs (t .1) ≤ 10_000) (onSourceTerms ts)
+      weights [] h = tt
+      weights (t ∷ ts) (h, hs) = (h .1 .1, weights ts hs)
+
+      as-many : (ts : List (ℕ × ℤ)) → length (onSourceTerms ts) ≡ length ts
+      as-many [] = refl
+      as-many (t ∷ ts) = ap suc (as-many ts)
+
+      one-fits : (m : Measured ℕ) (k : ℤ) → MeasureOk sourceLimits n m k → MeasureFits (onSource m) k
+      one-fits (variable i) k h = omega (arith, h .1)
+      one-fits (weightedSum ts) k h = (h .3, (omega (arith, as-many ts, h .1), weights ts (h .2 .0)))
 
   length-lift : (cs : List (NumericCondition ℕ)) → length (onSourceVariables cs) ≡ length cs
   length-lift [] = refl
@@ -259,11 +274,11 @@ module _ (lo hi : ℕ → ℤ) (loUp : (j : ℕ) → natAbs (lo j) ≤ 10_000) (
   bound-few (residueEffect t y c ∷ []) = omega arith
   bound-few (e ∷ f ∷ es) = omega arith
 
-  bound-ok : (n : ℕ) (es : List Effect) → All (EffectOk sourceLimits n) es → ConstantsIn (addedBound lo hi es)
+  bound-ok : (n : ℕ) (es : List Effect) → All (EffectOk sourceLimits n) es → All NamedFits (addedBound lo hi es)
   bound-ok n [] h = tt
   bound-ok n (addEffect t c ∷ []) (h, hs) = (go (ltZ (pos 0) c), tt)
     where
-      go : (b : Bool) → natAbs (cond b (when (source t) atMost (hi t -ℤ c)) (when (source t) atLeast (lo t -ℤ c)) .constant) ≤ 1_000_000_000
+      go : (b : Bool) → NamedFits (cond b (when (source t) atMost (hi t -ℤ c)) (when (source t) atLeast (lo t -ℤ c)))
       go true = omega (arith, abs-diff (hi t) c, hiUp t, h .1 .1)
       go false = omega (arith, abs-diff (lo t) c, loUp t, h .1 .1)
   bound-ok n (linearEffect t w ts ∷ []) h = tt
@@ -292,7 +307,7 @@ module _ (lo hi : ℕ → ℤ) (loUp : (j : ℕ) → natAbs (lo j) ≤ 10_000) (
         length-lift (a .conditions),
         bound-few (a .effects),
       );
-      csUp = all-app (λ (c : NumericCondition Name). InRange restrictedLimits (c .constant)) (onSourceVariables (a .conditions)) (addedBound lo hi (a .effects))
+      csUp = all-app NamedFits (onSourceVariables (a .conditions)) (addedBound lo hi (a .effects))
           (lift-ok n (a .conditions) (k .conditionsOk .conditionsIn)) (bound-ok n (a .effects) (k .effectsOk));
       modeEffectsIn = k .modeEffectsIn;
       esApart = k .modeEffectsOnce;

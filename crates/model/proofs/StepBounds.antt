@@ -65,7 +65,7 @@ pub record AddsIn (n C : ℕ) (a : RestrictedAction) : Type 0 where
   pub once : AdditionsOnce (a .additions)
   pub upTo : All (λ (e : ℕ × ℤ). natAbs (e .1) ≤ C) (a .additions)
 
-add-length : (es : List (ℕ × ℤ)) (l : List ℤ) → length (addAll es l) ≡ length l
+pub add-length : (es : List (ℕ × ℤ)) (l : List ℤ) → length (addAll es l) ≡ length l
 add-length [] l = refl
 add-length (e ∷ es) l = add-length es (set l (e .0) (integerAt l (e .0) +ℤ e .1)) ∙ length-set l (e .0) (integerAt l (e .0) +ℤ e .1)
 

@@ -25,9 +25,9 @@ use Rattle.model.specs.ReadingState.{withModeEffect, withNumericEffect}
 use Rattle.model.specs.Rules.{allowed, testsOf, nextOf, onwards, ruleOf, constant, outside, noVariable, noMode, notBelowSize}
 use Rattle.model.specs.Lowering.{startCommands, modeCommands, modeConditionCommands, conditionCommands, modeEffectCommands, additionCommands, actionsCommands, fileCommands, variableOf}
 use Rattle.model.specs.Trail.{Trail}
-use Rattle.model.specs.TaskOk.{Distinct, keys, ValuesIn, InRange, AmountOk, ModeOk, ConditionOk, ConditionsOk, RestrictedActionOk, RestrictedTaskOk}
-use Rattle.model.specs.InTask.{MeasureIn}
-use Rattle.model.proofs.ReadingLaws.{Off, rule-go, Core, core-mode, Free, free-set, free-zero, zeros, length-keys}
+use Rattle.model.specs.TaskOk.{Distinct, keys, ValuesIn, InRange, AmountOk, ModeOk, MeasureOk, ConditionOk, ConditionsOk}
+use Rattle.model.specs.TaskOk.{RestrictedActionOk, RestrictedTaskOk}
+use Rattle.model.proofs.ReadingLaws.{clash, Off, rule-go, Core, core-mode, Free, free-set, free-zero, zeros, length-keys}
 
 abbrev l : Limits
 l = restrictedLimits
@@ -70,9 +70,10 @@ modes-run n (m ∷ ms) sizes p c s f ((h, g), hs) more k =
 declared : {n v : ℕ} {sizes : List ℕ} (p : ReadingState) → Core n sizes p → v < n → noVariable p v ≡ false
 declared {n} {v} {sizes} p c h = lt-leb (p .declared .variables) v (omega (arith, h, c .variables))
 
-pub var-in : (n : ℕ) (l : Measured ℕ) → MeasureIn (λ (i : ℕ). i < n) l → variableOf l < n
-var-in n (variable i) h = h
-var-in n (weightedSum ts) h = absurd h
+-- a condition of a restricted file compares a variable
+pub var-in : (n : ℕ) (m : Measured ℕ) (k : ℤ) → MeasureOk l n m k → (variableOf m < n) × InRange l k
+var-in n (variable i) k h = h
+var-in n (weightedSum ts) k h = absurd (clash (h .0))
 
 module _ (n : ℕ) (sizes : List ℕ) where
   mode-there : (p : ReadingState) → Core n sizes p → (e : ℕ × ℕ) → (e .0 < length sizes) × (e .1 < naturalAt sizes (e .0)) → (noMode p (e .0) ≡ false) × (notBelowSize p (e .0) (e .1) ≡ false)
@@ -97,9 +98,11 @@ module _ (n : ℕ) (sizes : List ℕ) where
       → Trail l p (conditionCommands cs more)
   unfolding testsOf nextOf
   compares-run [] p c s f h more k = k p c refl refl refl refl refl
-  compares-run (x ∷ cs) p c s f (h, hs) more k =
-      pass p (Condition (variableOf (x .measured)) (relationNumber (x .relation)) (bitsOf 4 (x .constant))) (conditionCommands cs more) refl (le-leb 2 (p .section) s)
-      (lt-leb 24 (p .counts .conditions) (omega (arith, f)), (declared p c (var-in n (x .measured) (h .declared)), (le-ltb 3 (relationNumber (x .relation)) (h .known), (in-range (x .constant) (h .inRange), tt))))
+  compares-run (x ∷ cs) p c s f (h, hs) more k = let (v, q) = var-in n (x .measured) (x .constant) (h .measures) in
+      pass p (Condition (variableOf (x .measured)) (relationNumber (x .relation)) (bitsOf 4 (x .constant))) (conditionCommands cs more) refl (le-leb 2 (p .section) s) (
+        lt-leb 24 (p .counts .conditions) (omega (arith, f)),
+        (declared p c v, (le-ltb 3 (relationNumber (x .relation)) (h .known), (in-range (x .constant) q, tt))),
+      )
       (compares-run cs (withCondition p) c s (omega (arith, f)) hs more k)
 
   effects-run : (es : List (ℕ × ℕ)) (p : ReadingState) → Core n sizes p → p .section ≡ 2 → length sizes ≤ 8 → length (p .marks .modesSet) ≡ 8 → ValuesIn sizes es → Distinct (keys es) → Free (p .marks .modesSet) (keys es) → (more : List Command)
@@ -154,7 +157,7 @@ module _ (n : ℕ) (sizes : List ℕ) where
       pass p Goal (modeConditionCommands gp (conditionCommands gc [])) refl (le-leb (p .section) 2 s) tt
       (places-run gp (opened p 3 (p .actions)) c (omega arith) (omega (arith, h .modeConditionsFew)) (h .modeConditionsIn) _
       (λ q₁ c₁ s₁ n₁ k₁ f₁ m₁ e₁. compares-run gc q₁ c₁ (omega (arith, s₁)) (omega (arith, k₁, h .conditionsFew)) (h .conditionsIn) []
-      (λ q₂ c₂ s₂ n₂ f₂ m₂ e₂. s₂ ∙ s₁)))
+      (λ q₂ c₂ s₂ n₂ f₂ m₂ e₂. (s₂ ∙ s₁, refl))))
 
 -- the commands of a well-formed task may follow one another
 pub trail : (r : RestrictedTask) → RestrictedTaskOk r → Trail l begin (fileCommands r)

@@ -42,7 +42,7 @@ module _ (l : Limits) where
       → verdictFrom l len k p at (encodeAll cs ++ encode End) ≡ acceptedWith (endState l p cs)
   unfolding remainders verdictAlong testsOf nextOf
   run-trail [] len zero p at h o t = absurd (omega arith)
-  run-trail [] len (suc k) p at h o t = rw (take-encode l p End [] (tt, tt) (end-allowed p t)) refl
+  run-trail [] len (suc k) p at h o (t, e) = rw (take-encode l p End [] (tt, tt) (end-allowed p t), e) refl
   run-trail (c ∷ cs) len zero p at h o t = absurd (omega arith)
   run-trail (c ∷ cs) len (suc k) p at h (o, os) (a, g, t) =
       ap (verdictFrom l len (suc k) p at) (append-assoc (encode c) (encodeAll cs) (encode End))
@@ -52,7 +52,7 @@ module _ (l : Limits) where
   pub trace-trail : (cs : List Command) (k : ℕ) (p : ReadingState) → length cs < k → All Fits cs → Trail l p cs → commandsFrom l k p (encodeAll cs ++ encode End) ≡ cs
   unfolding remainders commandsAlong testsOf nextOf
   trace-trail [] zero p h o t = absurd (omega arith)
-  trace-trail [] (suc k) p h o t = rw (take-encode l p End [] (tt, tt) (end-allowed p t)) refl
+  trace-trail [] (suc k) p h o (t, e) = rw (take-encode l p End [] (tt, tt) (end-allowed p t), e) refl
   trace-trail (c ∷ cs) zero p h o t = absurd (omega arith)
   trace-trail (c ∷ cs) (suc k) p h (o, os) (a, g, t) =
       ap (commandsFrom l (suc k) p) (append-assoc (encode c) (encodeAll cs) (encode End))

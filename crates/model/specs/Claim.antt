@@ -12,9 +12,11 @@ use Rattle.lists.specs.Answer.{Answer, given, lent}
 use Rattle.model.specs.Tasks.{SourceTask, RestrictedTask, State}
 use Rattle.model.specs.Decoding.{readSource, readRestricted}
 use Rattle.model.specs.Plans.{planNumbers}
-use Rattle.model.specs.Steps.{stepRestricted}
+use Rattle.model.specs.Systems.{runPlan}
+use Rattle.model.specs.Steps.{restrictedStart, stepRestricted}
 use Rattle.model.specs.Stages.{holdCount}
-use Rattle.model.specs.Lowering.{helpersAtRest}
+use Rattle.model.specs.Sums.{sumsOfSource}
+use Rattle.model.specs.Lowering.{restState, SumsTrue}
 use Rattle.model.specs.Expansion.{controlAtRest, expandTask, expandByFollowing}
 use Rattle.model.specs.Judging.{judgeSource, judgeRestricted, pricePlan, expandBytes, projectBytes}
 
@@ -35,8 +37,9 @@ pub record Pair (t : SourceTask) (r : RestrictedTask) (file lowered plan restric
   pub valid : judgeSource file plan ≡ given (steps, end)
   pub endValues : length (end .values) ≡ length (t .variables)
   pub endModes : length (end .modes) ≡ length (t .modes)
-  -- R's plan ends in that state with the helpers behind it, at rest; its count of steps is the sum of the step prices of T's plan
-  pub validInR : judgeRestricted lowered restricted ≡ given (length (planNumbers restricted), helpersAtRest (holdCount (t .actions)) end)
+  -- R's plan ends in that state with the helpers behind it, at rest, and the sums, true; its count of steps is the sum of the step prices of
+  -- T's plan
+  pub validInR : judgeRestricted lowered restricted ≡ given (length (planNumbers restricted), restState t end)
   pub price : pricePlan file plan ≡ given (length (planNumbers restricted))
   pub few : length (planNumbers restricted) ≤ 1_000_000
   -- expanding and projecting are inverse, as round trips too
@@ -49,16 +52,18 @@ pub record Pair (t : SourceTask) (r : RestrictedTask) (file lowered plan restric
   pub forced : planNumbers restricted ≡ expandByFollowing t r (planNumbers plan)
 
 pub record PlansPair (file lowered : List ℕ) : Type 0 where
-  -- T and R: what the readers find in the two files. R has A, B and the holds behind T's variables, and control behind T's modes
+  -- T and R: what the readers find in the two files. R has A, B, the holds and the kept sums behind T's variables, and control behind T's modes
   pub task : SourceTask
   pub reads : readSource file ≡ given task
   pub lowering : RestrictedTask
   pub readsLowered : readRestricted lowered ≡ given lowering
-  pub variables : length (lowering .starts) ≡ length (task .variables) + 2 + holdCount (task .actions)
+  pub variables : length (lowering .starts) ≡ length (task .variables) + (2 + holdCount (task .actions)) + length (sumsOfSource task)
   pub modes : length (lowering .modes) ≡ length (task .modes) + 1
   -- while control is not 0, no two actions of R apply, whatever the state
   pub oneApplies : (x : State) → controlAtRest task x ≡ false → (j k : ℕ) (y z : State)
       → stepRestricted lowering x j ≡ some y → stepRestricted lowering x k ≡ some z → j ≡ k
+  -- at every state that R reaches from its start, by a plan of any length, the kept values equal their sums
+  pub sumsKept : (q : List ℕ) (x : State) → runPlan (stepRestricted lowering) q (restrictedStart lowering) ≡ some x → SumsTrue task x
   -- every valid source plan has a price: the length of its expansion, however long that is
   pub priced : (plan : List ℕ) (n : ℕ) (s : State) → judgeSource file plan ≡ given (n, s)
       → pricePlan file plan ≡ given (length (expandTask task (planNumbers plan)))

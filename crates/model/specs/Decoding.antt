@@ -2,16 +2,16 @@
 -- Assumes nothing.
 use Prim.Native.Nat.{ℕ}
 use mathlib.Core.Bool.{Bool, true, cond}
-use mathlib.Core.List.{List, [], _∷_, map}
+use mathlib.Core.List.{List, [], _∷_, _++_, map}
 use lib.Dec.{eqb}
 use lib.ListN.{getD}
 use lib.IntN.{ℤ}
 use Rattle.integers.specs.Relation.{relationOf}
 use Rattle.lists.specs.Answer.{Answer, given, refused}
-use Rattle.commands.specs.Table.{letterV, letterU, letterM, letterA, letterC, letterP, letterE, plusSign, letterL, letterT, letterQ, letterR, letterG}
+use Rattle.commands.specs.Table.{letterV, letterU, letterM, letterA, letterC, letterP, letterE, plusSign, letterL, letterT, letterQ, letterR, letterG, letterK}
 use Rattle.commands.specs.Encoding.{byteOf, operands}
 use Rattle.commands.specs.declared.Command.{Command}
-use Rattle.model.specs.Tasks.{variable, NumericCondition, Effect, addEffect, linearEffect, quotientEffect, residueEffect, SourceAction}
+use Rattle.model.specs.Tasks.{variable, weightedSum, NumericCondition, Effect, addEffect, linearEffect, quotientEffect, residueEffect, SourceAction}
 use Rattle.model.specs.Tasks.{RestrictedAction, SourceVariable, SourceTask, RestrictedTask}
 use Rattle.model.specs.Limits.{sourceLimits, restrictedLimits}
 use Rattle.model.specs.Rules.{constant}
@@ -88,10 +88,22 @@ modeEffectsOf cs = map pairOf (those letterE cs)
 abbrev pub additionsOf : List Command → List (ℕ × ℤ)
 additionsOf cs = map amountOf (those plusSign cs)
 
--- "followed directly by 0 to 4 T": the T's up to the first command of another kind
+-- "followed directly by" T's: those up to the first command of another kind
 abbrev pub termsOf : List Command → List (ℕ × ℤ)
 termsOf [] = []
 termsOf (c ∷ cs) = cond (eqb (byteOf c) letterT) (amountOf c ∷ termsOf cs) []
+
+-- K relation constant, a condition on the sum of its T's
+abbrev pub sumConditionOf : Command → List (ℕ × ℤ) → NumericCondition ℕ
+sumConditionOf c ts = record { measured = weightedSum ts; relation = relationOf (operand c 0); constant = constant (operand c 1) }
+
+abbrev pub sumConditionsOf : List Command → List (NumericCondition ℕ)
+sumConditionsOf [] = []
+sumConditionsOf (c ∷ cs) = cond (eqb (byteOf c) letterK) (sumConditionOf c (termsOf cs) ∷ sumConditionsOf cs) (sumConditionsOf cs)
+
+-- the conditions of a source action or goal: its C's, and behind them its K's
+abbrev pub sourceConditionsOf : List Command → List (NumericCondition ℕ)
+sourceConditionsOf cs = conditionsOf cs ++ sumConditionsOf cs
 
 -- the numeric effects, an L with its T's
 abbrev pub effectsOf : List Command → List Effect
@@ -107,7 +119,7 @@ effectsOf (c ∷ cs) =
 abbrev pub sourceActionOf : List Command → SourceAction
 sourceActionOf cs = record {
   modeConditions = modeConditionsOf cs;
-  conditions = conditionsOf cs;
+  conditions = sourceConditionsOf cs;
   modeEffects = modeEffectsOf cs;
   effects = effectsOf cs;
 }
@@ -126,7 +138,7 @@ sourceTaskOf cs = record {
   modes = modesOf cs;
   actions = map sourceActionOf (actionsOf cs);
   goalModes = modeConditionsOf (goalOf cs);
-  goalConditions = conditionsOf (goalOf cs);
+  goalConditions = sourceConditionsOf (goalOf cs);
 }
 
 abbrev pub restrictedTaskOf : List Command → RestrictedTask

@@ -23,10 +23,10 @@ NameIn n holds helperA = Unit {0}
 NameIn n holds helperB = Unit {0}
 NameIn n holds (hold j) = j < holds
 
--- a condition of a file reads one variable, and it is declared
+-- what a condition measures is declared
 abbrev pub MeasureIn : {I : Type 0} → (I → Type 0) → Measured I → Type 0
 MeasureIn In (variable i) = In i
-MeasureIn In (weightedSum ts) = ⊥
+MeasureIn {I} In (weightedSum ts) = All (λ (t : I × ℤ). In (t .0)) ts
 
 abbrev pub Once : List (ℕ × ℕ) → Type 0
 Once [] = Unit {0}

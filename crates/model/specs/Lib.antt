@@ -2,6 +2,7 @@ pub mod ActionBytes
 pub mod Claim
 pub mod Decoding
 pub mod Expansion
+pub mod FourRelations
 pub mod Following
 pub mod InTask
 pub mod Judging
@@ -16,6 +17,7 @@ pub mod ReadingState
 pub mod Rules
 pub mod Stages
 pub mod Steps
+pub mod Sums
 pub mod Swapped
 pub mod Systems
 pub mod TaskOk

@@ -4,8 +4,8 @@ use Prim.Native.Nat.{ℕ}
 use mathlib.Core.Bool.{Bool, true, false}
 
 -- `restricted`: U in place of V, no L T Q R, several + an action. `size`: of a mode. `conditions` and `modeConditions`: C and P of an action
--- or goal. `numericEffects`: of an action, which in a restricted one are its +. `terms`: T of an L. `constant`: every constant, bound and
--- start lies within ± it. `relations`: the largest relation
+-- or goal. `numericEffects`: of an action, which in a restricted one are its +. `terms`: T of an L or a K. `constant`: every constant, bound
+-- and start lies within ± it. `relations`: the largest relation. `sums`: K of a task. `sumConstant`: every constant of a K lies within ± it
 pub record Limits : Type 0 where
   pub restricted : Bool
   pub variables : ℕ
@@ -18,6 +18,8 @@ pub record Limits : Type 0 where
   pub terms : ℕ
   pub constant : ℕ
   pub relations : ℕ
+  pub sums : ℕ
+  pub sumConstant : ℕ
 
 abbrev pub sourceLimits : Limits
 sourceLimits = record {
@@ -32,6 +34,8 @@ sourceLimits = record {
   terms = 4;
   constant = 10_000;
   relations = 4;
+  sums = 4;
+  sumConstant = 1_000_000_000;
 }
 
 abbrev pub restrictedLimits : Limits
@@ -47,4 +51,6 @@ restrictedLimits = record {
   terms = 0;
   constant = 1_000_000_000;
   relations = 3;
+  sums = 0;
+  sumConstant = 0;
 }

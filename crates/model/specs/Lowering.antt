@@ -1,18 +1,21 @@
 -- Document 01, "Lowering": R as a task and as a file.
 -- Assumes nothing.
+use mathlib.Core.Path.{_≡_}
 use Prim.Native.Nat.{ℕ, zero, suc, _+_}
 use mathlib.Core.Bool.{cond}
+use mathlib.Core.Option.{some}
 use mathlib.Core.List.{List, [], _∷_, _++_, map}
 use lib.Dec.{eqb}
-use lib.ListN.{length, replicate}
+use lib.ListN.{length, replicate, getElem?}
 use lib.IntN.{ℤ, pos}
 use Rattle.integers.specs.Numbers.{bitsOf}
-use Rattle.integers.specs.Relation.{Relation, below, atMost, atLeast, above, equal, relationNumber}
+use Rattle.integers.specs.Relation.{relationNumber}
 use Rattle.commands.specs.Encoding.{encode, encodeAll}
 use Rattle.commands.specs.declared.Command.{Command}
 use Rattle.commands.specs.declared.Command.the-variants.{Start, Mode, Action, Condition, ModeCondition, ModeEffect, Add, Goal, End}
 use Rattle.model.specs.Tasks.{Measured, variable, weightedSum, NumericCondition, SourceAction, RestrictedAction, SourceTask, RestrictedTask, State}
-use Rattle.model.specs.Steps.{lowerBounds, upperBounds, sourceStart}
+use Rattle.model.specs.Steps.{integerAt, weigh, lowerBounds, upperBounds, sourceStart}
+use Rattle.model.specs.Sums.{sumsOfSource, sumsOf, keepSums, withSums}
 use Rattle.model.specs.Stages.{Name, source, helperA, helperB, hold, NamedAction, lowerActions, stageCount, holdCount}
 
 -- ---- numbers for names: "R has T's n variables, then A (number n) and B (n+1)"; "three holds .. after B"
@@ -34,27 +37,12 @@ abbrev pub numberedConditions : ℕ → List (NumericCondition Name) → List (N
 numberedConditions n [] = []
 numberedConditions n (c ∷ cs) = record { measured = numberedMeasure n (c .measured); relation = c .relation; constant = c .constant } ∷ numberedConditions n cs
 
--- M-100, relation 4: "Lowering writes it as ≥ then ≤ in its place, so restricted files keep four relations"
-abbrev pub comparing : Measured ℕ → Relation → ℤ → NumericCondition ℕ
-comparing i r k = record { measured = i; relation = r; constant = k }
-
-abbrev pub inFourRelations : Measured ℕ → Relation → ℤ → List (NumericCondition ℕ)
-inFourRelations i below k = comparing i below k ∷ []
-inFourRelations i atMost k = comparing i atMost k ∷ []
-inFourRelations i atLeast k = comparing i atLeast k ∷ []
-inFourRelations i above k = comparing i above k ∷ []
-inFourRelations i equal k = comparing i atLeast k ∷ comparing i atMost k ∷ []
-
-abbrev pub allInFourRelations : List (NumericCondition ℕ) → List (NumericCondition ℕ)
-allInFourRelations [] = []
-allInFourRelations (c ∷ cs) = inFourRelations (c .measured) (c .relation) (c .constant) ++ allInFourRelations cs
-
 -- "T's modes, then one more, control": mode m. "P of the source, P control"; "E of the source, E control where it changes"
 module _ (n m : ℕ) where
   abbrev pub numbered : NamedAction → RestrictedAction
   numbered a = record {
     modeConditions = a .modeConditions ++ ((m, a .control) ∷ []);
-    conditions = allInFourRelations (numberedConditions n (a .conditions));
+    conditions = numberedConditions n (a .conditions);
     modeEffects = a .modeEffects ++ cond (eqb (a .control) (a .nextControl)) [] ((m, a .nextControl) ∷ []);
     additions = numberedAdditions n (a .additions);
   }
@@ -74,15 +62,30 @@ restingHelpers holds = pos 0 ∷ pos 0 ∷ replicate holds (pos 0)
 abbrev pub helpersAtRest : ℕ → State → State
 helpersAtRest holds x = record { values = x .values ++ restingHelpers holds; modes = x .modes ++ (0 ∷ []) }
 
--- A, B and the holds start at 0; control starts at 0, "its size being 1 plus the count of all stages"; "R's goal is T's goal and control 0"
-abbrev pub lowerTask : SourceTask → RestrictedTask
-lowerTask t = record {
+-- R but for two things: a condition on a sum measures the sum, and equal stands as it is. A, B and the holds start at 0; control starts at 0, "its
+-- size being 1 plus the count of all stages"; "R's goal is T's goal and control 0"
+abbrev pub lowerMeasuring : SourceTask → RestrictedTask
+lowerMeasuring t = record {
   starts = sourceStart t .values ++ restingHelpers (holdCount (t .actions));
   modes = t .modes ++ ((suc (stageCount (lowerBounds t) (upperBounds t) (t .actions)), 0) ∷ []);
   actions = loweredActions (length (t .variables)) (length (t .modes)) (lowerBounds t) (upperBounds t) (t .actions);
   goalModes = t .goalModes ++ ((length (t .modes), 0) ∷ []);
-  goalConditions = allInFourRelations (t .goalConditions);
+  goalConditions = t .goalConditions;
 }
+
+-- R: with a variable kept for each sum, and in four relations
+abbrev pub lowerTask : SourceTask → RestrictedTask
+lowerTask t = keepSums (lowerMeasuring t)
+
+-- the state of R at rest that goes with a state of T: its values, A, B and the holds at 0, then its sums; its modes, control at 0
+abbrev pub restState : SourceTask → State → State
+restState t x = withSums (sumsOf (lowerMeasuring t)) (helpersAtRest (holdCount (t .actions)) x)
+
+-- "the kept value equals its sum": of each K of T's file, in its order, the sum of its terms
+abbrev pub SumsTrue : SourceTask → State → Type 0
+SumsTrue t x =
+    (j : ℕ) (ts : List (ℕ × ℤ)) → getElem? (sumsOfSource t) j ≡ some ts
+    → integerAt (x .values) (length (t .variables) + (2 + holdCount (t .actions)) + j) ≡ weigh ts (integerAt (x .values))
 
 -- ---- the file. "Byte order in an action: A; P ..; C ..; E ..; + by rising variable"
 -- what stands in it, one command each
@@ -95,7 +98,7 @@ modeCommand m = Mode (m .0) (m .1)
 abbrev pub modeConditionCommand : ℕ × ℕ → Command
 modeConditionCommand p = ModeCondition (p .0) (p .1)
 
--- the variable of a condition (no condition of a file has a sum)
+-- the variable of a condition (no condition of a restricted file has a sum)
 abbrev pub variableOf : Measured ℕ → ℕ
 variableOf (variable i) = i
 variableOf (weightedSum ts) = zero

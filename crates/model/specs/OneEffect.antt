@@ -1,5 +1,5 @@
--- Document 01 by itself, where an action has one numeric effect or none: how it reads an action, and its lowering, in which R has no helpers but A
--- and B. What keeps of it in files whose actions have not several effects is said in proofs/SingleEffects and proofs/SingleReading.
+-- Document 01 by itself, where an action has one numeric effect or none and no condition is on a sum: how it reads an action, and its lowering, in
+-- which R has no helpers but A and B. What keeps of it in such files is said in proofs/SingleEffects and proofs/SingleReading.
 -- Assumes nothing.
 use mathlib.Core.Path.{_≡_}
 use Prim.Native.Nat.{ℕ, zero, suc, _+_}
@@ -20,7 +20,8 @@ use Rattle.model.specs.Decoding.{those, actionsOf, goalOf, operand, amou
 use Rattle.model.specs.Steps.{lowerBounds, upperBounds, sourceStart}
 use Rattle.model.specs.Stages.{Name, source, helperA, helperB, NamedAction, Stage, when, drain, refill, divide, empty, clear, move, drainTerms, addToA}
 use Rattle.model.specs.Stages.{firstStage, stagesActions, onSourceVariables, several}
-use Rattle.model.specs.Lowering.{numberedAll, allInFourRelations}
+use Rattle.model.specs.FourRelations.{allInFourRelations, inFour}
+use Rattle.model.specs.Lowering.{numberedAll}
 
 -- ---- document 01's reading of an action: its first numeric effect, an L with the T behind it
 abbrev pub effectOfOne : List Command → Option Effect
@@ -111,7 +112,7 @@ abbrev pub lowerTaskOfOne : SourceTask → RestrictedTask
 lowerTaskOfOne t = record {
   starts = sourceStart t .values ++ (pos 0 ∷ pos 0 ∷ []);
   modes = t .modes ++ ((suc (stageCountOfOne (lowerBounds t) (upperBounds t) (t .actions)), 0) ∷ []);
-  actions = numberedAll (length (t .variables)) (length (t .modes)) (lowerActionsOfOne (lowerBounds t) (upperBounds t) 1 (t .actions));
+  actions = map inFour (numberedAll (length (t .variables)) (length (t .modes)) (lowerActionsOfOne (lowerBounds t) (upperBounds t) 1 (t .actions)));
   goalModes = t .goalModes ++ ((length (t .modes), 0) ∷ []);
   goalConditions = allInFourRelations (t .goalConditions);
 }

@@ -22,24 +22,27 @@ pub record Declarations : Type 0 where
   pub modes : ℕ
   pub sizes : List ℕ
 
--- how much the action or goal has so far: C, P and numeric effects
+-- how much the action or goal has so far: C and K, P, numeric effects
 pub record Counts : Type 0 where
   pub conditions : ℕ
   pub modeConditions : ℕ
   pub numericEffects : ℕ
 
 -- what the action has touched: 1 at each mode that has its effect, at each variable that is the target of a numeric effect, and at each
--- variable that stands in a T of the last L
+-- variable that stands in a T of the last L or K
 pub record Marks : Type 0 where
   pub modesSet : List ℕ
   pub targetsSeen : List ℕ
   pub termsSeen : List ℕ
 
--- `terms`: 0 where no T may stand, else 1 plus the T's since their L
+-- `terms`: 0 where no T may stand, else 1 plus the T's since their L or K. `bareSum`: 1 from a K on until its first T, else 0. `sums`: the K's
+-- of the file so far
 pub record ReadingState : Type 0 where
   pub section : ℕ
   pub terms : ℕ
+  pub bareSum : ℕ
   pub actions : ℕ
+  pub sums : ℕ
   pub declared : Declarations
   pub counts : Counts
   pub marks : Marks
@@ -103,6 +106,10 @@ oneNumericEffect c = record { conditions = c .conditions; modeConditions = c .mo
 abbrev pub markMode : Marks → ℕ → Marks
 markMode m mode = record { modesSet = set (m .modesSet) mode 1; targetsSeen = m .targetsSeen; termsSeen = m .termsSeen }
 
+-- no T is read yet of an L or a K
+abbrev pub unmarkTerms : Marks → Marks
+unmarkTerms m = record { modesSet = m .modesSet; targetsSeen = m .targetsSeen; termsSeen = noVariables }
+
 -- the target of a numeric effect, of which no T is read yet
 abbrev pub markTarget : Marks → ℕ → Marks
 markTarget m target = record { modesSet = m .modesSet; targetsSeen = set (m .targetsSeen) target 1; termsSeen = noVariables }
@@ -112,19 +119,55 @@ markTerm m variable = record { modesSet = m .modesSet; targetsSeen = m .targetsS
 
 -- ---- the state before the first command, and after each
 abbrev pub begin : ReadingState
-begin = record { section = inDeclarations; terms = 0; actions = 0; declared = noneDeclared; counts = noneCounted; marks = noneMarked }
+begin = record {
+  section = inDeclarations;
+  terms = 0;
+  bareSum = 0;
+  actions = 0;
+  sums = 0;
+  declared = noneDeclared;
+  counts = noneCounted;
+  marks = noneMarked;
+}
 
 -- an action or the goal begins: nothing is counted in it yet
 abbrev pub opened : ReadingState → ℕ → ℕ → ReadingState
-opened p section actions = record { section = section; terms = 0; actions = actions; declared = p .declared; counts = noneCounted; marks = noneMarked }
+opened p section actions = record {
+  section = section;
+  terms = 0;
+  bareSum = p .bareSum;
+  actions = actions;
+  sums = p .sums;
+  declared = p .declared;
+  counts = noneCounted;
+  marks = noneMarked;
+}
 
 -- a declaration
 abbrev declaring : ReadingState → Declarations → ReadingState
-declaring p d = record { section = p .section; terms = 0; actions = p .actions; declared = d; counts = p .counts; marks = p .marks }
+declaring p d = record {
+  section = p .section;
+  terms = 0;
+  bareSum = p .bareSum;
+  actions = p .actions;
+  sums = p .sums;
+  declared = d;
+  counts = p .counts;
+  marks = p .marks;
+}
 
 -- a command inside an action or the goal, after which `terms` is as given
 abbrev inside : ReadingState → ℕ → Counts → Marks → ReadingState
-inside p terms c m = record { section = p .section; terms = terms; actions = p .actions; declared = p .declared; counts = c; marks = m }
+inside p terms c m = record {
+  section = p .section;
+  terms = terms;
+  bareSum = p .bareSum;
+  actions = p .actions;
+  sums = p .sums;
+  declared = p .declared;
+  counts = c;
+  marks = m;
+}
 
 abbrev pub withVariable : ReadingState → ReadingState
 withVariable p = declaring p (oneVariable (p .declared))
@@ -146,6 +189,28 @@ withModeEffect p m = inside p 0 (p .counts) (markMode (p .marks) m)
 abbrev pub withNumericEffect : ReadingState → ℕ → ℕ → ReadingState
 withNumericEffect p t terms = inside p terms (oneNumericEffect (p .counts)) (markTarget (p .marks) t)
 
--- a T on variable v
+-- K: a condition more, of which no T is read yet
+abbrev pub withSum : ReadingState → ReadingState
+withSum p = record {
+  section = p .section;
+  terms = 1;
+  bareSum = 1;
+  actions = p .actions;
+  sums = p .sums + 1;
+  declared = p .declared;
+  counts = oneCondition (p .counts);
+  marks = unmarkTerms (p .marks);
+}
+
+-- a T on variable v, of an L or a K
 abbrev pub withTerm : ReadingState → ℕ → ReadingState
-withTerm p v = inside p (p .terms + 1) (p .counts) (markTerm (p .marks) v)
+withTerm p v = record {
+  section = p .section;
+  terms = p .terms + 1;
+  bareSum = 0;
+  actions = p .actions;
+  sums = p .sums;
+  declared = p .declared;
+  counts = p .counts;
+  marks = markTerm (p .marks) v;
+}

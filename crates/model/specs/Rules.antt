@@ -1,5 +1,5 @@
 -- Document 01, "Files" and "Refusals by number": the rules on a file of either kind, command by command. What one command makes of the
--- state before it, or the number of the refusal; within one command the order is 1, 2, 4, 5, 6, 7.
+-- state before it, or the number of the refusal; within one command the order is 1, 2, 14, 4, 5, 6, 7.
 -- Assumes nothing.
 use Prim.Native.Nat.{ℕ, _+_}
 use mathlib.Core.Bool.{Bool, true, false, cond, not}
@@ -9,21 +9,24 @@ use lib.Signed.{leZ}
 use lib.IntN.{ℤ, natAbs}
 use lib.ListN.{length, getD}
 use Rattle.integers.specs.Numbers.{signedOf}
-use Rattle.commands.specs.Table.{letterV, letterU, letterM, letterA, letterC, letterP, letterE, plusSign, letterL, letterT, letterQ, letterR, letterG, letterZ}
+use Rattle.commands.specs.Table.{letterV, letterU, letterM, letterA, letterC, letterP, letterE, plusSign, letterL, letterT, letterQ, letterR}
+use Rattle.commands.specs.Table.{letterG, letterZ, letterK}
 use Rattle.commands.specs.Reading.{commandAt}
+use Rattle.commands.specs.Encoding.{byteOf}
 use Rattle.commands.specs.declared.Command.{Command}
 use Rattle.commands.specs.declared.Command.the-variants.{Variable, Start, Mode, Action, Condition, ModeCondition, ModeEffect, Add, Linear, Term, Quotient}
-use Rattle.commands.specs.declared.Command.the-variants.{Residue, Goal, End, Refused}
+use Rattle.commands.specs.declared.Command.the-variants.{Residue, Goal, End, Sum, Refused}
 use Rattle.model.specs.Limits.{Limits}
 use Rattle.model.specs.ReadingState.{inDeclarations, inAction, inGoal, ReadingState, Taken, stop, goOn, finish, rule, opened, withVariable, withMode}
-use Rattle.model.specs.ReadingState.{withCondition, withModeCondition, withModeEffect, withNumericEffect, withTerm}
+use Rattle.model.specs.ReadingState.{withCondition, withModeCondition, withModeEffect, withNumericEffect, withSum, withTerm}
 
 abbrev pub isOneOf : ℕ → List ℕ → Bool
 isOneOf b [] = false
 isOneOf b (c ∷ cs) = cond (eqb b c) true (isOneOf b cs)
 
 -- 1, by the byte alone. V (source) or U (restricted), and M: before the first action. A and G: not in the goal. C P: in an action or the
--- goal. E +: in an action; so are L Q R, in a source file. T: directly after L or T. Z: in the goal. No other byte
+-- goal. E +: in an action; so are L Q R, in a source file. T: directly after L, K or T. Z: in the goal. K: as C, in a source file. No other
+-- byte
 abbrev pub allowed : Limits → ReadingState → ℕ → Bool
 allowed l p b =
     cond (eqb b letterV) (cond (l .restricted) false (eqb (p .section) inDeclarations))
@@ -35,7 +38,8 @@ allowed l p b =
     (cond (isOneOf b (letterL ∷ letterQ ∷ letterR ∷ [])) (cond (l .restricted) false (eqb (p .section) inAction))
     (cond (eqb b letterT) (leb 1 (p .terms))
     (cond (eqb b letterZ) (eqb (p .section) inGoal)
-    false))))))))
+    (cond (eqb b letterK) (cond (l .restricted) false (leb inAction (p .section)))
+    false)))))))))
 
 -- a constant of 32 bits, two's complement
 abbrev pub constant : ℕ → ℤ
@@ -107,6 +111,13 @@ testsOf l p (Residue t y k) =
     (noRoom l p, 4) ∷ (noVariable p t, 5) ∷ (noVariable p y, 5) ∷ (isZero (constant k), 6) ∷ (outside l (constant k), 6) ∷ (alreadyTarget p t, 7) ∷ []
 testsOf l p Goal = []
 testsOf l p End = []
+-- K relation constant. 4: one condition too many in the action or goal, one K too many in the task. 5: a relation over 4. 6: out of range
+testsOf l p (Sum r k) =
+    (leb (l .conditions) (p .counts .conditions), 4)
+    ∷ (leb (l .sums) (p .sums), 4)
+    ∷ (ltb (l .relations) r, 5)
+    ∷ (ltb (l .sumConstant) (natAbs (constant k)), 6)
+    ∷ []
 -- the byte is no command's (1), or the file ends inside the operands (2)
 testsOf l p (Refused number) = (true, number) ∷ []
 
@@ -126,6 +137,7 @@ nextOf p (Quotient t y k) = withNumericEffect p t 0
 nextOf p (Residue t y k) = withNumericEffect p t 0
 nextOf p Goal = opened p inGoal (p .actions)
 nextOf p End = p
+nextOf p (Sum r k) = withSum p
 nextOf p (Refused number) = p
 
 -- Z ends the commands; any other goes on
@@ -144,11 +156,21 @@ onwards (Quotient a b c) q = goOn q
 onwards (Residue a b c) q = goOn q
 onwards Goal q = goOn q
 onwards End q = finish q
+onwards (Sum a b) q = goOn q
 onwards (Refused number) q = goOn q
 
--- a command whose byte may stand there
+-- a command's own rule
+abbrev pub ownRuleOf : Limits → ReadingState → Command → Taken
+ownRuleOf l p c = rule p (testsOf l p c) (onwards c (nextOf p c))
+
+-- "14 when a K has no T, placed at the next command byte, after 1 and 2 there": at any command but a T (a refusal, 1 or 2, has byte 0). A
+-- restricted file has no K
+abbrev pub sumTests : Limits → ReadingState → Command → List (Bool × ℕ)
+sumTests l p c = cond (l .restricted) [] (cond (isOneOf (byteOf c) (letterT ∷ 0 ∷ [])) [] ((leb 1 (p .bareSum), 14) ∷ []))
+
+-- a command whose byte may stand there: 14 comes before its own rule
 abbrev pub ruleOf : Limits → ReadingState → Command → Taken
-ruleOf l p c = rule p (testsOf l p c) (onwards c (nextOf p c))
+ruleOf l p c = rule p (sumTests l p c) (ownRuleOf l p c)
 
 -- The command at the front of what remains of the file. 2: nothing remains. 1: its byte may not stand there, which goes before 2 of the
 -- command

@@ -1,7 +1,9 @@
 -- What a file is held to, said of its task, over the limits of the kind of file: counts within the limits, references declared, values below sizes,
--- constants in range, one effect a mode, one T of an L and one numeric effect a variable.
+-- constants in range, one effect a mode, one T of an L or a K and one numeric effect a variable.
 -- Assumes nothing.
+use mathlib.Core.Path.{_≡_}
 use Prim.Native.Nat.{ℕ, _<_, _≤_}
+use mathlib.Core.Bool.{false}
 use mathlib.Core.List.{List, map}
 use lib.Dec.{T}
 use lib.IntN.{ℤ, natAbs}
@@ -9,11 +11,13 @@ use lib.ListN.{length}
 use lib.Signed.{leZ}
 use Rattle.integers.specs.All.{All}
 use Rattle.integers.specs.Relation.{relationNumber}
-use Rattle.model.specs.Tasks.{NumericCondition, Effect, addEffect, linearEffect, quotientEffect, residueEffect, SourceAction, RestrictedAction}
+use Rattle.model.specs.Tasks.{Measured, variable, weightedSum, NumericCondition, Effect, addEffect, linearEffect, quotientEffect, residueEffect}
+use Rattle.model.specs.Tasks.{SourceAction, RestrictedAction}
 use Rattle.model.specs.Tasks.{SourceTask, RestrictedTask, SourceVariable}
 use Rattle.model.specs.Steps.{naturalAt, sizesOf}
 use Rattle.model.specs.Limits.{Limits, sourceLimits, restrictedLimits}
 use Rattle.model.specs.InTask.{MeasureIn, targets}
+use Rattle.model.specs.Sums.{sumsOfSource}
 pub use Rattle.model.specs.InTask.{Distinct}
 
 abbrev pub keys : {A : Type 0} → List (ℕ × A) → List ℕ
@@ -39,13 +43,21 @@ AmountOk l n e = (e .0 < n) × Factor l (e .1)
 abbrev pub ModeOk : Limits → ℕ × ℕ → Type 0
 ModeOk l m = (m .1 < m .0) × (m .0 ≤ l .size)
 
--- C: a declared variable, of n; with it a constant in range, and a relation of the kind of file
+-- T of an L or a K: declared variables, of n, each at most once, with their weights
+abbrev pub TermsOk : Limits → ℕ → List (ℕ × ℤ) → Type 0
+TermsOk l n ts = All (AmountOk l n) ts × Distinct (keys ts)
+
+-- C: a declared variable, of n, and a constant in range. K, in a source file: its T's, not too many, and a constant in its own range
+abbrev pub MeasureOk : Limits → ℕ → Measured ℕ → ℤ → Type 0
+MeasureOk l n (variable i) k = (i < n) × InRange l k
+MeasureOk l n (weightedSum ts) k = (l .restricted ≡ false) × (length ts ≤ l .terms) × TermsOk l n ts × (natAbs k ≤ l .sumConstant)
+
+-- what is measured is declared; with it a relation of the kind of file
 abbrev pub ConditionIn : ℕ → NumericCondition ℕ → Type 0
 ConditionIn n c = MeasureIn (λ (i : ℕ). i < n) (c .measured)
 
 pub record ConditionOk (l : Limits) (n : ℕ) (c : NumericCondition ℕ) : Type 0 where
-  pub declared : ConditionIn n c
-  pub inRange : InRange l (c .constant)
+  pub measures : MeasureOk l n (c .measured) (c .constant)
   pub known : relationNumber (c .relation) ≤ l .relations
 
 -- the conditions of an action or goal, in a task with n variables and modes of the sizes
@@ -56,9 +68,6 @@ pub record ConditionsOk (l : Limits) (n : ℕ) (sizes : List ℕ) (ps : List (�
   pub conditionsIn : All (ConditionOk l n) cs
 
 -- ---- source
-abbrev pub TermsOk : Limits → ℕ → List (ℕ × ℤ) → Type 0
-TermsOk l n ts = All (AmountOk l n) ts × Distinct (keys ts)
-
 abbrev pub EffectOk : Limits → ℕ → Effect → Type 0
 EffectOk l n (addEffect t c) = (t < n) × Factor l c
 EffectOk l n (linearEffect t w ts) = (t < n) × InRange l w × (length ts ≤ l .terms) × TermsOk l n ts
@@ -84,6 +93,7 @@ pub record SourceTaskOk (t : SourceTask) : Type 0 where
   pub actionsFew : length (t .actions) ≤ sourceLimits .actions
   pub actionsOk : All (SourceActionOk sourceLimits (length (t .variables)) (sizesOf (t .modes))) (t .actions)
   pub goal : ConditionsOk sourceLimits (length (t .variables)) (sizesOf (t .modes)) (t .goalModes) (t .goalConditions)
+  pub sumsFew : length (sumsOfSource t) ≤ sourceLimits .sums
 
 -- ---- restricted
 pub record RestrictedActionOk (l : Limits) (n : ℕ) (sizes : List ℕ) (a : RestrictedAction) : Type 0 where

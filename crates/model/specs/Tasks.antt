@@ -5,7 +5,7 @@ use mathlib.Core.List.{List}
 use lib.IntN.{ℤ}
 use Rattle.integers.specs.Relation.{Relation}
 
--- What a condition compares: a variable. (The weighted sum is room for conditions on sums; no command makes one.)
+-- What a condition compares: a variable (C), or the weighted sum of variables (K with its T: variable and weight of each)
 pub data Measured (I : Type 0) : Type 0 where
   variable : I → Measured I
   weightedSum : List (I × ℤ) → Measured I

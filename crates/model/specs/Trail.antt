@@ -5,12 +5,13 @@ use mathlib.Core.Bool.{true}
 use mathlib.Core.List.{List, [], _∷_}
 use Rattle.commands.specs.Encoding.{byteOf}
 use Rattle.commands.specs.declared.Command.{Command}
+use Rattle.commands.specs.declared.Command.the-variants.{End}
 use Rattle.model.specs.Limits.{Limits}
-use Rattle.model.specs.ReadingState.{inGoal, ReadingState, Going}
+use Rattle.model.specs.ReadingState.{inGoal, ReadingState, Going, finish}
 use Rattle.model.specs.Rules.{allowed, ruleOf}
 
 abbrev pub Trail : Limits → ReadingState → List Command → Type 0
-Trail l p [] = p .section ≡ inGoal
+Trail l p [] = (p .section ≡ inGoal) × (ruleOf l p End ≡ finish p)
 Trail l p (c ∷ cs) = (allowed l p (byteOf c) ≡ true) × (ruleOf l p c .progress ≡ Going) × Trail l (ruleOf l p c .state) cs
 
 -- the state in which Z is met

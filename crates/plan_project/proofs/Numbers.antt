@@ -20,7 +20,7 @@ use Rattle.model.specs.Following.{makesMacro, macroNumbers, deadEndNumbers, ope
 use Rattle.model.specs.NamedSystems.{stagesPrice}
 use Rattle.model.proofs.DeadEnd.{firstOutside, entered, dead-end-is-a-front}
 use Rattle.model.proofs.MacroPlace.{macro-length}
-use Rattle.model.proofs.LoweredOk.{write-length}
+use Rattle.model.proofs.LoweredOk.{lowered-length}
 use Rattle.plan_strokes.specs.Strokes.{strokesOf, macroSteps, stepNumbers, priceOfStrokes}
 use Rattle.plan_strokes.proofs.Walks.{walk-is, steps-length, stages-many, front-price}
 use Rattle.plan_project.specs.Following.{strokesWalked, deadEndWalk}
@@ -82,5 +82,4 @@ module _ (lower upper : ℕ → ℤ) where
       ∙ sym (length-append (macro lower upper s a) (lowerActions lower upper (s + length (stagesOf lower upper (a .effects))) acts))
 
 pub all-actions : (t : SourceTask) → opening (lowerBounds t) (upperBounds t) (t .actions) (length (t .actions)) ≡ length (lowerTask t .actions)
-all-actions t = past-the-last (lowerBounds t) (upperBounds t) 1 (t .actions)
-    ∙ sym (write-length (length (t .variables)) (length (t .modes)) (lowerActions (lowerBounds t) (upperBounds t) 1 (t .actions)))
+all-actions t = past-the-last (lowerBounds t) (upperBounds t) 1 (t .actions) ∙ sym (lowered-length t)

@@ -88,7 +88,7 @@ module _ {n : ℕ} {values : List ℤ} {marks : List ℕ} {numbers : List ℤ} (
     y = v (operandAt marks e)
 
     constant-near : natAbs c ≤ 10_000
-    constant-near = h .usable .constants e l
+    constant-near = h .usable .constants e (omega arith)
 
     quotient-within : Within 1000000000 (quotientOf y c)
     quotient-within = record { within = omega (arith, quotient-small y c, h .near (operandAt marks e)) }
@@ -111,7 +111,7 @@ module _ {n : ℕ} {values : List ℤ} {marks : List ℕ} {numbers : List ℤ} (
             arith,
             constant-near,
             linear-within (termCountAt marks e) (λ i. (variableAt marks e i, weightAt numbers e i)) v c (h .near)
-                (λ i m. h .usable .weights e i l (omega arith)),
+                (λ i m. h .usable .weights e i (omega arith) (omega arith)),
           );
         })
         (λ k. quotient-within)

@@ -28,6 +28,7 @@ texts =
     ∷ "no such action"
     ∷ "the action does not apply"
     ∷ "the goal is not met"
+    ∷ "a sum has no term"
     ∷ []
 
 -- every number past the last

@@ -37,6 +37,7 @@ pub fn write_text(number: u32, out: &mut [u8]) -> lists::Written
         11 => write(out, b"no such action"),
         12 => write(out, b"the action does not apply"),
         13 => write(out, b"the goal is not met"),
+        14 => write(out, b"a sum has no term"),
         _ => write(out, b"no such refusal number"),
     }
 }

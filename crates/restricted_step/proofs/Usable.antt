@@ -60,7 +60,10 @@ pub usable : (n : ℕ) (sizes marks : List ℕ) (numbers : List ℤ) → n ≤ V
 usable n sizes marks numbers few fewModes ok = record {
   conditions = record {
     few = omega (arith, ok .conditionsOk .conditionsFew, length-tabulate (naturalAt marks conditionCount) (conditionIn marks numbers));
-    below = λ i l. omega (arith, all-at (ConditionOk restrictedLimits n) (naturalAt marks conditionCount) (conditionIn marks numbers) (ok .conditionsOk .conditionsIn) i l .declared);
+    below = λ i l. omega (
+      arith,
+      all-at (ConditionOk restrictedLimits n) (naturalAt marks conditionCount) (conditionIn marks numbers) (ok .conditionsOk .conditionsIn) i l .measures .0,
+    );
   };
   modeConditions = record {
     few = omega (arith, ok .conditionsOk .modeConditionsFew, length-tabulate (naturalAt marks modeConditionCount) (modeConditionIn marks));

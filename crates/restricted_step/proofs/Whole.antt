@@ -17,12 +17,12 @@ use Rattle.integers.specs.Relation.{related, withinLimit}
 use Rattle.lists.proofs.Loops.{and-left, and-right}
 use Rattle.model.specs.Tasks.{Measured, variable, weightedSum, NumericCondition, RestrictedAction, RestrictedTask, State}
 use Rattle.model.specs.Limits.{Limits, restrictedLimits}
-use Rattle.model.specs.InTask.{MeasureIn}
-use Rattle.model.specs.TaskOk.{ValuesIn, AmountOk, ConditionOk, RestrictedActionOk, RestrictedTaskOk}
+use Rattle.model.specs.TaskOk.{ValuesIn, AmountOk, MeasureOk, ConditionOk, RestrictedActionOk, RestrictedTaskOk}
 use Rattle.model.specs.Systems.{bind, provided}
 use Rattle.model.specs.Steps.{integerAt, naturalAt, measure, conditionsHold, modesHold, addAll, setAll, valuesWithin, modesBelowSizes, soundRestricted, appliesRestricted, applyRestricted, sizesOf, stepRestricted, figure}
 use Rattle.model.specs.Judging.{declaredPart}
 use Rattle.model.proofs.Pairing.{some-injective}
+use Rattle.model.proofs.ReadingLaws.{clash}
 use Rattle.model.proofs.StageValues.{and-true}
 use Rattle.model.proofs.StageWalk.{all-get}
 use Rattle.restricted_step.specs.Steps.{stepBy}
@@ -30,14 +30,16 @@ use Rattle.restricted_step.specs.Whole.{stepOf, Changed, Standing, Spare
 use Rattle.restricted_step.proofs.Effects.{putSum, putMode, changed-beyond, add-length, set-length}
 
 -- ---- conditions read what is declared
-conditions-declared : (l : Limits) (n : ℕ) (values : List ℤ) (cs : List (NumericCondition ℕ)) → All (ConditionOk l n) cs
+conditions-declared : (n : ℕ) (values : List ℤ) (cs : List (NumericCondition ℕ)) → All (ConditionOk restrictedLimits n) cs
     → conditionsHold cs (integerAt (take n values)) ≡ conditionsHold cs (integerAt values)
-conditions-declared l n values [] h = refl
-conditions-declared l n values (c ∷ cs) (h, hs) = ap₂ _&&_ (ap (λ (z : ℤ). related (c .relation) z (c .constant)) (measured (c .measured) (h .declared))) (conditions-declared l n values cs hs)
+conditions-declared n values [] h = refl
+conditions-declared n values (c ∷ cs) (h, hs) =
+    ap₂ _&&_ (ap (λ (z : ℤ). related (c .relation) z (c .constant)) (measured (c .measured) (h .measures))) (conditions-declared n values cs hs)
   where
-    measured : (e : Measured ℕ) → MeasureIn (λ (i : ℕ). i < n) e → measure e (integerAt (take n values)) ≡ measure e (integerAt values)
-    measured (variable i) k = getD-take n values i (pos 0) k
-    measured (weightedSum ts) k = absurd k
+    -- a restricted file has no sums
+    measured : (e : Measured ℕ) → MeasureOk restrictedLimits n e (c .constant) → measure e (integerAt (take n values)) ≡ measure e (integerAt values)
+    measured (variable i) k = getD-take n values i (pos 0) (k .0)
+    measured (weightedSum ts) k = absurd (clash (k .0))
 
 modes-declared : (n : ℕ) (sizes modes : List ℕ) (ps : List (ℕ × ℕ)) → length sizes ≡ n → ValuesIn sizes ps → modesHold ps (naturalAt (take n modes)) ≡ modesHold ps (naturalAt modes)
 modes-declared n sizes modes [] z h = refl
@@ -122,7 +124,7 @@ module _ (n m : ℕ) (sizes : List ℕ) (many : length sizes ≡ m) (a : Restric
   pub applies-declared : appliesRestricted a (declaredPart n m x) ≡ appliesRestricted a x
   applies-declared = ap₂ _&&_
       (modes-declared m sizes (x .modes) (a .modeConditions) many (ok .conditionsOk .modeConditionsIn))
-      (conditions-declared restrictedLimits n (x .values) (a .conditions) (ok .conditionsOk .conditionsIn))
+      (conditions-declared n (x .values) (a .conditions) (ok .conditionsOk .conditionsIn))
 
   values-changed : Changed n (x .values) (addAll (a .additions) (x .values)) (addAll (a .additions) (take n (x .values)))
   values-changed = add-declared restrictedLimits n (a .additions) (x .values) (ok .additionsIn)

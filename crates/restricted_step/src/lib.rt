@@ -22,7 +22,6 @@ ghost use mathlib.Core.Option.{none, some};
 ghost use Prim.Native.Nat.{_≤_};
 ghost use lib.IntN.{pos, _+ℤ_, _*ℤ_};
 ghost use Rattle.integers.specs.Parts.{Within};
-ghost use Rattle.integers.specs.Relation.{relationOf};
 ghost use Rattle.model.specs.Limits.{restrictedLimits};
 ghost use Rattle.model.specs.Steps.{setAll, modesHold, conditionsHold, integerAt, naturalAt, appliesRestricted, figure};
 ghost use Rattle.file_parts.specs.Layout.{conditionRoom, modeConditionRoom, modeEffectRoom};
@@ -62,13 +61,6 @@ fn modes_hold(modes: &[u16; MODES], marks: &[u16; MARKS]) -> bool
     true
 }
 
-// The number of a relation as a file has it. A number over 4 is read as 4.
-fn relation_of(mark: u16) -> u8
-    ensures { λ r. ⌜ relationOf r ≡ relationOf mark ⌝ }
-{
-    if mark < 4 { mark as u8 } else { 4 }
-}
-
 // Whether every C of an action holds.
 fn conditions_hold(
     values: &[i64; VARIABLES],
@@ -82,7 +74,7 @@ fn conditions_hold(
     let mut i: usize = 0;
     while i < count {
         let value = values[wide(marks[CONDITION_VARIABLE + i])];
-        let relation = relation_of(marks[CONDITION_RELATION + i]);
+        let relation = marks[CONDITION_RELATION + i];
         if !integers::relation_holds(value, relation, numbers[i]) {
             return false;
         }

@@ -21,7 +21,7 @@ ghost use Rattle.ruphenqo.specs.Start.{declaresOf, declaresOver, startSo
 ghost use Rattle.ruphenqo.specs.Version.{VERSION};
 
 // major * 10000 + minor * 100 + patch
-const VERSION: u32 = 10_200;
+const VERSION: u32 = 10_300;
 
 // The version of the library.
 #[no_mangle]

@@ -5,7 +5,7 @@ use Prim.Native.Nat.{ℕ, zero, suc, min, _+_, _*_, _≤_, _<_}
 use native.Mathlib.Omega.{arith}
 use native.Mathlib.Decide.{ℕ-discrete}
 use mathlib.Core.Bool.{Bool, true, false}
-use mathlib.Core.List.{List, [], _∷_}
+use mathlib.Core.List.{List, [], _∷_, map}
 use lib.Dec.{ltb}
 use lib.ListN.{length, length-map, length-set, getD, take, set, List·getD-map}
 use lib.Seq.{length-take-le, getD-take, getD-set-same, getD-set-other, ext-getD}
@@ -16,15 +16,11 @@ use Rattle.lists.specs.Each.{tabulate}
 use Rattle.lists.proofs.Each.{length-tabulate, getD-tabulate}
 use Rattle.model.specs.Tasks.{Effect, addEffect}
 use Rattle.model.specs.Steps.{integerAt, naturalAt}
-use Rattle.file_actions.specs.declared.Effect.the-variants.{None}
-use Rattle.file_actions.specs.declared.NumericEffect.{NumericEffect}
-use Rattle.file_actions.specs.declared.Effects.{Effects}
-use Rattle.file_actions.specs.Views.{numericIs, effectsIs}
 use Rattle.source_step.specs.Sizes.{EFFECTS}
 use Rattle.source_step.specs.Layout.{BLOCK, MANY, KIND, TARGET, OPERAND, COUNT, TERM, CONSTANT, WEIGHT, LOWER, UPPER}
 use Rattle.source_step.specs.Row.{effectCountAt, kindAt, targetAt, operandAt, termCountAt, constantAt, variableAt, weightAt, termsAt, effectAt, effectsAt}
 use Rattle.source_step.proofs.Sound.{tabulate-same}
-use Rattle.source_ready.specs.Made.{BlankFrom, Bounded, BlockIs, EffectPut, EffectsPut}
+use Rattle.source_ready.specs.Made.{BlankFrom, Bounded, BlockIs, EffectPut, EffectsAre, EffectsPut}
 
 abbrev effectOf : List Effect → ℕ → Effect
 effectOf fs e = getD fs e (addEffect 0 (pos 0))
@@ -35,61 +31,72 @@ all-number P [] h i d l = absurd (omega arith)
 all-number P (x ∷ xs) (h, hs) zero d l = h
 all-number P (x ∷ xs) (h, hs) (suc i) d l = all-number P xs hs i d (omega arith)
 
--- ---- the effects of a decoded action, by number
-module _ (r : Effects) (long : length (r .places) ≡ EFFECTS) (few : r .count ≤ EFFECTS) where
-  pub effects-counted : length (effectsIs r) ≡ r .count
-  effects-counted = length-map (take (r .count) (r .places)) numericIs ∙ length-take-le (r .count) (r .places) (omega arith)
+-- ---- what the first so many of some places say, by number
+module _ {A B : Type 0} (says : A → B) (d : A) (count : ℕ) (places : List A) (few : count ≤ length places) where
+  pub said-counted : length (map says (take count places)) ≡ count
+  said-counted = length-map (take count places) says ∙ length-take-le count places few
 
-  pub effect-at : (e : ℕ) → e < r .count → effectOf (effectsIs r) e ≡ numericIs (getD (r .places) e (record { effect = None; «term_count» = 0; terms = [] }))
-  effect-at e l =
-      let d : NumericEffect = record { effect = None; «term_count» = 0; terms = [] } in
-      List·getD-map numericIs (take (r .count) (r .places)) e d ∙ ap numericIs (getD-take (r .count) (r .places) e d l)
+  pub said-at : (i : ℕ) → i < count → getD (map says (take count places)) i (says d) ≡ says (getD places i d)
+  said-at i l = List·getD-map says (take count places) i d ∙ ap says (getD-take count places i d l)
 
   -- what is known of all is known of the one at a place
-  pub effect-ok : (P : Effect → Type 0) → All P (effectsIs r) → (e : ℕ) → e < r .count → P
-      (numericIs (getD (r .places) e (record { effect = None; «term_count» = 0; terms = [] })))
-  effect-ok P h e l = subst P (effect-at e l) (all-number P (effectsIs r) h e (addEffect 0 (pos 0)) (omega (arith, effects-counted)))
+  pub said-of : (P : B → Type 0) → All P (map says (take count places)) → (i : ℕ) → i < count → P (says (getD places i d))
+  said-of P h i l = subst P (said-at i l) (all-number P (map says (take count places)) h i (says d) (omega (arith, said-counted)))
 
--- ---- a block is what it is while its numbers stay
-module _ {e n : ℕ} {lower upper : List ℤ} {f : Effect} {marks : List ℕ} {numbers : List ℤ} (B : BlockIs e n lower upper f marks numbers) (marks′ : List ℕ)
-    (numbers′ : List ℤ)
-    (sameMarks : (j : ℕ) → KIND + BLOCK * e ≤ j → j < KIND + BLOCK * (e + 1) → naturalAt marks′ j ≡ naturalAt marks j)
-    (sameNumbers : (j : ℕ) → CONSTANT + BLOCK * e ≤ j → j < CONSTANT + BLOCK * (e + 1) → integerAt numbers′ j ≡ integerAt numbers j) where
-  kind-same : kindAt marks′ e ≡ kindAt marks e
-  kind-same = sameMarks (KIND + BLOCK * e) (omega arith) (omega arith)
+-- ---- rows that have the same numbers in block e
+pub record SameBlock (e : ℕ) (marks : List ℕ) (numbers : List ℤ) (marks′ : List ℕ) (numbers′ : List ℤ) : Type 0 where
+  pub sameMarks : (j : ℕ) → KIND + BLOCK * e ≤ j → j < KIND + BLOCK * (e + 1) → naturalAt marks′ j ≡ naturalAt marks j
+  pub sameNumbers : (j : ℕ) → CONSTANT + BLOCK * e ≤ j → j < CONSTANT + BLOCK * (e + 1) → integerAt numbers′ j ≡ integerAt numbers j
+
+-- the block is what it was
+module _ {e : ℕ} {marks : List ℕ} {numbers : List ℤ} {marks′ : List ℕ} {numbers′ : List ℤ} (S : SameBlock e marks numbers marks′ numbers′) where
+  pub kind-same : kindAt marks′ e ≡ kindAt marks e
+  kind-same = S .sameMarks (KIND + BLOCK * e) (omega arith) (omega arith)
 
   target-same : targetAt marks′ e ≡ targetAt marks e
-  target-same = sameMarks (TARGET + BLOCK * e) (omega arith) (omega arith)
+  target-same = S .sameMarks (TARGET + BLOCK * e) (omega arith) (omega arith)
 
   operand-same : operandAt marks′ e ≡ operandAt marks e
-  operand-same = sameMarks (OPERAND + BLOCK * e) (omega arith) (omega arith)
+  operand-same = S .sameMarks (OPERAND + BLOCK * e) (omega arith) (omega arith)
 
   count-same : termCountAt marks′ e ≡ termCountAt marks e
-  count-same = ap (min 4) (sameMarks (COUNT + BLOCK * e) (omega arith) (omega arith))
+  count-same = ap (min 4) (S .sameMarks (COUNT + BLOCK * e) (omega arith) (omega arith))
 
-  constant-same : constantAt numbers′ e ≡ constantAt numbers e
-  constant-same = sameNumbers (CONSTANT + BLOCK * e) (omega arith) (omega arith)
+  pub constant-same : constantAt numbers′ e ≡ constantAt numbers e
+  constant-same = S .sameNumbers (CONSTANT + BLOCK * e) (omega arith) (omega arith)
 
-  weight-same : (i : ℕ) → i < 4 → weightAt numbers′ e i ≡ weightAt numbers e i
-  weight-same i l = sameNumbers (WEIGHT + BLOCK * e + i) (omega arith) (omega arith)
+  pub weight-same : (i : ℕ) → i < 4 → weightAt numbers′ e i ≡ weightAt numbers e i
+  weight-same i l = S .sameNumbers (WEIGHT + BLOCK * e + i) (omega arith) (omega arith)
 
-  terms-same : termsAt marks′ numbers′ e ≡ termsAt marks numbers e
+  pub terms-same : termsAt marks′ numbers′ e ≡ termsAt marks numbers e
   terms-same =
       ap (λ (k : ℕ). tabulate k (λ i. (variableAt marks′ e i, weightAt numbers′ e i))) count-same
       ∙ tabulate-same (termCountAt marks e) _ _
-      (λ i l. ap₂ (λ (x : ℕ) (y : ℤ). (x, y)) (sameMarks (TERM + BLOCK * e + i) (omega arith) (omega arith)) (weight-same i (omega arith)))
+      (λ i l. ap₂ (λ (x : ℕ) (y : ℤ). (x, y)) (S .sameMarks (TERM + BLOCK * e + i) (omega arith) (omega arith)) (weight-same i (omega arith)))
 
-  pub block-stays : BlockIs e n lower upper f marks′ numbers′
-  block-stays = record {
-    effect = rw (kind-same, target-same, operand-same, constant-same, terms-same) (B .effect);
-    bounded = record {
-      constant = rw constant-same (B .bounded .constant);
-      weights = λ i l. rw (weight-same i l) (B .bounded .weights i l);
-      divides = λ l. rw constant-same (B .bounded .divides (omega (arith, kind-same)));
-    };
+  pub lower-same : integerAt numbers′ (LOWER + BLOCK * e) ≡ integerAt numbers (LOWER + BLOCK * e)
+  lower-same = S .sameNumbers (LOWER + BLOCK * e) (omega arith) (omega arith)
+
+  upper-same : integerAt numbers′ (UPPER + BLOCK * e) ≡ integerAt numbers (UPPER + BLOCK * e)
+  upper-same = S .sameNumbers (UPPER + BLOCK * e) (omega arith) (omega arith)
+
+  effect-same : effectAt marks′ numbers′ e ≡ effectAt marks numbers e
+  effect-same = rw (kind-same, target-same, operand-same, constant-same, terms-same) refl
+
+  bounded-stays : Bounded e marks numbers → Bounded e marks′ numbers′
+  bounded-stays B = record {
+    constant = rw constant-same (B .constant);
+    weights = λ i l. rw (weight-same i l) (B .weights i l);
+    divides = λ l. rw constant-same (B .divides (omega (arith, kind-same)));
+  }
+
+  block-stays : {n : ℕ} {lower upper : List ℤ} {f : Effect} → BlockIs e n lower upper f marks numbers → BlockIs e n lower upper f marks′ numbers′
+  block-stays B = record {
+    effect = effect-same ∙ B .effect;
+    bounded = bounded-stays (B .bounded);
     targetDeclared = rw target-same (B .targetDeclared);
-    lowerAt = rw target-same (sameNumbers (LOWER + BLOCK * e) (omega arith) (omega arith) ∙ B .lowerAt);
-    upperAt = rw target-same (sameNumbers (UPPER + BLOCK * e) (omega arith) (omega arith) ∙ B .upperAt);
+    lowerAt = rw target-same (lower-same ∙ B .lowerAt);
+    upperAt = rw target-same (upper-same ∙ B .upperAt);
   }
 
 -- one that is 0
@@ -146,19 +153,27 @@ module _ {n : ℕ} {lower upper : List ℤ} {fs : List Effect} {marks₀ : List 
         go j m (yes q) = rw q (p .block)
         go j m (no q) =
             let b : j < e = omega arith in
-            block-stays (S .blocks j b) marks′ numbers′ (λ i x y. p .marksKept i (omega arith)) (λ i x y. p .numbersKept i (omega arith))
+            block-stays (record { sameMarks = λ i x y. p .marksKept i (omega arith); sameNumbers = λ i x y. p .numbersKept i (omega arith) }) (S .blocks j b)
 
     -- THE LAW: the rows before are those at the start, but for the count
     pub all-put : (before : List ℕ) (count : ℕ) → marks₀ ≡ set before MANY count → length fs ≤ e → EffectsPut n lower upper fs before numbers₀ marks numbers
     all-put before count is h = record {
-      effects =
-          ext-getD (addEffect 0 (pos 0)) (effectsAt marks numbers) fs (length-tabulate _ _ ∙ counted)
-          (λ j l. let m : j < effectCountAt marks = omega (arith, length-tabulate (effectCountAt marks) (effectAt marks numbers)) in
-          getD-tabulate (effectCountAt marks) (effectAt marks numbers) j (addEffect 0 (pos 0)) m ∙ S .blocks j (within j m) .effect);
-      bounded = λ j l. bounded j (ltb j e) refl;
-      targetDeclared = λ j l. S .blocks j (within j l) .targetDeclared;
-      lowerAt = λ j l. S .blocks j (within j l) .lowerAt;
-      upperAt = λ j l. S .blocks j (within j l) .upperAt;
+      are = record {
+        effects =
+            ext-getD (addEffect 0 (pos 0)) (effectsAt marks numbers) fs (length-tabulate _ _ ∙ counted)
+            (λ j l. let m : j < effectCountAt marks = omega (arith, length-tabulate (effectCountAt marks) (effectAt marks numbers)) in
+            getD-tabulate (effectCountAt marks) (effectAt marks numbers) j (addEffect 0 (pos 0)) m ∙ S .blocks j (within j m) .effect);
+        bounded = λ j l. bounded j (ltb j e) refl;
+        targetDeclared = λ j l. S .blocks j (within j l) .targetDeclared;
+        lowerAt = λ j l. S .blocks j (within j l) .lowerAt;
+        upperAt = λ j l. S .blocks j (within j l) .upperAt;
+      };
+      blank = record {
+        marksLong = S .blank .marksLong;
+        numbersLong = S .blank .numbersLong;
+        marksBlank = λ j l. S .blank .marksBlank j (omega (arith, S .bound, S .few));
+        numbersBlank = λ j l. S .blank .numbersBlank j (omega (arith, S .bound, S .few));
+      };
       marksKept = λ j l. S .marksKept j l ∙ ap (λ (z : List ℕ). naturalAt z j) is ∙ getD-set-other before MANY j count 0 (λ q. omega arith);
       numbersKept = S .numbersKept;
     }
@@ -172,3 +187,31 @@ module _ {n : ℕ} {lower upper : List ℤ} {fs : List Effect} {marks₀ : List 
         bounded : (j : ℕ) (b : Bool) → ltb j e ≡ b → Bounded j marks numbers
         bounded j true q = S .blocks j (ltb-true j e q) .bounded
         bounded j false q = blank-bounded (S .blank) j (ltb-false j e q)
+
+-- ---- effects stay while their blocks do
+module _ {n : ℕ} {lower upper : List ℤ} {fs : List Effect} {marks : List ℕ} {numbers : List ℤ} (E : EffectsAre n lower upper fs marks numbers)
+    (marks′ : List ℕ) (numbers′ : List ℤ) (sameMarks : (j : ℕ) → j < KIND + BLOCK * EFFECTS → naturalAt marks′ j ≡ naturalAt marks j)
+    (sameNumbers : (j : ℕ) → j < CONSTANT + BLOCK * EFFECTS → integerAt numbers′ j ≡ integerAt numbers j) where
+  same : (e : ℕ) → e < EFFECTS → SameBlock e marks numbers marks′ numbers′
+  same e l = record { sameMarks = λ j h g. sameMarks j (omega arith); sameNumbers = λ j h g. sameNumbers j (omega arith) }
+
+  count-stays : effectCountAt marks′ ≡ effectCountAt marks
+  count-stays = ap (min EFFECTS) (sameMarks MANY (omega arith))
+
+  same-of : (e : ℕ) → e < effectCountAt marks → SameBlock e marks numbers marks′ numbers′
+  same-of e l = same e (omega arith)
+
+  before : (e : ℕ) → e < effectCountAt marks′ → e < effectCountAt marks
+  before e l = omega (arith, count-stays)
+
+  pub effects-stay : EffectsAre n lower upper fs marks′ numbers′
+  effects-stay = record {
+    effects =
+        ap (λ (k : ℕ). tabulate k (effectAt marks′ numbers′)) count-stays
+        ∙ tabulate-same (effectCountAt marks) (effectAt marks′ numbers′) (effectAt marks numbers) (λ e l. effect-same (same-of e l))
+        ∙ E .effects;
+    bounded = λ e l. bounded-stays (same e l) (E .bounded e l);
+    targetDeclared = λ e l. let S = same-of e (before e l) in rw (target-same S) (E .targetDeclared e (before e l));
+    lowerAt = λ e l. let S = same-of e (before e l) in rw (target-same S) (lower-same S ∙ E .lowerAt e (before e l));
+    upperAt = λ e l. let S = same-of e (before e l) in rw (target-same S) (upper-same S ∙ E .upperAt e (before e l));
+  }

@@ -1,73 +1,22 @@
 -- An effect that is written into a block that was 0 is the effect that the block stands for.
 -- Assumes nothing.
-use mathlib.Core.Path.{_≡_, refl, ap, ap₂, _∙_}
-use Prim.Native.Nat.{ℕ, min, _+_, _*_, _≤_, _<_}
+use mathlib.Core.Path.{_≡_, _∙_}
+use Prim.Native.Nat.{ℕ, _+_, _*_, _≤_, _<_}
 use native.Mathlib.Omega.{arith}
 use mathlib.Core.Logic.{_≢_}
-use mathlib.Core.Bool.{Bool, true, false}
 use mathlib.Core.List.{List}
-use lib.Dec.{ltb}
 use lib.ListN.{length, length-set, take, set}
 use lib.Seq.{getD-set-same, getD-set-other}
 use lib.IntN.{ℤ, pos, natAbs}
-use borrow.Author.Tests.{ltb-true, ltb-false}
 use Rattle.lists.specs.Each.{tabulate}
 use Rattle.model.specs.Tasks.{Effect}
 use Rattle.model.specs.Steps.{integerAt, naturalAt}
-use Rattle.source_step.proofs.Sound.{tabulate-same}
 use Rattle.source_step.specs.Sizes.{EFFECTS}
 use Rattle.source_step.specs.Layout.{MARKS, NUMBERS, BLOCK, KIND, TARGET, OPERAND, COUNT, TERM, CONSTANT, WEIGHT, LOWER, UPPER}
-use Rattle.source_step.specs.Row.{kindAt, targetAt, operandAt, termCountAt, constantAt, variableAt, weightAt, termsAt, effectOfKind}
+use Rattle.source_step.specs.Row.{kindAt, targetAt, operandAt, constantAt, variableAt, weightAt, effectOfKind}
 use Rattle.source_ready.specs.declared.Head.{Head}
 use Rattle.source_ready.specs.Made.{TermsPut, headMarks, headNumbers, HeadPut, BlankFrom, EffectPut}
-
--- ---- the terms
-pub terms-begin : (e : ℕ) (f : ℕ → ℕ × ℤ) (marks : List ℕ) (numbers : List ℤ) → length marks ≡ MARKS → length numbers ≡ NUMBERS
-    → TermsPut e 0 f marks numbers marks numbers
-terms-begin e f marks numbers h g = record {
-  marksLong = h;
-  numbersLong = g;
-  variables = λ i l. absurd (omega arith);
-  weights = λ i l. absurd (omega arith);
-  marksKept = λ j l. refl;
-  marksBehind = λ j l. refl;
-  numbersKept = λ j l. refl;
-  numbersBehind = λ j l. refl;
-}
-
-module _ (e : ℕ) (room : e < EFFECTS) (k : ℕ) (f : ℕ → ℕ × ℤ) (marks₀ : List ℕ) (numbers₀ : List ℤ) (marks : List ℕ) (numbers : List ℤ)
-    (h : TermsPut e k f marks₀ numbers₀ marks numbers) (few : k < 4) (v : ℕ) (w : ℤ) (isVariable : v ≡ f k .0) (isWeight : w ≡ f k .1) where
-  abbrev p : ℕ
-  p = TERM + BLOCK * e + k
-
-  abbrev q : ℕ
-  q = WEIGHT + BLOCK * e + k
-
-  pub terms-more : TermsPut e (k + 1) f marks₀ numbers₀ (set marks p v) (set numbers q w)
-  terms-more = record {
-    marksLong = length-set marks p v ∙ h .marksLong;
-    numbersLong = length-set numbers q w ∙ h .numbersLong;
-    variables = λ i l. variable i (ltb i k) l refl;
-    weights = λ i l. weight i (ltb i k) l refl;
-    marksKept = λ j l. getD-set-other marks p j v 0 (λ s. omega arith) ∙ h .marksKept j l;
-    marksBehind = λ j l. getD-set-other marks p j v 0 (λ s. omega arith) ∙ h .marksBehind j (omega arith);
-    numbersKept = λ j l. getD-set-other numbers q j w (pos 0) (λ s. omega arith) ∙ h .numbersKept j l;
-    numbersBehind = λ j l. getD-set-other numbers q j w (pos 0) (λ s. omega arith) ∙ h .numbersBehind j (omega arith);
-  }
-    where
-      variable : (i : ℕ) (b : Bool) → i < k + 1 → ltb i k ≡ b → variableAt (set marks p v) e i ≡ f i .0
-      variable i true l t = let n : i < k = ltb-true i k t in getD-set-other marks p (TERM + BLOCK * e + i) v 0 (λ s. omega arith) ∙ h .variables i n
-      variable i false l t =
-          let n : k ≤ i = ltb-false i k t in
-          let s : i ≡ k = omega arith in
-          rw s (getD-set-same marks p v 0 (omega (arith, h .marksLong)) ∙ isVariable)
-
-      weight : (i : ℕ) (b : Bool) → i < k + 1 → ltb i k ≡ b → weightAt (set numbers q w) e i ≡ f i .1
-      weight i true l t = let n : i < k = ltb-true i k t in getD-set-other numbers q (WEIGHT + BLOCK * e + i) w (pos 0) (λ s. omega arith) ∙ h .weights i n
-      weight i false l t =
-          let n : k ≤ i = ltb-false i k t in
-          let s : i ≡ k = omega arith in
-          rw s (getD-set-same numbers q w (pos 0) (omega (arith, h .numbersLong)) ∙ isWeight)
+use Rattle.source_ready.proofs.Terms.{terms-are, weights-near}
 
 -- ---- what stands where in the rest
 module _ (e : ℕ) (room : e < EFFECTS) where
@@ -198,22 +147,14 @@ module _ {e : ℕ} (room : e < EFFECTS) {n : ℕ} {lower upper : List ℤ} {head
   numbers-other : (j : ℕ) → j ≢ CONSTANT + BLOCK * e → j ≢ LOWER + BLOCK * e → j ≢ UPPER + BLOCK * e → integerAt numbers′ j ≡ integerAt numbers₁ j
   numbers-other j p q r = rw (h .numbersAre) (head-numbers-other e room c least most numbers₁ (t .numbersLong) j p q r)
 
-  terms-count : termCountAt marks′ e ≡ k
-  terms-count = ap (min 4) (rw (h .marksAre) (head-count e room kind target operand count marks₁ (t .marksLong)) ∙ counted) ∙ omega arith
+  count-is : naturalAt marks′ (COUNT + BLOCK * e) ≡ k
+  count-is = rw (h .marksAre) (head-count e room kind target operand count marks₁ (t .marksLong)) ∙ counted
+
+  variable-kept : (i : ℕ) → i < 4 → variableAt marks′ e i ≡ variableAt marks₁ e i
+  variable-kept i l = marks-other (TERM + BLOCK * e + i) (λ q. omega arith) (λ q. omega arith) (λ q. omega arith) (λ q. omega arith)
 
   weight-kept : (i : ℕ) → i < 4 → weightAt numbers′ e i ≡ weightAt numbers₁ e i
   weight-kept i l = numbers-other (WEIGHT + BLOCK * e + i) (λ q. omega arith) (λ q. omega arith) (λ q. omega arith)
-
-  terms-are : termsAt marks′ numbers′ e ≡ tabulate k f
-  terms-are =
-      ap (λ (z : ℕ). tabulate z (λ i. (variableAt marks′ e i, weightAt numbers′ e i))) terms-count
-      ∙ tabulate-same k (λ i. (variableAt marks′ e i, weightAt numbers′ e i)) f
-      (λ i l. ap₂ (λ (x : ℕ) (y : ℤ). (x, y))
-      (marks-other (TERM + BLOCK * e + i) (λ q. omega arith) (λ q. omega arith) (λ q. omega arith) (λ q. omega arith) ∙ t .variables i l)
-      (weight-kept i (omega arith) ∙ t .weights i l))
-
-  unweighted : (i : ℕ) → i < 4 → k ≤ i → weightAt numbers′ e i ≡ pos 0
-  unweighted i l q = weight-kept i l ∙ t .numbersBehind (WEIGHT + BLOCK * e + i) (omega arith) ∙ b .numbersBlank (WEIGHT + BLOCK * e + i) (omega arith)
 
   blank-behind : BlankFrom (e + 1) marks′ numbers′
   blank-behind = record {
@@ -226,22 +167,16 @@ module _ {e : ℕ} (room : e < EFFECTS) {n : ℕ} {lower upper : List ℤ} {head
   }
 
   module _ (near : natAbs c ≤ 10000) (nears : (i : ℕ) → i < k → natAbs (f i .1) ≤ 10000) where
-    weight-near : (i : ℕ) → i < 4 → natAbs (weightAt numbers′ e i) ≤ 10000
-    weight-near i l = go (ltb i k) refl
-      where
-        go : (p : Bool) → ltb i k ≡ p → natAbs (weightAt numbers′ e i) ≤ 10000
-        go true s = let m : i < k = ltb-true i k s in rw (weight-kept i l, t .weights i m) (nears i m)
-        go false s = rw (unweighted i l (ltb-false i k s)) (omega arith)
-
     -- THE LAW
     pub effect-put : (g : Effect) → (2 ≤ kind → 1 ≤ natAbs c) → target < n → effectOfKind kind target operand c (tabulate k f) ≡ g
         → EffectPut e n lower upper g marks numbers marks′ numbers′
     effect-put g divisor declared is = record {
       block = record {
-        effect = rw (kind-is, target-is, operand-is, constant-is, terms-are) is;
+        effect = rw (kind-is, target-is, operand-is, constant-is, terms-are marks′ numbers′ k f t few count-is variable-kept weight-kept) is;
         bounded = record {
           constant = rw constant-is near;
-          weights = weight-near;
+          weights = weights-near marks′ numbers′ k f t few count-is variable-kept weight-kept
+              (λ i l. b .numbersBlank (WEIGHT + BLOCK * e + i) (omega arith)) nears;
           divides = λ l. rw constant-is (divisor (omega (arith, kind-is)));
         };
         targetDeclared = rw target-is declared;

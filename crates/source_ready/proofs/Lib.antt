@@ -4,5 +4,7 @@ pub mod Effects
 pub mod Making
 pub mod Modes
 pub mod Preparing
+pub mod Sums
+pub mod Terms
 pub mod Tests
 pub mod Values

@@ -20,29 +20,23 @@ use Rattle.model.specs.Limits.{sourceLimits}
 use Rattle.model.specs.Reading.{verdictOf}
 use Rattle.model.specs.TaskOk.{ModeOk, SourceActionOk, SourceVariableOk}
 use Rattle.model.specs.Steps.{integerAt, naturalAt, sizesOf}
-use Rattle.model.specs.Decoding.{sourceActionOf, readSource}
+use Rattle.model.specs.Decoding.{sumConditionsOf, readSource}
 use Rattle.model.specs.ActionBytes.{edgeOf, actionPart, decodeAction}
 use Rattle.model.proofs.AcceptedOk.{accepted-source-ok}
 use Rattle.model.proofs.StageWalk.{all-get, all-map}
 use Rattle.file_actions.specs.declared.Effects.{Effects}
+use Rattle.file_actions.specs.declared.SumConditions.{SumConditions}
 use Rattle.file_actions.specs.Places.{edgesOf, goalPart}
-use Rattle.file_actions.specs.Views.{sourceActionIs, SourceDecoded, fittingSource}
-use Rattle.file_actions.proofs.Accepted.{source-action-decoded, source-action-within, goal-action-ok, source-goal-decoded, source-edges, places-at}
-use Rattle.file_actions.proofs.Fits.{source-is, source-within}
+use Rattle.file_actions.specs.Views.{sourceActionIs, plainActionOf, SourceDecoded, SumsDecoded, fittingSource}
+use Rattle.file_actions.proofs.Accepted.{source-action-decoded, source-action-within, goal-action-ok, source-goal-decoded, source-goal-within}
+use Rattle.file_actions.proofs.Accepted.{source-edges, places-at}
 use Rattle.source_step.specs.Accepted.{AcceptedWith}
 use Rattle.source_step.proofs.Judging.{task-of, accepted-task, counted-task, few-actions}
 use Rattle.source_step.proofs.Steps.{within-all}
 use Rattle.source_ready.specs.Narrowed.{SizesFit}
 use Rattle.source_step.specs.Row.{RowOf}
 use Rattle.source_step.specs.Ready.{RowAt, Prepared, goalAction}
-use Rattle.source_ready.specs.Made.{RowFits, PlacedAt, Declares}
-
--- ---- the first k rows of a file
-pub record Made (file : List ℕ) (count n : ℕ) (lower upper : List ℤ) (m : ℕ) (sizes : List ℕ) (k : ℕ) (marks : List (List ℕ)) (numbers : List (List ℤ)) : Type 0 where
-  pub bound : k ≤ count
-  pub marksLong : length marks ≡ 33
-  pub numbersLong : length numbers ≡ 33
-  pub rows : (t : SourceTask) → readSource file ≡ given t → (j : ℕ) → j < k → RowAt (t .actions) n m lower upper sizes marks numbers j
+use Rattle.source_ready.specs.Made.{RowFits, PlacedAt, ActionsPlaced, Declares, RowsMade}
 
 -- ---- what an accepted file declares
 sizes-in : (ms : List (ℕ × ℕ)) → All (ModeOk sourceLimits) ms → (i : ℕ) → i < length ms → (1 ≤ naturalAt (sizesOf ms) i) × (naturalAt (sizesOf ms) i ≤ 16)
@@ -72,31 +66,36 @@ module _ (file : List ℕ) (bytes : Bytes file) (count n : ℕ) (lower upper : L
     uppers-near i l = rw (declares .holds t is .upperIs i l)
         (within-all (λ (b : SourceVariable). b .upper) (t .variables) (all-map (SourceVariableOk sourceLimits) (λ (b : SourceVariable). natAbs (b .upper) ≤ 10_000) (λ b z. z .1) (t .variables) (accepted-source-ok file t is .variablesIn)) i)
 
-    module _ (k : ℕ) (below : k < count) (parts : List ℕ) (constants : List ℤ) (effects : Effects)
-        (decodes : SourceDecoded (fittingSource (sourceActionOf (decodeAction (actionPart file k)))) parts constants effects) where
-      pub found : getElem? (t .actions) k ≡ some (sourceActionIs parts constants effects)
-      found = source-action-decoded file bytes t is k (omega (arith, counted-task file count bytes accepted t is)) parts constants effects decodes
+    module _ (k : ℕ) (below : k < count) (parts : List ℕ) (constants : List ℤ) (effects : Effects) (sums : SumConditions)
+        (decodes : SourceDecoded (fittingSource (plainActionOf (decodeAction (actionPart file k)))) parts constants effects)
+        (decodesSums : SumsDecoded (sumConditionsOf (decodeAction (actionPart file k))) sums) where
+      pub found : getElem? (t .actions) k ≡ some (sourceActionIs parts constants effects sums)
+      found = source-action-decoded file bytes t is k (omega (arith, counted-task file count bytes accepted t is)) parts constants effects
+          sums decodes decodesSums
 
-      pub row-fits : RowFits n m lower upper sizes parts constants effects
+      pub row-fits : RowFits n m lower upper sizes parts constants effects sums
       row-fits =
           let h = declares .holds t is in
           let ok = accepted-source-ok file t is in
           let c = counted-task file count bytes accepted t is in
           record {
             few = h .variablesFew;
-            ok = rw (h .variableCount, h .sizesAre) (all-get (SourceActionOk sourceLimits (length (t .variables)) (sizesOf (t .modes))) (t .actions) k (sourceActionIs parts constants effects) (ok .actionsOk) found);
-            within = rw (h .variableCount, h .sizesAre) (source-action-within file bytes t is k (omega arith) parts constants effects decodes);
+            ok = rw (h .variableCount, h .sizesAre) (all-get (SourceActionOk sourceLimits (length (t .variables)) (sizesOf (t .modes))) (t .actions) k
+                (sourceActionIs parts constants effects sums) (ok .actionsOk) found);
+            within = rw (h .variableCount, h .sizesAre) (source-action-within file bytes t is k (omega arith) parts constants effects sums decodes decodesSums);
+            sumsFew = decodesSums .few;
             sizesFit = sizes-fit;
             lowersNear = lowers-near;
             uppersNear = uppers-near;
           }
 
-  pub action-fits : (k : ℕ) → k < count → (parts : List ℕ) (constants : List ℤ) (effects : Effects) → SourceDecoded (fittingSource (sourceActionOf (decodeAction (actionPart file k)))) parts constants effects
-      → RowFits n m lower upper sizes parts constants effects
+  pub action-fits : (k : ℕ) → k < count → (parts : List ℕ) (constants : List ℤ) (effects : Effects) (sums : SumConditions)
+      → SourceDecoded (fittingSource (plainActionOf (decodeAction (actionPart file k)))) parts constants effects
+      → SumsDecoded (sumConditionsOf (decodeAction (actionPart file k))) sums → RowFits n m lower upper sizes parts constants effects sums
   action-fits = row-fits (task-of file count) (accepted-task file count accepted)
 
   -- the places of its actions
-  pub placed : (k : ℕ) → k < count → PlacedAt file (splice (replicate 33 0) 0 (edgesOf file)) k
+  placed : (k : ℕ) → k < count → PlacedAt file (splice (replicate 33 0) 0 (edgesOf file)) k
   placed k l =
       let t = task-of file count in
       let is = accepted-task file count accepted in
@@ -108,6 +107,9 @@ module _ (file : List ℕ) (bytes : Bytes file) (count n : ℕ) (lower upper : L
         start = places-at file (replicate 33 0) (omega arith) k (omega arith);
         end = places-at file (replicate 33 0) (omega arith) (k + 1) (omega arith);
       }
+
+  pub all-placed : ActionsPlaced file (splice (replicate 33 0) 0 (edgesOf file)) count
+  all-placed = record { each = placed }
 
   -- and of its goal
   pub goal-placed : naturalAt (splice (replicate 33 0) 0 (edgesOf file)) count ≡ edgeOf file count
@@ -121,16 +123,37 @@ module _ (file : List ℕ) (bytes : Bytes file) (count n : ℕ) (lower upper : L
       places-at file (replicate 33 0) (omega arith) count (omega arith)
 
   -- ---- its rows
-  pub begins : (marks : List (List ℕ)) (numbers : List (List ℤ)) → length marks ≡ 33 → length numbers ≡ 33 → Made file count n lower upper m sizes 0 marks numbers
+  pub begins : (marks : List (List ℕ)) (numbers : List (List ℤ)) → length marks ≡ 33 → length numbers ≡ 33
+      → RowsMade file count n lower upper m sizes 0 marks numbers
   begins marks numbers h g = record { bound = omega arith; marksLong = h; numbersLong = g; rows = λ t is j l. absurd (omega arith) }
 
-  -- the goal, as an action
-  module _ (parts : List ℕ) (constants : List ℤ) (effects : Effects) (decodes : SourceDecoded (fittingSource (sourceActionOf (decodeAction (goalPart file count)))) parts constants effects) where
-    goal-is : (t : SourceTask) → readSource file ≡ given t → SourceDecoded (goalAction t) parts constants effects
-    goal-is t is = source-goal-decoded file bytes t is parts constants effects
-        (subst (λ (n : ℕ). SourceDecoded (fittingSource (sourceActionOf (decodeAction (goalPart file n)))) parts constants effects) (counted-task file count bytes accepted t is) decodes)
+  -- when no action is left, all have theirs
+  pub all-made : (k : ℕ) (marks : List (List ℕ)) (numbers : List (List ℤ)) → RowsMade file count n lower upper m sizes k marks numbers → count ≤ k
+      → RowsMade file count n lower upper m sizes count marks numbers
+  all-made k marks numbers h l = record {
+    bound = omega arith;
+    marksLong = h .marksLong;
+    numbersLong = h .numbersLong;
+    rows = λ t is j b. h .rows t is j (omega arith);
+  }
 
-    pub goal-fits : RowFits n m lower upper sizes parts constants effects
+  -- the goal, as an action
+  module _ (parts : List ℕ) (constants : List ℤ) (effects : Effects) (sums : SumConditions)
+      (decodes : SourceDecoded (fittingSource (plainActionOf (decodeAction (goalPart file count)))) parts constants effects)
+      (decodesSums : SumsDecoded (sumConditionsOf (decodeAction (goalPart file count))) sums) where
+    module _ (t : SourceTask) (is : readSource file ≡ given t) where
+      goal-decodes : SourceDecoded (fittingSource (plainActionOf (decodeAction (goalPart file (length (t .actions)))))) parts constants effects
+      goal-decodes = subst (λ (n : ℕ). SourceDecoded (fittingSource (plainActionOf (decodeAction (goalPart file n)))) parts constants effects)
+          (counted-task file count bytes accepted t is) decodes
+
+      goal-sums : SumsDecoded (sumConditionsOf (decodeAction (goalPart file (length (t .actions))))) sums
+      goal-sums = subst (λ (n : ℕ). SumsDecoded (sumConditionsOf (decodeAction (goalPart file n))) sums)
+          (counted-task file count bytes accepted t is) decodesSums
+
+      goal-is : sourceActionIs parts constants effects sums ≡ goalAction t
+      goal-is = source-goal-decoded file bytes t is parts constants effects sums goal-decodes goal-sums
+
+    pub goal-fits : RowFits n m lower upper sizes parts constants effects sums
     goal-fits =
         let t = task-of file count in
         let is = accepted-task file count accepted in
@@ -138,16 +161,19 @@ module _ (file : List ℕ) (bytes : Bytes file) (count n : ℕ) (lower upper : L
         let asks : SourceActionOk sourceLimits n (take m sizes) (goalAction t) = rw (h .variableCount, h .sizesAre) (goal-action-ok file bytes t is) in
         record {
           few = h .variablesFew;
-          ok = subst⁻¹ (SourceActionOk sourceLimits n (take m sizes)) (source-is (goal-is t is)) asks;
-          within = source-within sourceLimits n (take m sizes) (goalAction t) parts constants effects asks (goal-is t is) (decodes .few);
+          ok = subst⁻¹ (SourceActionOk sourceLimits n (take m sizes)) (goal-is t is) asks;
+          within = rw (h .variableCount, h .sizesAre)
+              (source-goal-within file bytes t is parts constants effects sums (goal-decodes t is) (goal-sums t is));
+          sumsFew = decodesSums .few;
           sizesFit = sizes-fit t is;
           lowersNear = lowers-near t is;
           uppersNear = uppers-near t is;
         }
 
-    pub over : (k : ℕ) (marks : List (List ℕ)) (numbers : List (List ℤ)) → Made file count n lower upper m sizes k marks numbers → count ≤ k → (row : List ℕ) (line : List ℤ) → RowOf n m lower upper sizes row line (sourceActionIs parts constants effects)
+    pub over : (marks : List (List ℕ)) (numbers : List (List ℤ)) → RowsMade file count n lower upper m sizes count marks numbers
+        → (row : List ℕ) (line : List ℤ) → RowOf n m lower upper sizes row line (sourceActionIs parts constants effects sums)
         → Prepared file count n lower upper m sizes (set marks count row) (set numbers count line)
-    over k marks numbers h l row line r = record {
+    over marks numbers h row line r = record {
       ready = λ t is. record {
         ok = accepted-source-ok file t is;
         counted = counted-task file count bytes accepted t is;
@@ -155,7 +181,11 @@ module _ (file : List ℕ) (bytes : Bytes file) (count n : ℕ) (lower upper : L
         lowersAre = declares .holds t is .lowersAre;
         uppersAre = declares .holds t is .uppersAre;
         sizesAre = declares .holds t is .sizesAre;
-        goalRow = rw (getD-set-same marks count row [] (omega (arith, room, h .marksLong)), getD-set-same numbers count line [] (omega (arith, room, h .numbersLong))) (subst (RowOf n m lower upper sizes row line) (source-is (goal-is t is)) r);
+        goalRow = rw (
+          getD-set-same marks count row [] (omega (arith, room, h .marksLong)),
+          getD-set-same numbers count line [] (omega (arith, room, h .numbersLong)),
+        )
+            (subst (RowOf n m lower upper sizes row line) (goal-is t is) r);
         marksLong = length-set marks count row ∙ h .marksLong;
         numbersLong = length-set numbers count line ∙ h .numbersLong;
       };
@@ -166,20 +196,22 @@ module _ (file : List ℕ) (bytes : Bytes file) (count n : ℕ) (lower upper : L
 
         kept : (t : SourceTask) → readSource file ≡ given t → (j : ℕ) → j < count → RowAt (t .actions) n m lower upper sizes (set marks count row) (set numbers count line) j
         kept t is j b =
-            let q = h .rows t is j (omega arith) in
+            let q = h .rows t is j b in
             record {
               action = q .action;
               found = q .found;
               row = rw (getD-set-other marks count j row [] (λ s. omega arith), getD-set-other numbers count j line [] (λ s. omega arith)) (q .row);
             }
 
-  module _ (k : ℕ) (marks : List (List ℕ)) (numbers : List (List ℤ)) (h : Made file count n lower upper m sizes k marks numbers) (l : k < count) (parts : List ℕ) (constants : List ℤ) (effects : Effects)
-      (decodes : SourceDecoded (fittingSource (sourceActionOf (decodeAction (actionPart file k)))) parts constants effects)
-      (row : List ℕ) (line : List ℤ) (is : RowOf n m lower upper sizes row line (sourceActionIs parts constants effects)) where
+  module _ (k : ℕ) (marks : List (List ℕ)) (numbers : List (List ℤ)) (h : RowsMade file count n lower upper m sizes k marks numbers) (l : k < count)
+      (parts : List ℕ) (constants : List ℤ) (effects : Effects) (sums : SumConditions)
+      (decodes : SourceDecoded (fittingSource (plainActionOf (decodeAction (actionPart file k)))) parts constants effects)
+      (decodesSums : SumsDecoded (sumConditionsOf (decodeAction (actionPart file k))) sums)
+      (row : List ℕ) (line : List ℤ) (is : RowOf n m lower upper sizes row line (sourceActionIs parts constants effects sums)) where
     room : k < 32
     room = omega (arith, few-actions file count bytes accepted)
 
-    pub one-more : Made file count n lower upper m sizes (k + 1) (set marks k row) (set numbers k line)
+    pub one-more : RowsMade file count n lower upper m sizes (k + 1) (set marks k row) (set numbers k line)
     one-more = record {
       bound = omega arith;
       marksLong = length-set marks k row ∙ h .marksLong;
@@ -198,7 +230,7 @@ module _ (file : List ℕ) (bytes : Bytes file) (count n : ℕ) (lower upper : L
         go t e j b false q =
             let s : j ≡ k = omega (arith, ltb-false j k q) in
             record {
-              action = sourceActionIs parts constants effects;
-              found = rw s (found t e k l parts constants effects decodes);
+              action = sourceActionIs parts constants effects sums;
+              found = rw s (found t e k l parts constants effects sums decodes decodesSums);
               row = rw (s, getD-set-same marks k row [] (omega (arith, room, h .marksLong)), getD-set-same numbers k line [] (omega (arith, room, h .numbersLong))) is;
             }

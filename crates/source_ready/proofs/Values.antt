@@ -17,14 +17,12 @@ use Rattle.integers.specs.Relation.{Relation, below, atMost, atLeast, above, eq
 use Rattle.integers.proofs.Parts.{ints, add, sub}
 use Rattle.lists.specs.Loops.{every}
 use Rattle.model.specs.Tasks.{Measured, variable, weightedSum, NumericCondition}
-use Rattle.model.specs.InTask.{MeasureIn}
 use Rattle.model.specs.Steps.{integerAt, measure, conditionsHold}
-use Rattle.model.specs.TaskOk.{ConditionIn}
 use Rattle.source_step.specs.Layout.{NUMBERS}
 use Rattle.source_step.specs.Parts.{valuesBetween}
 use Rattle.source_step.proofs.Sound.{tabulate-same}
 use Rattle.source_step.specs.Row.{valuesIn}
-use Rattle.source_ready.specs.Narrowed.{capped, raised, narrowed, narrowedOn, narrowedAll, BoundsPut, RangesPut}
+use Rattle.source_ready.specs.Narrowed.{capped, raised, narrowed, narrowedOn, narrowedAll, VariableIn, OnVariable, BoundsPut, RangesPut}
 use Rattle.source_ready.proofs.Tests.{and-swap, and-right-first, every-narrowed, length-setIf, setIf-at, setIf-other}
 
 -- ---- the lesser and the greater of two bounds
@@ -136,7 +134,8 @@ module _ (n : ℕ) (few : n ≤ 8) where
       (narrowed-asks l i long (omega arith) r c (integerAt x i) ∙ ap (λ (z : ℤ). between (integerAt l i) (integerAt l (8 + i)) (integerAt x i) && related r z c) (sym (getD-take n x i (pos 0) h)))
       (λ j k q. ap₂ (λ (a b : ℤ). between a b (integerAt x j)) (narrowed-other r l i c j q (λ e. omega arith)) (narrowed-other r l i c (8 + j) (λ e. omega arith) (λ e. q (omega arith))))
 
-  narrowed-on : (m : Measured ℕ) (r : Relation) (c : ℤ) (l : List ℤ) → length l ≡ NUMBERS → MeasureIn (λ (i : ℕ). i < n) m → (x : List ℤ) → valuesIn n (narrowedOn m r c l) x ≡ (valuesIn n l x && related r (measure m (integerAt (take n x))) c)
+  narrowed-on : (m : Measured ℕ) (r : Relation) (c : ℤ) (l : List ℤ) → length l ≡ NUMBERS → VariableIn n m → (x : List ℤ)
+      → valuesIn n (narrowedOn m r c l) x ≡ (valuesIn n l x && related r (measure m (integerAt (take n x))) c)
   narrowed-on (variable i) r c l long h x = narrowed-row r l i c long h x
   narrowed-on (weightedSum ts) r c l long h x = absurd h
 
@@ -144,12 +143,13 @@ on-long : (m : Measured ℕ) (r : Relation) (c : ℤ) (l : List ℤ) → length 
 on-long (variable i) r c l = narrowed-long r l i c
 on-long (weightedSum ts) r c l = refl
 
-on-rest : (n : ℕ) (m : Measured ℕ) (r : Relation) (c : ℤ) (l : List ℤ) → n ≤ 8 → MeasureIn (λ (i : ℕ). i < n) m → (j : ℕ) → 16 ≤ j → integerAt (narrowedOn m r c l) j ≡ integerAt l j
+on-rest : (n : ℕ) (m : Measured ℕ) (r : Relation) (c : ℤ) (l : List ℤ) → n ≤ 8 → VariableIn n m → (j : ℕ) → 16 ≤ j
+    → integerAt (narrowedOn m r c l) j ≡ integerAt l j
 on-rest n (variable i) r c l few h j k = narrowed-other r l i c j (λ e. omega arith) (λ e. omega arith)
-on-rest n (weightedSum ts) r c l few h j k = refl
+on-rest n (weightedSum ts) r c l few h j k = absurd h
 
 module _ (n : ℕ) (few : n ≤ 8) where
-  all-row : (cs : List (NumericCondition ℕ)) → All (ConditionIn n) cs → (l : List ℤ) → length l ≡ NUMBERS → (x : List ℤ)
+  all-row : (cs : List (NumericCondition ℕ)) → All (OnVariable n) cs → (l : List ℤ) → length l ≡ NUMBERS → (x : List ℤ)
       → valuesIn n (narrowedAll cs l) x ≡ (valuesIn n l x && conditionsHold cs (integerAt (take n x)))
   all-row [] h l long x = sym (and-true (valuesIn n l x))
     where
@@ -162,7 +162,7 @@ module _ (n : ℕ) (few : n ≤ 8) where
       ∙ ap (λ (b : Bool). b && conditionsHold cs (integerAt (take n x))) (narrowed-on n few (c .measured) (c .relation) (c .constant) l long h x)
       ∙ sym (and-right-first (valuesIn n l x) held (conditionsHold cs (integerAt (take n x))))
 
-  all-rest : (cs : List (NumericCondition ℕ)) → All (ConditionIn n) cs → (l : List ℤ) → (j : ℕ) → 16 ≤ j → integerAt (narrowedAll cs l) j ≡ integerAt l j
+  all-rest : (cs : List (NumericCondition ℕ)) → All (OnVariable n) cs → (l : List ℤ) → (j : ℕ) → 16 ≤ j → integerAt (narrowedAll cs l) j ≡ integerAt l j
   all-rest [] h l j k = refl
   all-rest (c ∷ cs) (h, hs) l j k = all-rest cs hs (narrowedOn (c .measured) (c .relation) (c .constant) l) j k ∙ on-rest n (c .measured) (c .relation) (c .constant) l few h j k
 
@@ -209,7 +209,8 @@ bounds-row n few lower upper numbers₀ numbers h x =
     (λ i l. ap₂ (λ (a b : ℤ). between a b (integerAt x i)) (h .leasts i (omega arith)) (h .mosts i (omega arith))))
 
 -- THE LAW: the bounds, narrowed by every condition
-pub ranges-put : (lower upper numbers₀ numbers : List ℤ) (cs : List (NumericCondition ℕ)) → BoundsPut 8 lower upper numbers₀ numbers → All (ConditionIn 8) cs → RangesPut lower upper cs numbers₀ (narrowedAll cs numbers)
+pub ranges-put : (lower upper numbers₀ numbers : List ℤ) (cs : List (NumericCondition ℕ)) → BoundsPut 8 lower upper numbers₀ numbers
+    → All (OnVariable 8) cs → RangesPut lower upper cs numbers₀ (narrowedAll cs numbers)
 ranges-put lower upper numbers₀ numbers cs b declared = record {
   long = all-long cs numbers ∙ b .long;
   values = λ n few h x. all-row n few cs h numbers (b .long) x ∙ ap (λ (p : Bool). p && conditionsHold cs (integerAt (take n x))) (bounds-row n few lower upper numbers₀ numbers b x);

@@ -8,7 +8,8 @@ use lib.Dec.{eqb}
 use lib.ListN.{length, getD, take, set}
 use lib.IntN.{ℤ, pos, natAbs}
 use Rattle.lists.specs.Answer.{given}
-use Rattle.model.specs.Tasks.{Effect, SourceTask}
+use Rattle.integers.specs.All.{All}
+use Rattle.model.specs.Tasks.{Measured, variable, weightedSum, NumericCondition, Effect, SourceTask}
 use Rattle.model.specs.Limits.{sourceLimits}
 use Rattle.model.specs.TaskOk.{SourceActionOk}
 use Rattle.model.specs.Steps.{integerAt, naturalAt}
@@ -17,20 +18,23 @@ use Rattle.model.specs.ActionBytes.{edgeOf}
 use Rattle.file_actions.specs.declared.Term.{Term}
 use Rattle.file_actions.specs.declared.Effect.{Effect as DecodedEffect}
 use Rattle.file_actions.specs.declared.Effects.{Effects}
+use Rattle.file_actions.specs.declared.SumConditions.{SumConditions}
 use Rattle.file_actions.specs.Views.{termIs, effectIs, sourceActionIs}
 use Rattle.file_actions.specs.Within.{SourceWithin}
 use Rattle.file_declarations.specs.Holding.{HoldsSource}
 use Rattle.source_ready.specs.declared.Head.{Head}
 use Rattle.source_ready.specs.Narrowed.{SizesFit}
-use Rattle.source_step.specs.Sizes.{VARIABLES, EFFECTS}
+use Rattle.source_step.specs.Sizes.{VARIABLES, EFFECTS, SUMS}
 use Rattle.source_step.specs.Layout.{BLOCK, MANY, KIND, TARGET, OPERAND, COUNT, TERM, CONSTANT, WEIGHT, LOWER, UPPER, LINEAR, QUOTIENT, MARKS, NUMBERS}
-use Rattle.source_step.specs.Row.{effectCountAt, kindAt, targetAt, constantAt, variableAt, weightAt, effectOfKind, effectAt, effectsAt}
+use Rattle.source_step.specs.Ready.{RowAt}
+use Rattle.source_step.specs.Table.{ROWS}
+use Rattle.source_step.specs.Row.{effectCountAt, kindAt, targetAt, constantAt, variableAt, weightAt, effectOfKind, effectAt, effectsAt, sumAt, sumsAt}
 
--- ---- the terms of effect e, an L
+-- ---- the terms of block e
 abbrev pub termAt : List Term → ℕ → ℕ × ℤ
 termAt terms i = termIs (getD terms i (record { variable = 0; weight = pos 0 }))
 
--- the first k terms stand in the block of effect e, of which term i is f i; the rest is as before
+-- the first k terms stand in block e, of which term i is f i; the rest is as before
 pub record TermsPut (e k : ℕ) (f : ℕ → ℕ × ℤ) (marks : List ℕ) (numbers : List ℤ) (marks′ : List ℕ) (numbers′ : List ℤ) : Type 0 where
   pub marksLong : length marks′ ≡ MARKS
   pub numbersLong : length numbers′ ≡ NUMBERS
@@ -89,21 +93,65 @@ pub record EffectPut (e n : ℕ) (lower upper : List ℤ) (f : Effect) (marks : 
   pub numbersKept : (j : ℕ) → j < CONSTANT + BLOCK * e → integerAt numbers′ j ≡ integerAt numbers j
   pub blank : BlankFrom (e + 1) marks′ numbers′
 
--- all were
+-- the effects of rows are these
+pub record EffectsAre (n : ℕ) (lower upper : List ℤ) (fs : List Effect) (marks : List ℕ) (numbers : List ℤ) : Type 0 where
+  pub effects : effectsAt marks numbers ≡ fs
+  pub bounded : (e : ℕ) → e < EFFECTS → Bounded e marks numbers
+  pub targetDeclared : (e : ℕ) → e < effectCountAt marks → targetAt marks e < n
+  pub lowerAt : (e : ℕ) → e < effectCountAt marks → integerAt numbers (LOWER + BLOCK * e) ≡ integerAt (take n lower) (targetAt marks e)
+  pub upperAt : (e : ℕ) → e < effectCountAt marks → integerAt numbers (UPPER + BLOCK * e) ≡ integerAt (take n upper) (targetAt marks e)
+
+-- all were written, and behind their blocks the rows are 0
 pub record EffectsPut (n : ℕ) (lower upper : List ℤ) (fs : List Effect) (marks : List ℕ) (numbers : List ℤ) (marks′ : List ℕ) (numbers′ : List ℤ) : Type 0 where
-  pub effects : effectsAt marks′ numbers′ ≡ fs
-  pub bounded : (e : ℕ) → e < EFFECTS → Bounded e marks′ numbers′
-  pub targetDeclared : (e : ℕ) → e < effectCountAt marks′ → targetAt marks′ e < n
-  pub lowerAt : (e : ℕ) → e < effectCountAt marks′ → integerAt numbers′ (LOWER + BLOCK * e) ≡ integerAt (take n lower) (targetAt marks′ e)
-  pub upperAt : (e : ℕ) → e < effectCountAt marks′ → integerAt numbers′ (UPPER + BLOCK * e) ≡ integerAt (take n upper) (targetAt marks′ e)
+  pub are : EffectsAre n lower upper fs marks′ numbers′
+  pub blank : BlankFrom EFFECTS marks′ numbers′
   pub marksKept : (j : ℕ) → j < MANY → naturalAt marks′ j ≡ naturalAt marks j
   pub numbersKept : (j : ℕ) → j < CONSTANT → integerAt numbers′ j ≡ integerAt numbers j
 
--- ---- an action that keeps to the rules, in a task with these bounds and sizes: its parts row, and its effects
-pub record RowFits (n m : ℕ) (lower upper : List ℤ) (sizes : List ℕ) (parts : List ℕ) (constants : List ℤ) (effects : Effects) : Type 0 where
+-- ---- the conditions on sums
+-- one has few terms, and each a weight of a source file
+abbrev pub MeasureFits : Measured ℕ → Type 0
+MeasureFits (variable i) = ⊥
+MeasureFits (weightedSum ts) = (length ts ≤ 4) × All (λ (t : ℕ × ℤ). natAbs (t .1) ≤ 10000) ts
+
+abbrev pub SumFits : NumericCondition ℕ → Type 0
+SumFits k = MeasureFits (k .measured)
+
+-- numbers that are 0 from block e on
+pub record NumbersBlankFrom (e : ℕ) (numbers : List ℤ) : Type 0 where
+  pub long : length numbers ≡ NUMBERS
+  pub blank : (j : ℕ) → CONSTANT + BLOCK * e ≤ j → integerAt numbers j ≡ pos 0
+
+-- condition j of rows is k; its sum begins at 0, and no product of it leaves its range
+pub record SumIs (j : ℕ) (k : NumericCondition ℕ) (marks : List ℕ) (numbers : List ℤ) : Type 0 where
+  pub is : sumAt marks numbers j ≡ k
+  pub fromZero : constantAt numbers (EFFECTS + j) ≡ pos 0
+  pub weights : (i : ℕ) → i < 4 → natAbs (weightAt numbers (EFFECTS + j) i) ≤ 10000
+
+-- it was written into numbers that were 0 from its block on; outside its block the rows are as before
+pub record SumPut (j : ℕ) (k : NumericCondition ℕ) (marks : List ℕ) (numbers : List ℤ) (marks′ : List ℕ) (numbers′ : List ℤ) : Type 0 where
+  pub block : SumIs j k marks′ numbers′
+  pub marksLong : length marks′ ≡ MARKS
+  pub marksKept : (i : ℕ) → i < KIND + BLOCK * (EFFECTS + j) → naturalAt marks′ i ≡ naturalAt marks i
+  pub marksBehind : (i : ℕ) → KIND + BLOCK * (EFFECTS + j + 1) ≤ i → naturalAt marks′ i ≡ naturalAt marks i
+  pub numbersKept : (i : ℕ) → i < CONSTANT + BLOCK * (EFFECTS + j) → integerAt numbers′ i ≡ integerAt numbers i
+  pub blank : NumbersBlankFrom (EFFECTS + j + 1) numbers′
+
+-- all were written, behind the blocks of the effects
+pub record SumsPut (ks : List (NumericCondition ℕ)) (marks : List ℕ) (numbers : List ℤ) (marks′ : List ℕ) (numbers′ : List ℤ) : Type 0 where
+  pub are : sumsAt marks′ numbers′ ≡ ks
+  pub fromZero : (j : ℕ) → j < SUMS → constantAt numbers′ (EFFECTS + j) ≡ pos 0
+  pub weights : (j i : ℕ) → j < SUMS → i < 4 → natAbs (weightAt numbers′ (EFFECTS + j) i) ≤ 10000
+  pub marksKept : (i : ℕ) → i < KIND + BLOCK * EFFECTS → naturalAt marks′ i ≡ naturalAt marks i
+  pub numbersKept : (i : ℕ) → i < CONSTANT + BLOCK * EFFECTS → integerAt numbers′ i ≡ integerAt numbers i
+
+-- ---- an action that keeps to the rules, in a task with these bounds and sizes: its parts row, its effects and its conditions on sums
+pub record RowFits (n m : ℕ) (lower upper : List ℤ) (sizes : List ℕ) (parts : List ℕ) (constants : List ℤ) (effects : Effects)
+    (sums : SumConditions) : Type 0 where
   pub few : n ≤ VARIABLES
-  pub ok : SourceActionOk sourceLimits n (take m sizes) (sourceActionIs parts constants effects)
-  pub within : SourceWithin sourceLimits n (take m sizes) parts constants effects
+  pub ok : SourceActionOk sourceLimits n (take m sizes) (sourceActionIs parts constants effects sums)
+  pub within : SourceWithin sourceLimits n (take m sizes) parts constants effects sums
+  pub sumsFew : sums .count ≤ SUMS
   pub sizesFit : SizesFit m sizes
   pub lowersNear : (i : ℕ) → i < n → natAbs (integerAt lower i) ≤ 10000
   pub uppersNear : (i : ℕ) → i < n → natAbs (integerAt upper i) ≤ 10000
@@ -114,8 +162,20 @@ pub record PlacedAt (file places : List ℕ) (k : ℕ) : Type 0 where
   pub start : naturalAt places k ≡ edgeOf file k
   pub end : naturalAt places (k + 1) ≡ edgeOf file (k + 1)
 
+-- so does each of its first `count` actions
+pub record ActionsPlaced (file places : List ℕ) (count : ℕ) : Type 0 where
+  pub each : (k : ℕ) → k < count → PlacedAt file places k
+
 -- where it is accepted, it declares n variables with these bounds, and m modes of these sizes
 pub record Declares (file : List ℕ) (n : ℕ) (lower upper : List ℤ) (m : ℕ) (sizes : List ℕ) : Type 0 where
   pub starts : List ℤ
   pub modes : List ℕ
   pub holds : (t : SourceTask) → readSource file ≡ given t → HoldsSource t (record { variables = n; modes = m }) lower upper starts sizes modes
+
+-- the first k of its `count` actions have their rows, in tables with a row for each action and one more
+pub record RowsMade (file : List ℕ) (count n : ℕ) (lower upper : List ℤ) (m : ℕ) (sizes : List ℕ) (k : ℕ) (marks : List (List ℕ))
+    (numbers : List (List ℤ)) : Type 0 where
+  pub bound : k ≤ count
+  pub marksLong : length marks ≡ ROWS
+  pub numbersLong : length numbers ≡ ROWS
+  pub rows : (t : SourceTask) → readSource file ≡ given t → (j : ℕ) → j < k → RowAt (t .actions) n m lower upper sizes marks numbers j

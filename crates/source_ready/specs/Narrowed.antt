@@ -12,7 +12,7 @@ use Rattle.integers.specs.All.{All}
 use Rattle.integers.specs.Relation.{Relation, below, atMost, atLeast, above, equal}
 use Rattle.model.specs.Tasks.{Measured, variable, weightedSum, NumericCondition}
 use Rattle.model.specs.Steps.{integerAt, naturalAt, conditionsHold, modesHold, setAll}
-use Rattle.model.specs.TaskOk.{ConditionIn, ValuesIn}
+use Rattle.model.specs.TaskOk.{ValuesIn}
 use Rattle.file_parts.specs.Layout.{modeConditionRoom, modeConditionCount, modeConditionMode, modeEffectRoom, modeEffectCount, modeEffectMode}
 use Rattle.source_step.specs.Parts.{valuesBetween, modesBelow}
 use Rattle.source_step.specs.Sizes.{VARIABLES, MODES}
@@ -47,6 +47,14 @@ abbrev pub narrowedAll : List (NumericCondition ℕ) → List ℤ → List ℤ
 narrowedAll [] l = l
 narrowedAll (c ∷ cs) l = narrowedAll cs (narrowedOn (c .measured) (c .relation) (c .constant) l)
 
+-- a condition on a variable, of n, as every C is
+abbrev pub VariableIn : ℕ → Measured ℕ → Type 0
+VariableIn n (variable i) = i < n
+VariableIn n (weightedSum ts) = ⊥
+
+abbrev pub OnVariable : ℕ → NumericCondition ℕ → Type 0
+OnVariable n c = VariableIn n (c .measured)
+
 -- the bounds of the first k variables stand in a row; from the effects on it is as before
 pub record BoundsPut (k : ℕ) (lower upper : List ℤ) (numbers numbers′ : List ℤ) : Type 0 where
   pub long : length numbers′ ≡ NUMBERS
@@ -57,7 +65,7 @@ pub record BoundsPut (k : ℕ) (lower upper : List ℤ) (numbers numbers′ : Li
 -- the row asks that the values of a state lie within the bounds and that the conditions hold
 pub record RangesPut (lower upper : List ℤ) (cs : List (NumericCondition ℕ)) (numbers numbers′ : List ℤ) : Type 0 where
   pub long : length numbers′ ≡ NUMBERS
-  pub values : (n : ℕ) → n ≤ VARIABLES → All (ConditionIn n) cs → (x : List ℤ)
+  pub values : (n : ℕ) → n ≤ VARIABLES → All (OnVariable n) cs → (x : List ℤ)
       → valuesIn n numbers′ x ≡ (valuesBetween n lower upper x && conditionsHold cs (integerAt (take n x)))
   pub rest : (j : ℕ) → CONSTANT ≤ j → integerAt numbers′ j ≡ integerAt numbers j
 

@@ -1,12 +1,16 @@
 // The rows of all actions of an accepted source file, made ready for many steps.
 //
-// The file is walked once, and each action is decoded once: its conditions and mode effects become ranges and marks (narrowing.rt), its
-// numeric effects stand behind them, in a block each. What rows mean is said in crate source_step, specs/Row.antt. It never takes a step.
+// The file is walked once, and each action is decoded once: its conditions on variables and modes and its mode effects become ranges and marks
+// (narrowing.rt), its numeric effects stand behind them, in a block each, and behind these its conditions on sums likewise. What rows mean is
+// said in crate source_step, specs/Row.antt. It never takes a step.
 mod narrowing;
 
+use file_actions::EFFECTS;
 use file_actions::Effect;
 use file_actions::Effects;
 use file_actions::NumericEffect;
+use file_actions::SumCondition;
+use file_actions::SumConditions;
 use file_actions::TERMS;
 use file_actions::Term;
 use file_parts::MARKS as PART_MARKS;
@@ -25,6 +29,7 @@ use source_step::NUMBERS;
 use source_step::OPERAND;
 use source_step::QUOTIENT;
 use source_step::RESIDUE;
+use source_step::SUM_COUNT;
 use source_step::TARGET;
 use source_step::TERM;
 use source_step::UPPER;
@@ -37,20 +42,21 @@ ghost use lib.IntN.{pos};
 ghost use Rattle.integers.specs.All.{All};
 ghost use Rattle.model.specs.Limits.{sourceLimits};
 ghost use Rattle.model.specs.Reading.{verdictOf};
-ghost use Rattle.model.specs.Decoding.{sourceActionOf};
+ghost use Rattle.model.specs.Decoding.{sumConditionsOf};
 ghost use Rattle.model.specs.ActionBytes.{edgeOf, actionPart, decodeAction};
 ghost use Rattle.model.specs.TaskOk.{EffectOk};
 ghost use Rattle.model.specs.Steps.{naturalAt};
 ghost use Rattle.file_parts.specs.Layout as layout;
 ghost use Rattle.file_actions.specs.Places.{goalPart};
-ghost use Rattle.file_actions.specs.Views.{sourceActionIs, SourceDecoded, fittingSource, numericIs, effectsIs};
-ghost use Rattle.source_step.specs.Sizes.{VARIABLES, ACTIONS, EFFECTS};
+ghost use Rattle.file_actions.specs.Views.{sourceActionIs, plainActionOf, SourceDecoded, SumsDecoded, fittingSource, numericIs, effectsIs, sumIs, sumsIs};
+ghost use Rattle.source_step.specs.Sizes.{VARIABLES, ACTIONS, EFFECTS, SUMS};
 ghost use Rattle.source_step.specs.Accepted.{AcceptedWith};
 ghost use Rattle.source_step.specs.Row.{RowOf};
 ghost use Rattle.source_step.specs.Ready.{Prepared};
 ghost use Rattle.source_step.specs.Table.{ROWS};
-ghost use Rattle.source_step.specs.Layout.{MARKS, NUMBERS};
-ghost use Rattle.source_ready.specs.Made.{termAt, TermsPut, HeadOf, HeadPut, termsOfKind, BlankFrom, EffectPut, EffectsPut, RowFits, PlacedAt, Declares};
+ghost use Rattle.source_step.specs.Layout.{BLOCKS, MARKS, NUMBERS};
+ghost use Rattle.source_ready.specs.Made.{termAt, TermsPut, HeadOf, HeadPut, termsOfKind, BlankFrom, EffectPut, EffectsPut};
+ghost use Rattle.source_ready.specs.Made.{NumbersBlankFrom, SumFits, SumPut, SumsPut, RowFits, PlacedAt, ActionsPlaced, Declares, RowsMade};
 
 // The places of the actions of a file, and that of its goal.
 const PLACES: usize = 33;
@@ -61,7 +67,7 @@ fn wide(x: u8) -> u16
     x as u16
 }
 
-// The variables and the weights of the first k terms of effect e, an L.
+// The variables and the weights of the first k terms of block e: of an L, or of a condition on a sum.
 fn put_terms(
     marks: &mut [u16; MARKS],
     numbers: &mut [i64; NUMBERS],
@@ -69,7 +75,7 @@ fn put_terms(
     k: usize,
     terms: [Term; TERMS],
 )
-    requires { ⌜ (e < EFFECTS) × (k ≤ 4) × (length (now marks) ≡ MARKS) × (length (now numbers) ≡ NUMBERS) ⌝ }
+    requires { ⌜ (e < BLOCKS) × (k ≤ 4) × (length (now marks) ≡ MARKS) × (length (now numbers) ≡ NUMBERS) ⌝ }
     ensures { λ _. ⌜ TermsPut e k (termAt terms) (now (marks .entry)) (now (numbers .entry)) (now (marks .exit)) (now (numbers .exit)) ⌝ }
 {
     let mut i: usize = 0;
@@ -211,7 +217,42 @@ fn put_effects(
     }
 }
 
-// The rows of an action, in the place of zeros: of its parts row and its effects.
+// Condition j on a sum: its relation, its terms, and the constant that the sum is compared with.
+fn put_sum(marks: &mut [u16; MARKS], numbers: &mut [i64; NUMBERS], j: usize, place: SumCondition)
+    requires { ⌜ (j < SUMS) × (length (now marks) ≡ MARKS) × NumbersBlankFrom (EFFECTS + j) (now numbers) × SumFits (sumIs place) ⌝ }
+    ensures { λ _. ⌜ SumPut j (sumIs place) (now (marks .entry)) (now (numbers .entry)) (now (marks .exit)) (now (numbers .exit)) ⌝ }
+{
+    let e = EFFECTS + j;
+    let relation = place.relation;
+    let constant = place.constant;
+    let terms = place.terms;
+    let count = source_step::lesser(TERMS, place.term_count);
+    put_terms(marks, numbers, e, count, terms);
+    marks[KIND + BLOCK * e] = wide(relation);
+    marks[COUNT + BLOCK * e] = count as u16;
+    numbers[LOWER + BLOCK * e] = constant;
+}
+
+// The conditions on sums of an action, and how many they are.
+fn put_sums(marks: &mut [u16; MARKS], numbers: &mut [i64; NUMBERS], sums: SumConditions)
+    requires { ⌜ BlankFrom EFFECTS (now marks) (now numbers) × (sums .count ≤ SUMS) × All SumFits (sumsIs sums) ⌝ }
+    ensures { λ _. ⌜ SumsPut (sumsIs sums) (now (marks .entry)) (now (numbers .entry)) (now (marks .exit)) (now (numbers .exit)) ⌝ }
+{
+    let count = sums.count;
+    if count == 0 {
+        return;
+    }
+    let places = sums.places;
+    marks[SUM_COUNT] = count as u16;
+    let mut j: usize = 0;
+    while j < count {
+        let place = places[j];
+        put_sum(marks, numbers, j, place);
+        j += 1;
+    }
+}
+
+// The rows of an action, in the place of zeros: of its parts row, its effects and its conditions on sums.
 pub fn put_row<'a>(
     marks: &mut [u16; MARKS],
     numbers: &mut [i64; NUMBERS],
@@ -223,18 +264,20 @@ pub fn put_row<'a>(
     parts: &'a [u16; PART_MARKS],
     constants: &'a [i64; PART_NUMBERS],
     effects: Effects,
+    sums: SumConditions,
 )
     requires { ⌜ (now marks ≡ replicate MARKS 0) × (now numbers ≡ replicate NUMBERS (pos 0))
-        × RowFits n m (now lower) (now upper) (now sizes) (now parts) (now constants) effects ⌝ }
+        × RowFits n m (now lower) (now upper) (now sizes) (now parts) (now constants) effects sums ⌝ }
     ensures { λ _. ⌜ RowOf n m (now (lower .entry)) (now (upper .entry)) (now (sizes .entry)) (now (marks .exit)) (now (numbers .exit))
-        (sourceActionIs (now (parts .entry)) (now (constants .entry)) effects) ⌝ }
+        (sourceActionIs (now (parts .entry)) (now (constants .entry)) effects sums) ⌝ }
 {
     narrowing::put_ranges(numbers, lower, upper, parts, constants);
     narrowing::put_modes(marks, m, sizes, parts);
     put_effects(marks, numbers, n, lower, upper, effects);
+    put_sums(marks, numbers, sums);
 }
 
-// Action k of a file, by the places of its actions.
+// Action k of a file but for its K, by the places of its actions.
 fn decode_placed(
     file: &[u8],
     places: &[usize; PLACES],
@@ -243,7 +286,7 @@ fn decode_placed(
     constants: &mut [i64; PART_NUMBERS],
 ) -> Effects
     requires { ⌜ (k < ACTIONS) × PlacedAt (now file) (now places) k × (length (now parts) ≡ layout.MARKS) × (length (now constants) ≡ layout.NUMBERS) ⌝ }
-    ensures { λ r. ⌜ SourceDecoded (fittingSource (sourceActionOf (decodeAction (actionPart (now (file .entry)) k)))) (now (parts .exit))
+    ensures { λ r. ⌜ SourceDecoded (fittingSource (plainActionOf (decodeAction (actionPart (now (file .entry)) k)))) (now (parts .exit))
         (now (constants .exit)) r ⌝ }
 {
     file_actions::decode_source(
@@ -253,7 +296,15 @@ fn decode_placed(
     )
 }
 
-// The goal of an accepted file with so many actions, as an action: it has no effects.
+// Its K.
+fn decode_placed_sums(file: &[u8], places: &[usize; PLACES], k: usize) -> SumConditions
+    requires { ⌜ (k < ACTIONS) × PlacedAt (now file) (now places) k ⌝ }
+    ensures { λ r. ⌜ SumsDecoded (sumConditionsOf (decodeAction (actionPart (now (file .entry)) k))) r ⌝ }
+{
+    file_actions::decode_sums(file_actions::part(file, places[k], places[k + 1]))
+}
+
+// The goal of an accepted file with so many actions but for its K, as an action: it has no effects.
 fn decode_goal(
     file: &[u8],
     places: &[usize; PLACES],
@@ -263,7 +314,7 @@ fn decode_goal(
 ) -> Effects
     requires { ⌜ (count ≤ ACTIONS) × (naturalAt (now places) count ≡ edgeOf (now file) count) × (length (now parts) ≡ layout.MARKS)
         × (length (now constants) ≡ layout.NUMBERS) ⌝ }
-    ensures { λ r. ⌜ SourceDecoded (fittingSource (sourceActionOf (decodeAction (goalPart (now (file .entry)) count)))) (now (parts .exit))
+    ensures { λ r. ⌜ SourceDecoded (fittingSource (plainActionOf (decodeAction (goalPart (now (file .entry)) count)))) (now (parts .exit))
         (now (constants .exit)) r ⌝ }
 {
     file_actions::decode_source(
@@ -271,6 +322,59 @@ fn decode_goal(
         parts,
         constants,
     )
+}
+
+// Its K.
+fn decode_goal_sums(file: &[u8], places: &[usize; PLACES], count: usize) -> SumConditions
+    requires { ⌜ (count ≤ ACTIONS) × (naturalAt (now places) count ≡ edgeOf (now file) count) ⌝ }
+    ensures { λ r. ⌜ SumsDecoded (sumConditionsOf (decodeAction (goalPart (now (file .entry)) count))) r ⌝ }
+{
+    file_actions::decode_sums(file_actions::goal_from(file, places[count]))
+}
+
+// The rows of the actions of an accepted file, of which there are `count`, by what it declares and by the places of its actions.
+fn prepare_actions(
+    file: &[u8],
+    places: &[usize; PLACES],
+    count: usize,
+    n: usize,
+    lower: &[i64; VARIABLES],
+    upper: &[i64; VARIABLES],
+    m: usize,
+    sizes: &[u16; MODES],
+    marks: &mut [[u16; MARKS]],
+    numbers: &mut [[i64; NUMBERS]],
+)
+    requires { ⌜ AcceptedWith (verdictOf sourceLimits (now file)) count × Declares (now file) n (now lower) (now upper) m (now sizes)
+        × ActionsPlaced (now file) (now places) count × (length (now marks) ≡ ROWS) × (length (now numbers) ≡ ROWS) ⌝ }
+    ensures { λ _. ⌜ RowsMade (now (file .entry)) count n (now (lower .entry)) (now (upper .entry)) m (now (sizes .entry)) count
+        (now (marks .exit)) (now (numbers .exit)) ⌝ }
+{
+    let mut parts = [0u16; PART_MARKS];
+    let mut constants = [0i64; PART_NUMBERS];
+    let mut k: usize = 0;
+    while k < count {
+        let effects = decode_placed(file, places, k, &mut parts, &mut constants);
+        let sums = decode_placed_sums(file, places, k);
+        let mut row = [0u16; MARKS];
+        let mut line = [0i64; NUMBERS];
+        put_row(
+            &mut row,
+            &mut line,
+            n,
+            lower,
+            upper,
+            m,
+            sizes,
+            &parts,
+            &constants,
+            effects,
+            sums,
+        );
+        marks[k] = row;
+        numbers[k] = line;
+        k += 1;
+    }
 }
 
 // The rows of the actions of an accepted file, of which there are `count`, by what it declares; behind them that of its goal.
@@ -292,30 +396,22 @@ pub fn prepare(
 {
     let mut places = [0usize; PLACES];
     file_actions::action_places(file, &mut places);
+    prepare_actions(
+        file,
+        &places,
+        count,
+        n,
+        lower,
+        upper,
+        m,
+        sizes,
+        marks,
+        numbers,
+    );
     let mut parts = [0u16; PART_MARKS];
     let mut constants = [0i64; PART_NUMBERS];
-    let mut k: usize = 0;
-    while k < count {
-        let effects = decode_placed(file, &places, k, &mut parts, &mut constants);
-        let mut row = [0u16; MARKS];
-        let mut line = [0i64; NUMBERS];
-        put_row(
-            &mut row,
-            &mut line,
-            n,
-            lower,
-            upper,
-            m,
-            sizes,
-            &parts,
-            &constants,
-            effects,
-        );
-        marks[k] = row;
-        numbers[k] = line;
-        k += 1;
-    }
     let goal = decode_goal(file, &places, count, &mut parts, &mut constants);
+    let goal_sums = decode_goal_sums(file, &places, count);
     let mut last = [0u16; MARKS];
     let mut most = [0i64; NUMBERS];
     put_row(
@@ -329,6 +425,7 @@ pub fn prepare(
         &parts,
         &constants,
         goal,
+        goal_sums,
     );
     marks[count] = last;
     numbers[count] = most;

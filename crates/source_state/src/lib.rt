@@ -98,6 +98,7 @@ fn read_row(
     let mut parts = [0u16; PART_MARKS];
     let mut constants = [0i64; PART_NUMBERS];
     let effects = file_actions::decode_source(bytes, &mut parts, &mut constants);
+    let sums = file_actions::decode_sums(bytes);
     source_ready::put_row(
         marks,
         numbers,
@@ -109,6 +110,7 @@ fn read_row(
         &parts,
         &constants,
         effects,
+        sums,
     );
     declared
 }

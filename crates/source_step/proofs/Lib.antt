@@ -9,6 +9,7 @@ pub mod Sound
 pub mod Standing
 pub mod Start
 pub mod Steps
+pub mod Sums
 pub mod Tables
 pub mod Taking
 pub mod Trying

@@ -83,8 +83,8 @@ module _ {n : ℕ} {values : List ℤ} {marks : List ℕ} {numbers : List ℤ} (
   abbrev operand-value : ℤ
   operand-value = integerAt (take n values) (operandAt marks e)
 
-  constant-near : natAbs (constantAt numbers e) ≤ 10_000
-  constant-near = R .usable .constants e l
+  pub constant-near : natAbs (constantAt numbers e) ≤ 10_000
+  constant-near = R .usable .constants e (omega arith)
 
   abbrev Gives : ℤ → Type 0
   Gives z = (z ≡ resultAt n marks numbers values e) × Within 1_000_000_000 z

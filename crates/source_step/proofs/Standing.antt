@@ -19,7 +19,7 @@ use Rattle.source_step.specs.Step.{state, stepOf, handedBack, Shaped, Tr
 use Rattle.source_step.proofs.Sound.{values-sound, modes-sound}
 use Rattle.source_step.proofs.Steps.{values-near, step-of-task}
 use Rattle.source_step.proofs.Trying.{tried-keeps}
-use Rattle.source_step.specs.Row.{valuesIn, modesIn, effectsAt, staysIn, Usable, Reads, Stepped}
+use Rattle.source_step.specs.Row.{effectsAt, staysIn, held, Usable, Reads, Stepped}
 use Rattle.source_step.proofs.Taking as taking
 use Rattle.source_step.specs.Ready.{marksOf, numbersOf, Ready, Standing}
 
@@ -71,7 +71,8 @@ module _ {count : ℕ} {marks : List (List ℕ)} {numbers : List (List ℤ)} {n 
 
       -- the rows ask just the conditions
       pub opens : let a = S .ready .rowsAre k l .action in
-          (modesIn m (marksOf marks k) modes && valuesIn n (numbersOf numbers k) values) ≡ (modesHold (a .modeConditions) (naturalAt (take m modes)) && conditionsHold (a .conditions) (integerAt (take n values)))
+          held n m (marksOf marks k) (numbersOf numbers k) values modes
+          ≡ (modesHold (a .modeConditions) (naturalAt (take m modes)) && conditionsHold (a .conditions) (integerAt (take n values)))
       opens =
           let R = S .ready .rowsAre k l .row in
           let a = S .ready .rowsAre k l .action in
@@ -80,7 +81,7 @@ module _ {count : ℕ} {marks : List (List ℕ)} {numbers : List (List ℤ)} {n 
           (R .values values ∙ ap (λ (b : Bool). b && conditionsHold (a .conditions) (integerAt (take n values))) values-within)
 
     -- the goal is met
-    pub goal-met : (modesIn m (marksOf marks count) modes && valuesIn n (numbersOf numbers count) values) ≡ sourceGoalHolds (S .task) (declaredPart n m (state values modes))
+    pub goal-met : held n m (marksOf marks count) (numbersOf numbers count) values modes ≡ sourceGoalHolds (S .task) (declaredPart n m (state values modes))
     goal-met =
         let R = S .ready .goalRow in
         ap₂ (λ (p q : Bool). p && q)
@@ -102,7 +103,7 @@ module _ {count : ℕ} {marks : List (List ℕ)} {numbers : List (List ℤ)} {n 
           ∙ rw (← ready .lowersAre, ← ready .uppersAre, ← ready .sizesAre) (tried .declares)
 
       -- an action whose conditions hold and that does not apply has a result out of bounds
-      pub turned-back : (modesIn m (marksOf marks k) modes && valuesIn n (numbersOf numbers k) values) ≡ true → r ≡ false
+      pub turned-back : held n m (marksOf marks k) (numbersOf numbers k) values modes ≡ true → r ≡ false
           → withinBounds (lowerBounds t) (upperBounds t) (results (action .effects) (integerAt (take n values))) ≡ false
       turned-back h e =
           rw (← ready .lowersAre, ← ready .uppersAre) (

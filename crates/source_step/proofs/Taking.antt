@@ -21,7 +21,8 @@ use Rattle.source_step.proofs.Sound.{tabulate-same, length-settled, val
 use Rattle.source_step.proofs.Steps.{after, asked, one-fails, all-pass, step-asks}
 use Rattle.source_step.proofs.Trying.{length-setAll}
 use Rattle.source_step.specs.Sizes.{VARIABLES}
-use Rattle.source_step.specs.Row.{valuesIn, modesIn, modesAfter, effectCountAt, targetAt, resultAt, outcomesAt, staysIn, held, valuesAfter, Usable, Reads, RowOf, Stepped, Finished}
+use Rattle.source_step.specs.Row.{valuesIn, modesIn, modesAfter, effectCountAt, targetAt, resultAt, outcomesAt, staysIn, sumsHold}
+use Rattle.source_step.specs.Row.{held, valuesAfter, Usable, Reads, RowOf, Stepped, Finished}
 use Rattle.source_step.proofs.Results.{within-by-number, outcomes-are}
 
 -- four tests in the order of the rows and in that of the model
@@ -36,7 +37,33 @@ four-fail false m p c rest y e = refl
 pub read-when-held : {n : ℕ} (m : ℕ) {marks : List ℕ} {numbers : List ℤ} (values : List ℤ) (modes : List ℕ) → n ≤ VARIABLES → Usable n marks numbers
     → held n m marks numbers values modes ≡ true → Reads n values marks numbers
 read-when-held {n} m {marks} {numbers} values modes l u h =
-    record { variablesFew = l; near = u .near values (and-right (modesIn m marks modes) (valuesIn n numbers values) h); usable = u }
+    let inside = and-right (modesIn m marks modes) (valuesIn n numbers values && sumsHold n marks numbers values) h in
+    record { variablesFew = l; near = u .near values (and-left (valuesIn n numbers values) (sumsHold n marks numbers values) inside); usable = u }
+
+-- the test of the rows asks the ranges first, then the conditions on sums
+and-assoc : (a b c : Bool) → (a && (b && c)) ≡ ((a && b) && c)
+and-assoc true b c = refl
+and-assoc false b c = refl
+
+pub out-of-range : (n m : ℕ) (marks : List ℕ) (numbers values : List ℤ) (modes : List ℕ) → (modesIn m marks modes && valuesIn n numbers values) ≡ false
+    → held n m marks numbers values modes ≡ false
+out-of-range n m marks numbers values modes e =
+    let sums = sumsHold n marks numbers values in
+    and-assoc (modesIn m marks modes) (valuesIn n numbers values) sums ∙ ap (λ (b : Bool). b && sums) e
+
+-- every mode and value lies between what the rows say
+pub record RangesHold (n m : ℕ) (marks : List ℕ) (numbers values : List ℤ) (modes : List ℕ) : Type 0 where
+  pub passes : (modesIn m marks modes && valuesIn n numbers values) ≡ true
+
+module _ {n m : ℕ} {marks : List ℕ} {numbers : List ℤ} {values : List ℤ} {modes : List ℕ} (h : RangesHold n m marks numbers values modes) where
+  pub sums-decide : held n m marks numbers values modes ≡ sumsHold n marks numbers values
+  sums-decide =
+      let sums = sumsHold n marks numbers values in
+      and-assoc (modesIn m marks modes) (valuesIn n numbers values) sums ∙ ap (λ (b : Bool). b && sums) (h .passes)
+
+  pub read-in-range : n ≤ VARIABLES → Usable n marks numbers → Reads n values marks numbers
+  read-in-range l u =
+      record { variablesFew = l; near = u .near values (and-right (modesIn m marks modes) (valuesIn n numbers values) (h .passes)); usable = u }
 
 -- ---- what the ways through a step come to
 module _ {n m : ℕ} {marks : List ℕ} {numbers : List ℤ} {values : List ℤ} {modes : List ℕ} where
@@ -99,20 +126,22 @@ module _ {n m : ℕ} {marks : List ℕ} {numbers : List ℤ} {values : List ℤ}
         step-asks (take n lower) (take n upper) (take m sizes) (declaredPart n m (state values modes)) a
         ∙ rw (values-sound n lower upper values (omega (arith, S .valuesLong, S .variablesFew)), modes-sound m sizes modes (omega (arith, S .sizesLong, S .modesFew)) (omega (arith, S .modesLong, S .modesFew)), below-after, bounds-are) refl
 
-    rows-are : (modesIn m marks modes && valuesIn n numbers values) ≡ ((modesBelow m sizes modes && modesHold (a .modeConditions) (naturalAt (take m modes))) && (valuesBetween n lower upper values && conditionsHold (a .conditions) (integerAt (take n values))))
+    rows-are : held n m marks numbers values modes
+        ≡ ((modesBelow m sizes modes && modesHold (a .modeConditions) (naturalAt (take m modes)))
+        && (valuesBetween n lower upper values && conditionsHold (a .conditions) (integerAt (take n values))))
     rows-are = ap₂ (λ (p q : Bool). p && q) (R .modes modes) (R .values values)
 
     refusal : {r : Bool} {values′ : List ℤ} {modes′ : List ℕ} → r ≡ false → values′ ≡ values → modes′ ≡ modes → asked made (after (declaredPart n m (state values modes)) a) ≡ none → Tried n m lower upper sizes values modes a r values′ modes′
     refusal p s t e =
         rw (p, s, t) (record { meets = ap (handedBack n m (state values modes)) (sym (step-made ∙ e)); declares = step-made ∙ e; valuesLong = S .valuesLong; modesLong = S .modesLong })
 
-    fails-before : (modesIn m marks modes && valuesIn n numbers values) ≡ false → asked made (after (declaredPart n m (state values modes)) a) ≡ none
+    fails-before : held n m marks numbers values modes ≡ false → asked made (after (declaredPart n m (state values modes)) a) ≡ none
     fails-before e =
         (four-fail (valuesBetween n lower upper values) (modesBelow m sizes modes) (modesHold (a .modeConditions) (naturalAt (take m modes))) (conditionsHold (a .conditions) (integerAt (take n values)))
         (effectsFit (a .effects) (integerAt (take n values)) ∷ modesBelow m sizes (modesAfter m marks modes) ∷ staysIn n marks numbers values ∷ [])
         (after (declaredPart n m (state values modes)) a) (sym rows-are ∙ e))
 
-    module _ (h : (modesIn m marks modes && valuesIn n numbers values) ≡ true) where
+    module _ (h : held n m marks numbers values modes ≡ true) where
       before : All (λ (b : Bool). b ≡ true) (valuesBetween n lower upper values ∷ modesBelow m sizes modes ∷ modesHold (a .modeConditions) (naturalAt (take m modes)) ∷ conditionsHold (a .conditions) (integerAt (take n values)) ∷ [])
       before =
           let mb = modesBelow m sizes modes in
@@ -129,7 +158,7 @@ module _ {n m : ℕ} {marks : List ℕ} {numbers : List ℤ} {values : List ℤ}
           let b = before in
           all-pass made _ (b .0, (b .1 .0, (b .1 .1 .0, (b .1 .1 .1 .0, (R .fits values (b .0), (R .setsBelow modes (omega (arith, S .modesLong, S .modesFew)) (b .1 .0), (w, tt)))))))
 
-    passes : {r : Bool} {values′ : List ℤ} {modes′ : List ℕ} → r ≡ true → (modesIn m marks modes && valuesIn n numbers values) ≡ true → staysIn n marks numbers values ≡ true
+    passes : {r : Bool} {values′ : List ℤ} {modes′ : List ℕ} → r ≡ true → held n m marks numbers values modes ≡ true → staysIn n marks numbers values ≡ true
         → values′ ≡ settled n (outcomesAt n marks numbers values) values → modes′ ≡ modesAfter m marks modes → Tried n m lower upper sizes values modes a r values′ modes′
     passes {r} {values′} {modes′} p h w s t =
         let o = results (a .effects) (integerAt (take n values)) in
@@ -149,9 +178,9 @@ module _ {n m : ℕ} {marks : List ℕ} {numbers : List ℤ} {values : List ℤ}
 
     -- THE LAW, in every state
     pub tried : {r : Bool} {values′ : List ℤ} {modes′ : List ℕ} → Stepped n m marks numbers values modes r values′ modes′ → Tried n m lower upper sizes values modes a r values′ modes′
-    tried {r} {values′} {modes′} T = go (modesIn m marks modes && valuesIn n numbers values) (staysIn n marks numbers values) refl refl (T .is) (T .valuesAre) (T .modesAre)
+    tried {r} {values′} {modes′} T = go (held n m marks numbers values modes) (staysIn n marks numbers values) refl refl (T .is) (T .valuesAre) (T .modesAre)
       where
-        go : (h w : Bool) → (modesIn m marks modes && valuesIn n numbers values) ≡ h → staysIn n marks numbers values ≡ w
+        go : (h w : Bool) → held n m marks numbers values modes ≡ h → staysIn n marks numbers values ≡ w
             → r ≡ (h && w) → values′ ≡ cond (h && w) (valuesAfter n marks numbers values) values → modes′ ≡ cond (h && w) (modesAfter m marks modes) modes → Tried n m lower upper sizes values modes a r values′ modes′
         go true true e f p s t = passes p e f s t
         go true false e f p s t = refusal p s t (one-fails made 6 _ f)

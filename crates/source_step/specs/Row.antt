@@ -7,16 +7,16 @@ use mathlib.Core.Bool.{Bool, true, cond, _&&_}
 use mathlib.Core.List.{List, _++_}
 use lib.Dec.{eqb, leb}
 use lib.ListN.{length, take, drop}
-use lib.IntN.{ℤ, natAbs}
-use Rattle.integers.specs.Relation.{between}
+use lib.IntN.{ℤ, pos, natAbs}
+use Rattle.integers.specs.Relation.{relationOf, related, between}
 use Rattle.lists.specs.Each.{tabulate}
 use Rattle.lists.specs.Loops.{every}
-use Rattle.model.specs.Tasks.{Effect, addEffect, linearEffect, quotientEffect, residueEffect, SourceAction}
-use Rattle.model.specs.Steps.{integerAt, naturalAt, modesHold, conditionsHold, setAll, result, results}
+use Rattle.model.specs.Tasks.{weightedSum, NumericCondition, Effect, addEffect, linearEffect, quotientEffect, residueEffect, SourceAction}
+use Rattle.model.specs.Steps.{integerAt, naturalAt, modesHold, weigh, conditionsHold, setAll, result, results}
 use Rattle.source_step.specs.Parts.{valuesBetween, modesBelow, effectsFit}
-use Rattle.source_step.specs.Sizes.{VARIABLES, MODES, EFFECTS}
+use Rattle.source_step.specs.Sizes.{VARIABLES, MODES, EFFECTS, SUMS}
 use Rattle.source_step.specs.Step.{settled}
-use Rattle.source_step.specs.Layout.{BLOCK, TOP, KEEP, PUT, MANY, KIND, TARGET, OPERAND, COUNT, TERM}
+use Rattle.source_step.specs.Layout.{BLOCK, BLOCKS, TOP, KEEP, PUT, MANY, KIND, TARGET, OPERAND, COUNT, TERM, sumCount}
 use Rattle.source_step.specs.Layout.{MOST, CONSTANT, WEIGHT, LOWER, UPPER, ADD, LINEAR, QUOTIENT}
 
 -- ---- what the rows ask of a state with n variables and m modes
@@ -105,6 +105,29 @@ firstOutside n marks numbers values = leading (staysAt n marks numbers values) (
 abbrev pub staysIn : ℕ → List ℕ → List ℤ → List ℤ → Bool
 staysIn n marks numbers values = every (λ b. b) (tabulate (effectCountAt marks) (staysAt n marks numbers values))
 
+-- ---- the conditions on sums: how many, and condition j of them
+abbrev pub sumCountAt : List ℕ → ℕ
+sumCountAt marks = min SUMS (naturalAt marks sumCount)
+
+abbrev pub sumAt : List ℕ → List ℤ → ℕ → NumericCondition ℕ
+sumAt marks numbers j = record {
+  measured = weightedSum (termsAt marks numbers (EFFECTS + j));
+  relation = relationOf (kindAt marks (EFFECTS + j));
+  constant = integerAt numbers (LOWER + BLOCK * (EFFECTS + j));
+}
+
+abbrev pub sumsAt : List ℕ → List ℤ → List (NumericCondition ℕ)
+sumsAt marks numbers = tabulate (sumCountAt marks) (sumAt marks numbers)
+
+-- whether condition j holds, and whether all do
+abbrev pub sumHolds : ℕ → List ℕ → List ℤ → List ℤ → ℕ → Bool
+sumHolds n marks numbers values j =
+    related (relationOf (kindAt marks (EFFECTS + j))) (weigh (termsAt marks numbers (EFFECTS + j)) (integerAt (take n values)))
+    (integerAt numbers (LOWER + BLOCK * (EFFECTS + j)))
+
+abbrev pub sumsHold : ℕ → List ℕ → List ℤ → List ℤ → Bool
+sumsHold n marks numbers values = conditionsHold (sumsAt marks numbers) (integerAt (take n values))
+
 -- ---- a mode stays as it is or is set, and remains a number of 16 bits
 abbrev pub KeepOrSet : List ℕ → Type 0
 KeepOrSet marks = (i : ℕ) → i < MODES → naturalAt marks (KEEP + i) * 65535 + naturalAt marks (PUT + i) ≤ 65535
@@ -113,9 +136,10 @@ KeepOrSet marks = (i : ℕ) → i < MODES → naturalAt marks (KEEP + i) * 65535
 pub record Usable (n : ℕ) (marks : List ℕ) (numbers : List ℤ) : Type 0 where
   pub near : (x : List ℤ) → valuesIn n numbers x ≡ true → (i : ℕ) → natAbs (integerAt (take n x) i) ≤ 10000
   pub keeps : KeepOrSet marks
-  pub constants : (e : ℕ) → e < EFFECTS → natAbs (constantAt numbers e) ≤ 10000
-  pub weights : (e i : ℕ) → e < EFFECTS → i < 4 → natAbs (weightAt numbers e i) ≤ 10000
+  pub constants : (e : ℕ) → e < BLOCKS → natAbs (constantAt numbers e) ≤ 10000
+  pub weights : (e i : ℕ) → e < BLOCKS → i < 4 → natAbs (weightAt numbers e i) ≤ 10000
   pub divides : (e : ℕ) → e < EFFECTS → QUOTIENT ≤ kindAt marks e → 1 ≤ natAbs (constantAt numbers e)
+  pub sumsFromZero : (j : ℕ) → j < SUMS → constantAt numbers (EFFECTS + j) ≡ pos 0
 
 -- n values with which they do not
 pub record Reads (n : ℕ) (values : List ℤ) (marks : List ℕ) (numbers : List ℤ) : Type 0 where
@@ -126,7 +150,8 @@ pub record Reads (n : ℕ) (values : List ℤ) (marks : List ℕ) (numbers : Lis
 -- ---- the rows of an action in a task with these bounds and sizes
 pub record RowOf (n m : ℕ) (lower upper : List ℤ) (sizes : List ℕ) (marks : List ℕ) (numbers : List ℤ) (a : SourceAction) : Type 0 where
   pub usable : Usable n marks numbers
-  pub values : (x : List ℤ) → valuesIn n numbers x ≡ (valuesBetween n lower upper x && conditionsHold (a .conditions) (integerAt (take n x)))
+  pub values : (x : List ℤ) → (valuesIn n numbers x && sumsHold n marks numbers x)
+      ≡ (valuesBetween n lower upper x && conditionsHold (a .conditions) (integerAt (take n x)))
   pub modes : (x : List ℕ) → modesIn m marks x ≡ (modesBelow m sizes x && modesHold (a .modeConditions) (naturalAt (take m x)))
   pub sets : (x : List ℕ) → m ≤ length x → modesAfter m marks x ≡ setAll (a .modeEffects) (take m x) ++ drop m x
   pub setsBelow : (x : List ℕ) → m ≤ length x → modesBelow m sizes x ≡ true → modesBelow m sizes (modesAfter m marks x) ≡ true
@@ -138,7 +163,7 @@ pub record RowOf (n m : ℕ) (lower upper : List ℤ) (sizes : List ℕ) (marks 
 
 -- ---- a step by rows, in every state: the test of the rows
 abbrev pub held : ℕ → ℕ → List ℕ → List ℤ → List ℤ → List ℕ → Bool
-held n m marks numbers values modes = modesIn m marks modes && valuesIn n numbers values
+held n m marks numbers values modes = modesIn m marks modes && (valuesIn n numbers values && sumsHold n marks numbers values)
 
 -- whether they are taken, and the values after
 abbrev pub takes : ℕ → ℕ → List ℕ → List ℤ → List ℤ → List ℕ → Bool

@@ -1,5 +1,5 @@
--- How many variables and modes the arrays of a source state have room for, how many numeric effects an action has at most, and how many actions a
--- source task. The names are those of the code.
+-- How many variables and modes the arrays of a source state have room for, how many numeric effects and conditions on sums an action has at most,
+-- and how many actions a source task. The names are those of the code.
 -- Assumes nothing.
 use Prim.Native.Nat.{ℕ}
 
@@ -14,3 +14,6 @@ ACTIONS = 32
 
 abbrev pub EFFECTS : ℕ
 EFFECTS = 3
+
+abbrev pub SUMS : ℕ
+SUMS = 4

@@ -1,8 +1,8 @@
 // Actions of an accepted source task made ready for many steps, each as two rows of numbers, and a step by them in every state.
 //
 // A row says of every variable and of every mode between which values the action applies, so that a step goes through the declared
-// variables and modes once, whatever conditions the action was written with. Rows are lent; what they mean is said in specs/Row.antt.
-// It never reads a file, and never finds an action by its number.
+// variables and modes once, whatever conditions on one of them the action was written with. Conditions on weighted sums are asked last, one by
+// one. Rows are lent; what they mean is said in specs/Row.antt. It never reads a file, and never finds an action by its number.
 use file_actions::EFFECTS;
 use file_actions::TERMS;
 ghost use mathlib.Core.Path.{_≡_};
@@ -17,22 +17,29 @@ ghost use Rattle.integers.specs.Relation.{between};
 ghost use Rattle.model.specs.Steps.{integerAt, linear};
 ghost use Rattle.source_step.specs.Step.{setAt, settled};
 ghost use Rattle.source_step.specs.Row.{valuesIn, modesIn, modesAfter, KeepOrSet, effectCountAt, constantAt, variableAt, weightAt, termsAt};
-ghost use Rattle.source_step.specs.Row.{resultAt, ResultsAre, SingleIs, firstOutside, pairsOf, Reads, Usable, held, Settled, Stepped, Finished};
-ghost use Rattle.source_step.specs.Sizes.{VARIABLES, MODES, EFFECTS};
-ghost use Rattle.source_step.specs.Layout.{BLOCK, LOWER, UPPER};
+ghost use Rattle.source_step.specs.Row.{resultAt, ResultsAre, SingleIs, firstOutside, pairsOf, sumHolds, sumsHold};
+ghost use Rattle.source_step.specs.Row.{Reads, Usable, held, Settled, Stepped, Finished};
+ghost use Rattle.source_step.specs.Sizes.{VARIABLES, MODES, EFFECTS, SUMS};
+ghost use Rattle.source_step.specs.Layout.{BLOCK, BLOCKS, LOWER, UPPER};
 
 // The most variables and modes that a source task declares.
 pub const VARIABLES: usize = 8;
 
 pub const MODES: usize = 4;
 
-// How long the rows of an action are.
-pub const MARKS: usize = 41;
+// The most conditions on sums that an action has.
+pub const SUMS: usize = 4;
 
-pub const NUMBERS: usize = 40;
+// How long the rows of an action are.
+pub const MARKS: usize = 74;
+
+pub const NUMBERS: usize = 72;
 
 // How far the numbers of an effect stand behind those of the effect before, in either row.
 pub const BLOCK: usize = 8;
+
+// For how many effects and, behind them, conditions on sums there is room in either row.
+pub const BLOCKS: usize = 7;
 
 // Where in the marks, of mode i: the least value is mark i; then the most, whether it is kept, and what it is set to.
 pub const TOP: usize = 4;
@@ -54,6 +61,9 @@ pub const OPERAND: usize = 19;
 pub const COUNT: usize = 20;
 
 pub const TERM: usize = 21;
+
+// How many conditions on sums the action has.
+pub const SUM_COUNT: usize = 73;
 
 // Where in the numbers, of variable i: the least value is number i; then the most.
 pub const MOST: usize = 8;
@@ -142,24 +152,6 @@ fn modes_in(modes: &[u16; MODES], m: usize, marks: &[u16; MARKS]) -> bool
     true
 }
 
-// Whether a state of n variables and m modes is within the bounds of its task, and the conditions of an action hold in it.
-pub fn holds(
-    values: &[i64; VARIABLES],
-    modes: &[u16; MODES],
-    n: usize,
-    m: usize,
-    marks: &[u16; MARKS],
-    numbers: &[i64; NUMBERS],
-) -> bool
-    requires { ⌜ (n ≤ VARIABLES) × (m ≤ MODES) ⌝ }
-    ensures { λ r. ⌜ r ≡ held n m (now (marks .entry)) (now (numbers .entry)) (now (values .entry)) (now (modes .entry)) ⌝ }
-{
-    if !modes_in(modes, m, marks) {
-        return false;
-    }
-    values_in(values, n, numbers)
-}
-
 // A mode that stays, or what it is set to.
 fn mode_after(mode: u16, keep: u16, put: u16) -> u16
     requires { ⌜ keep * 65535 + put ≤ 65535 ⌝ }
@@ -213,7 +205,7 @@ pub fn effect_count(marks: &[u16; MARKS]) -> usize
     lesser(EFFECTS, wide16(marks[MANY]))
 }
 
-// A sum with one more term of effect e.
+// A sum with one more term of block e.
 fn plus_term(
     z: i64,
     values: &[i64; VARIABLES],
@@ -223,7 +215,7 @@ fn plus_term(
     e: usize,
     i: usize,
 ) -> i64
-    requires { ⌜ Reads n (now values) (now marks) (now numbers) × (e < EFFECTS) × (i < 4) × Within 1000000000 z ⌝ }
+    requires { ⌜ Reads n (now values) (now marks) (now numbers) × (e < BLOCKS) × (i < 4) × Within 1000000000 z ⌝ }
     ensures { λ r. ⌜ (r ≡ z +ℤ integerAt (take n (now (values .entry))) (variableAt (now (marks .entry)) e i) *ℤ weightAt (now (numbers .entry)) e i)
         × (natAbs r ≤ natAbs z + 100000000) ⌝ }
 {
@@ -231,7 +223,7 @@ fn plus_term(
     plus_product(z, value, numbers[WEIGHT + BLOCK * e + i])
 }
 
-// What effect e gives where it is an L.
+// What effect e gives where it is an L; of a condition on a sum, the sum.
 pub fn linear_value(
     values: &[i64; VARIABLES],
     n: usize,
@@ -239,7 +231,7 @@ pub fn linear_value(
     numbers: &[i64; NUMBERS],
     e: usize,
 ) -> i64
-    requires { ⌜ Reads n (now values) (now marks) (now numbers) × (e < EFFECTS) ⌝ }
+    requires { ⌜ Reads n (now values) (now marks) (now numbers) × (e < BLOCKS) ⌝ }
     ensures { λ r. ⌜ (r ≡ linear (constantAt (now (numbers .entry)) e) (termsAt (now (marks .entry)) (now (numbers .entry)) e)
         (integerAt (take n (now (values .entry))))) × Within 1000000000 r ⌝ }
 {
@@ -251,6 +243,97 @@ pub fn linear_value(
         i += 1;
     }
     sum
+}
+
+// Whether condition j on a sum holds.
+fn sum_holds(
+    values: &[i64; VARIABLES],
+    n: usize,
+    marks: &[u16; MARKS],
+    numbers: &[i64; NUMBERS],
+    j: usize,
+) -> bool
+    requires { ⌜ Reads n (now values) (now marks) (now numbers) × (j < SUMS) ⌝ }
+    ensures { λ r. ⌜ r ≡ sumHolds n (now (marks .entry)) (now (numbers .entry)) (now (values .entry)) j ⌝ }
+{
+    let e = EFFECTS + j;
+    let sum = linear_value(values, n, marks, numbers, e);
+    let relation = marks[KIND + BLOCK * e];
+    integers::relation_holds(sum, relation, numbers[LOWER + BLOCK * e])
+}
+
+// Whether every one does.
+fn sums_hold(
+    values: &[i64; VARIABLES],
+    n: usize,
+    marks: &[u16; MARKS],
+    numbers: &[i64; NUMBERS],
+) -> bool
+    requires { ⌜ Reads n (now values) (now marks) (now numbers) ⌝ }
+    ensures { λ r. ⌜ r ≡ sumsHold n (now (marks .entry)) (now (numbers .entry)) (now (values .entry)) ⌝ }
+{
+    let count = lesser(SUMS, wide16(marks[SUM_COUNT]));
+    if count < 1 {
+        return true;
+    }
+    if !sum_holds(values, n, marks, numbers, 0) {
+        return false;
+    }
+    if count < 2 {
+        return true;
+    }
+    if !sum_holds(values, n, marks, numbers, 1) {
+        return false;
+    }
+    if count < 3 {
+        return true;
+    }
+    if !sum_holds(values, n, marks, numbers, 2) {
+        return false;
+    }
+    if count < 4 {
+        return true;
+    }
+    sum_holds(values, n, marks, numbers, 3)
+}
+
+// Whether each of m modes and of n values lies between what the rows of an action say.
+fn ranges_hold(
+    values: &[i64; VARIABLES],
+    modes: &[u16; MODES],
+    n: usize,
+    m: usize,
+    marks: &[u16; MARKS],
+    numbers: &[i64; NUMBERS],
+) -> bool
+    requires { ⌜ (n ≤ VARIABLES) × (m ≤ MODES) ⌝ }
+    ensures { λ r. ⌜ r ≡ (modesIn m (now (marks .entry)) (now (modes .entry)) && valuesIn n (now (numbers .entry)) (now (values .entry))) ⌝ }
+{
+    if !modes_in(modes, m, marks) {
+        return false;
+    }
+    values_in(values, n, numbers)
+}
+
+// Whether a state of n variables and m modes is within the bounds of its task, and the conditions of an action hold in it.
+pub fn holds(
+    values: &[i64; VARIABLES],
+    modes: &[u16; MODES],
+    n: usize,
+    m: usize,
+    marks: &[u16; MARKS],
+    numbers: &[i64; NUMBERS],
+) -> bool
+    requires { ⌜ (n ≤ VARIABLES) × (m ≤ MODES) × Usable n (now marks) (now numbers) ⌝ }
+    ensures { λ r. ⌜ r ≡ held n m (now (marks .entry)) (now (numbers .entry)) (now (values .entry)) (now (modes .entry)) ⌝ }
+{
+    if !ranges_hold(values, modes, n, m, marks, numbers) {
+        return false;
+    }
+    if marks[SUM_COUNT] == 0 {
+        return true;
+    }
+    sums_hold(values, n, marks, numbers)
 }
 
 // What effect e gives its target.
@@ -441,8 +524,32 @@ pub fn finish(
     true
 }
 
-// Takes the action of two rows, which has one effect at most, in a lent state where it applies, and else leaves the state as it was. Whether
-// it applies.
+// Takes the action of two rows in a lent state where it applies, and else leaves the state as it was. Whether it applies. The results of its
+// effects are all worked out from the values before, then tested, then stored.
+fn take_any(
+    values: &mut [i64; VARIABLES],
+    modes: &mut [u16; MODES],
+    n: usize,
+    m: usize,
+    marks: &[u16; MARKS],
+    numbers: &[i64; NUMBERS],
+) -> bool
+    requires { ⌜ (n ≤ VARIABLES) × (m ≤ MODES) × (length (now modes) ≡ MODES) × Usable n (now marks) (now numbers) ⌝ }
+    ensures { λ r. ⌜ Stepped n m (now (marks .entry)) (now (numbers .entry)) (now (values .entry)) (now (modes .entry)) r
+        (now (values .exit)) (now (modes .exit)) ⌝ }
+{
+    if !ranges_hold(values, modes, n, m, marks, numbers) {
+        return false;
+    }
+    if !sums_hold(values, n, marks, numbers) {
+        return false;
+    }
+    let mut results = [0i64; EFFECTS];
+    put_results(&mut results, values, n, marks, numbers);
+    finish(values, modes, n, m, marks, numbers, &results)
+}
+
+// The same of an action that has one effect at most. Where it has no condition on a sum, none is asked, and the result goes through no array.
 pub fn take_single(
     values: &mut [i64; VARIABLES],
     modes: &mut [u16; MODES],
@@ -455,14 +562,17 @@ pub fn take_single(
     ensures { λ r. ⌜ Stepped n m (now (marks .entry)) (now (numbers .entry)) (now (values .entry)) (now (modes .entry)) r
         (now (values .exit)) (now (modes .exit)) ⌝ }
 {
-    if !holds(values, modes, n, m, marks, numbers) {
+    if marks[SUM_COUNT] != 0 {
+        return take_any(values, modes, n, m, marks, numbers);
+    }
+    if !ranges_hold(values, modes, n, m, marks, numbers) {
         return false;
     }
     let result = result_of(values, n, marks, numbers, 0);
     finish_single(values, modes, n, m, marks, numbers, result)
 }
 
-// The same of any action. The results of several effects are all worked out from the values before, then tested, then stored.
+// The same of any action.
 pub fn take(
     values: &mut [i64; VARIABLES],
     modes: &mut [u16; MODES],
@@ -478,10 +588,5 @@ pub fn take(
     if effect_count(marks) < 2 {
         return take_single(values, modes, n, m, marks, numbers);
     }
-    if !holds(values, modes, n, m, marks, numbers) {
-        return false;
-    }
-    let mut results = [0i64; EFFECTS];
-    put_results(&mut results, values, n, marks, numbers);
-    finish(values, modes, n, m, marks, numbers, &results)
+    take_any(values, modes, n, m, marks, numbers)
 }

@@ -48,6 +48,9 @@ read-quotient-requires c κs = search needs
 read-residue-requires : tie.Need-read-residue-requires
 read-residue-requires c κs = search needs
 
+read-sum-requires : tie.Need-read-sum-requires
+read-sum-requires c κs = search needs
+
 returns-2 : tie.Need-returns-2
 returns-2 c = search needs
 
@@ -97,7 +100,10 @@ returns-15 c =
     sym (whole-as (now (s .args .rest)) 13 (lit< tt) (omega arith) (c .match .keys14) (omega arith))
 
 returns-16 : tie.Need-returns-16
-returns-16 c =
+returns-16 c = search needs
+
+returns-17 : tie.Need-returns-17
+returns-17 c =
     let s = c .before .before .before .before in
     sym (unknown (now (s .args .rest)) (omega arith) (c .match .rest))
 
@@ -118,6 +124,7 @@ read-spec =
     read-term-requires
     read-quotient-requires
     read-residue-requires
+    read-sum-requires
     returns-2
     returns-3
     returns-4
@@ -132,4 +139,5 @@ read-spec =
     returns-13
     returns-14
     returns-15
-    returns-16)
+    returns-16
+    returns-17)

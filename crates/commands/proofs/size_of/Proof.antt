@@ -48,6 +48,9 @@ command-size-requires-13 c κs = search needs
 command-size-requires-14 : tie.Need-command-size-requires-14
 command-size-requires-14 c κs = search needs
 
+command-size-requires-15 : tie.Need-command-size-requires-15
+command-size-requires-15 c κs = search needs
+
 returns : tie.Need-returns
 returns c = sized 0 (lit< tt) (c .before .match .keys1) (c .command-size .ensures)
 
@@ -91,7 +94,10 @@ returns-14 : tie.Need-returns-14
 returns-14 c = sized 13 (lit< tt) (c .before .match .keys14) (c .command-size14 .ensures)
 
 returns-15 : tie.Need-returns-15
-returns-15 c = (sym (size-past (c .match .rest)), lit< tt, lit≤ tt)
+returns-15 c = sized 14 (lit< tt) (c .before .match .keys15) (c .command-size15 .ensures)
+
+returns-16 : tie.Need-returns-16
+returns-16 c = (sym (size-past (c .match .rest)), lit< tt, lit≤ tt)
 
 pub size-of-spec : {M : Type 1} → statement M
 size-of-spec =
@@ -111,6 +117,7 @@ size-of-spec =
     command-size-requires-12
     command-size-requires-13
     command-size-requires-14
+    command-size-requires-15
     returns
     returns-2
     returns-3
@@ -125,4 +132,5 @@ size-of-spec =
     returns-12
     returns-13
     returns-14
-    returns-15)
+    returns-15
+    returns-16)

@@ -2,6 +2,7 @@
 use mathlib.Core.Logic.{⊎-elim, inl, inr}
 use borrow.Author.Tests.{ne-eqb, not-true, not-false}
 use Rattle.commands.specs.Table.{letterV, letterU, letterM, letterA, letterC, letterP, letterE, plusSign, letterL, letterT, letterQ, letterR, letterG, letterZ}
+use Rattle.commands.specs.Table.{letterK}
 use Rattle.file_check.proofs.is_allowed.Statement.{statement}
 use Rattle.file_check.proofs.is_allowed.Tie as tie
 
@@ -53,22 +54,30 @@ returns-14 c sizes set targets terms = rw (c .before .match .keys10)
 
 returns-15 : tie.Need-returns-15
 returns-15 c sizes set targets terms =
+    rw (c .before .before .before .match .keys11, not-true (c .before .before .before .before .args .l .restricted) (c .before .if5 .taken))
+
+returns-16 : tie.Need-returns-16
+returns-16 c sizes set targets terms = rw (c .before .before .match .keys11, not-false (c .before .before .before .args .l .restricted) (c .if5 .left))
+
+returns-17 : tie.Need-returns-17
+returns-17 c sizes set targets terms =
     let r = c .match .rest in
     rw (
-      ne-eqb _ letterV (r .0 .0 .0 .0 .0 .0 .0 .0 .0 .1),
-      ne-eqb _ letterU (r .0 .0 .0 .0 .0 .0 .0 .0 .1),
-      ne-eqb _ letterM (r .0 .0 .0 .0 .0 .0 .0 .1),
-      ne-eqb _ letterA (λ e. r .0 .0 .0 .0 .0 .0 .1 (inl e)),
-      ne-eqb _ letterG (λ e. r .0 .0 .0 .0 .0 .0 .1 (inr e)),
-      ne-eqb _ letterC (λ e. r .0 .0 .0 .0 .0 .1 (inl e)),
-      ne-eqb _ letterP (λ e. r .0 .0 .0 .0 .0 .1 (inr e)),
-      ne-eqb _ letterE (λ e. r .0 .0 .0 .0 .1 (inr e)),
-      ne-eqb _ plusSign (λ e. r .0 .0 .0 .0 .1 (inl e)),
-      ne-eqb _ letterL (λ e. r .0 .0 .0 .1 (inl e)),
-      ne-eqb _ letterQ (λ e. r .0 .0 .0 .1 (inr e)),
-      ne-eqb _ letterR (r .0 .0 .1),
-      ne-eqb _ letterT (r .0 .1),
-      ne-eqb _ letterZ (r .1),
+      ne-eqb _ letterV (r .0 .0 .0 .0 .0 .0 .0 .0 .0 .0 .1),
+      ne-eqb _ letterU (r .0 .0 .0 .0 .0 .0 .0 .0 .0 .1),
+      ne-eqb _ letterM (r .0 .0 .0 .0 .0 .0 .0 .0 .1),
+      ne-eqb _ letterA (λ e. r .0 .0 .0 .0 .0 .0 .0 .1 (inl e)),
+      ne-eqb _ letterG (λ e. r .0 .0 .0 .0 .0 .0 .0 .1 (inr e)),
+      ne-eqb _ letterC (λ e. r .0 .0 .0 .0 .0 .0 .1 (inl e)),
+      ne-eqb _ letterP (λ e. r .0 .0 .0 .0 .0 .0 .1 (inr e)),
+      ne-eqb _ letterE (λ e. r .0 .0 .0 .0 .0 .1 (inr e)),
+      ne-eqb _ plusSign (λ e. r .0 .0 .0 .0 .0 .1 (inl e)),
+      ne-eqb _ letterL (λ e. r .0 .0 .0 .0 .1 (inl e)),
+      ne-eqb _ letterQ (λ e. r .0 .0 .0 .0 .1 (inr e)),
+      ne-eqb _ letterR (r .0 .0 .0 .1),
+      ne-eqb _ letterT (r .0 .0 .1),
+      ne-eqb _ letterZ (r .0 .1),
+      ne-eqb _ letterK (r .1),
     )
 
 pub is-allowed-spec : {M : Type 1} → statement M
@@ -89,4 +98,6 @@ is-allowed-spec =
     returns-12
     returns-13
     returns-14
-    returns-15)
+    returns-15
+    returns-16
+    returns-17)

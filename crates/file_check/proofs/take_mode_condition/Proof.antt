@@ -1,5 +1,7 @@
 -- `file_check::take_mode_condition` meets its contract: each exit is the first test that holds, and where none does the reading goes on. Assumes nothing.
 use mathlib.Core.Path.{refl, sym, _∙_}
+use Prim.Native.Nat.{_^_, _<_}
+use native.Mathlib.Omega.{arith}
 use borrow.Author.Needs.{needs}
 use borrow.Author.Tests.{le-leb, lt-leb}
 use denote.Ref.{now}
@@ -80,8 +82,19 @@ returns-4 c set targets terms =
     ∙ stops (limitsOf (s .args .l)) (stateOf (s .args .p) (now (s .args .sizes)) set targets terms) (sym (v .before .before .read-mode-condition .ensures) ∙ v .mode .given .1) 2
     (lt-leb _ _ (t1 .if1 .left), (lt-leb _ _ (t2 .if2 .left), told (t3 .before .not-below-size .ensures) (t3 .if3 .taken)))
 
+-- a limit is a number of 32 bits
+limit-fits : (s : tie.Start) → s .args .l .«mode_conditions» < 2 ^ 32
+limit-fits s = search needs
+
 add-q : tie.Need-add-q
-add-q c = search needs
+add-q c =
+    let t3 = c .before in
+    let t2 = t3 .before .before .before in
+    let t1 = t2 .before .before in
+    let v = t1 .before .before .before .before in
+    let s = v .before .before .before .before in
+    let h : s .args .p .«mode_conditions» < s .args .l .«mode_conditions» = t1 .if1 .left in
+    omega (arith, limit-fits s)
 
 go-on-requires : tie.Need-go-on-requires
 go-on-requires c κs = search needs

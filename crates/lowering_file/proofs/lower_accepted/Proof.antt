@@ -2,10 +2,10 @@
 use mathlib.Core.Path.{refl, sym}
 use native.Mathlib.Omega.{arith}
 use denote.Ref.{now}
-use borrow.Author.Needs.{needs}
 use Rattle.lists.proofs.Writing.{room-count, room-as, wrote-as}
 use Rattle.lists.proofs.Lent.{counted-short, counted-room, counted-written}
 use Rattle.lowering_file.proofs.File.{file-is, same-long, task-short, accepted-lowers}
+use borrow.Author.Needs.{needs}
 use Rattle.lowering_file.proofs.lower_accepted.Statement.{statement}
 use Rattle.lowering_file.proofs.lower_accepted.Tie as tie
 
@@ -15,6 +15,9 @@ read-declarations-requires c κs = search needs
 find-places-requires : tie.Need-find-places-requires
 find-places-requires c κs = search needs
 
+find-kept-requires : tie.Need-find-kept-requires
+find-kept-requires c κs = search needs
+
 slice-relend-prefix-count-task : tie.Need-slice-relend-prefix-count-task
 slice-relend-prefix-count-task c = search needs
 
@@ -23,11 +26,11 @@ slice-aggregate-count-task c = search needs
 
 count-task-requires : tie.Need-count-task-requires
 count-task-requires c κs =
-    let s = c .before .before .before .before .before .before .before .before in
+    let s = c .before .before .before .before .before .before .before .before .before .before in
     let file = now (s .args .file) in
-    let d = c .before .before .before .before .before .read-declarations .ensures in (
-      (s .pre, d, c .before .before .before .before .find-places .ensures),
-      ((refl, refl), room-count refl (omega (arith, same-long file, task-short file (d .held .is)))),
+    let d = c .before .before .before .before .before .before .before .read-declarations .ensures in (
+      (s .pre, d, c .before .before .before .before .before .before .find-places .ensures),
+      ((refl, refl, c .before .before .before .before .find-kept .ensures), room-count refl (omega (arith, same-long file, task-short file (d .held .is)))),
     )
 
 same-length : tie.Need-same-length
@@ -35,20 +38,24 @@ same-length c = search needs
 
 returns : tie.Need-returns
 returns c =
-    let file = now (c .before .before .before .before .before .before .before .before .before .before .before .before .args .file) in
-    let is = c .before .before .before .before .before .before .before .before .before .read-declarations .ensures .held .is in
+    let s = c .before .before .before .before .before .before .before .before .before .before .before .before .before .before in
+    let file = now (s .args .file) in
+    let is = c .before .before .before .before .before .before .before .before .before .before .before .read-declarations .ensures .held .is in
     counted-short _ (accepted-lowers file is) (same-long file) (c .before .before .before .count-task .ensures .rows .wrote) (c .if1 .taken)
 
 put-task-requires : tie.Need-put-task-requires
 put-task-requires c κs =
     let counted = c .before .before .before .before .before .before .before in
-    let s = counted .before .before .before .before .before .before .before .before .before in
+    let s = counted .before .before .before .before .before .before .before .before .before .before .before in
     let file = now (s .args .file) in
-    let d = counted .before .before .before .before .before .before .read-declarations .ensures in
-    let rows = counted .count-task .ensures .rows in
-    let fits = counted-room _ (accepted-lowers file (d .held .is)) (same-long file) (rows .wrote) (c .before .before .before .before .if1 .left) in (
-      (s .pre, d, counted .before .before .before .before .before .find-places .ensures),
-      ((rows .marksLong, rows .numbersLong, counted .count-task .ensures .told), room-as (sym (file-is file)) fits),
+    let d = counted .before .before .before .before .before .before .before .before .read-declarations .ensures in
+    let e = counted .count-task .ensures in
+    let fits = counted-room _ (accepted-lowers file (d .held .is)) (same-long file) (e .rows .wrote) (c .before .before .before .before .if1 .left) in (
+      (s .pre, d, counted .before .before .before .before .before .before .before .find-places .ensures),
+      (
+        (e .rows .marksLong, e .rows .numbersLong, e .told, counted .before .before .before .before .before .find-kept .ensures),
+        room-as (sym (file-is file)) fits,
+      ),
     )
 
 same-length-2 : tie.Need-same-length-2
@@ -57,8 +64,8 @@ same-length-2 c = search needs
 returns-2 : tie.Need-returns-2
 returns-2 c =
     let counted = c .before .before .before .before .before .before .before .before .before .before in
-    let file = now (counted .before .before .before .before .before .before .before .before .before .args .file) in
-    let is = counted .before .before .before .before .before .before .read-declarations .ensures .held .is in
+    let file = now (counted .before .before .before .before .before .before .before .before .before .before .before .args .file) in
+    let is = counted .before .before .before .before .before .before .before .before .read-declarations .ensures .held .is in
     counted-written _ (accepted-lowers file is) (same-long file) (counted .count-task .ensures .rows .wrote)
     (c .before .before .before .before .before .before .before .if1 .left)
     (wrote-as (file-is file) (c .before .before .put-task .ensures))
@@ -69,6 +76,7 @@ lower-accepted-spec =
     (tie.spec
     read-declarations-requires
     find-places-requires
+    find-kept-requires
     slice-relend-prefix-count-task
     slice-aggregate-count-task
     count-task-requires

@@ -7,9 +7,10 @@ use mir.Facts.{toZ-ofZ}
 use mir.Syntax.{w64}
 use mir.Val.{SFits}
 use lib.ListN.{getD}
-use lib.IntN.{pos}
+use lib.Seq.{getD-take}
+use lib.IntN.{pos, natAbs}
 use Rattle.lists.proofs.Writing.{room-as, wrote-as}
-use Rattle.lowering_file.specs.Parts.{startBytes}
+use Rattle.lowering_sums.specs.Views.{startBytes}
 use Rattle.lists.proofs.Loops.{there-all}
 use Rattle.lists.proofs.WritingLoops.{Going, going-start, going-room, going-next, going-end, going-long}
 use Rattle.commands.specs.Encoding.{encode}
@@ -42,7 +43,9 @@ element-copy-out-bits c = search (needs, arith)
 bits-requires : tie.Need-bits-requires Inv-loop μ-loop
 bits-requires c κs =
     let b : SFits w64 (getD (now (c .before .before .before .before .args .starts)) (c .before .before .loop .i) (pos 0)) = search needs in
-    rw (toZ-ofZ b) (c .before .before .before .before .pre .1 .0 (c .before .before .loop .i) (c .before .loop-test .taken))
+    let s = c .before .before .before .before in
+    let i = c .before .before .loop .i in
+    rw (toZ-ofZ b) (omega (arith, s .pre .1 .0 i, ap natAbs (getD-take (s .args .n) (now (s .args .starts)) i (pos 0) (c .before .loop-test .taken))))
 
 put-start-requires : tie.Need-put-start-requires Inv-loop μ-loop
 put-start-requires c κs = room-as (coded (c .before)) (going-room (pos 0) (c .before .before .before .before .loop .inv) (c .before .before .before .loop-test .taken) (c .before .before .before .before .before .before .pre .1 .1))

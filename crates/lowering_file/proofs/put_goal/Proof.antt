@@ -11,7 +11,8 @@ use Rattle.commands.specs.Table.{letterG}
 use Rattle.model.specs.Tasks.{RestrictedAction}
 use Rattle.file_parts.specs.Row.{rowIs}
 use Rattle.lowering_stages.proofs.Rows.{sized}
-use Rattle.lowering_rows.specs.Bytes.{inFour, rowBytes}
+use Rattle.model.specs.FourRelations.{inFour}
+use Rattle.lowering_rows.specs.Bytes.{rowBytes}
 use Rattle.lowering_rows.proofs.Stages.{writable}
 use Rattle.lowering_file.proofs.File.{goal-begun}
 use Rattle.lowering_file.proofs.put_goal.Statement.{statement}

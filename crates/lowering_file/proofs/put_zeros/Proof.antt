@@ -5,7 +5,7 @@ use lib.IntN.{pos}
 use borrow.Author.Needs.{needs}
 use Rattle.lists.proofs.Writing.{room-as, wrote-as}
 use Rattle.lowering_rows.proofs.Loops.{Writing, writing-start, writing-room, writing-next, writing-end, writing-long}
-use Rattle.lowering_file.specs.Parts.{startBytes}
+use Rattle.lowering_sums.specs.Views.{startBytes}
 use Rattle.lowering_file.proofs.File.{zeros}
 use Rattle.lowering_file.proofs.put_zeros.Statement.{statement}
 use Rattle.lowering_file.proofs.put_zeros.Tie as tie

@@ -4,7 +4,7 @@ use native.Mathlib.Omega.{arith}
 use lib.ListN.{length}
 use borrow.Author.Needs.{needs}
 use Rattle.lists.proofs.Loops.{length-mapped}
-use Rattle.lowering_file.proofs.Walk.{several-is}
+use Rattle.lowering_file.proofs.Sums.{several-is}
 use Rattle.lowering_file.proofs.some_several.Statement.{statement}
 use Rattle.lowering_file.proofs.some_several.Tie as tie
 

@@ -1,6 +1,6 @@
 -- `lowering_rows::put_row` meets its contract: its parts are written one after another. Assumes nothing.
 use Rattle.file_parts.specs.Row.{rowIs}
-use Rattle.lowering_rows.specs.Bytes.{inFour}
+use Rattle.model.specs.FourRelations.{inFour}
 use Rattle.lowering_rows.proofs.Writing.{row-begun, mode-conditions-there, mode-effects-there}
 use Rattle.lists.proofs.Writing.{step, done, room}
 use denote.Ref.{now}

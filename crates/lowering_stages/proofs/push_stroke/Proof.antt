@@ -1,6 +1,5 @@
 -- `lowering_stages::push_stroke` meets its contract: blank, then a P, a C, and what it adds. Assumes nothing.
-use Rattle.lowering_stages.specs.Stages.{withAdditions}
-use Rattle.file_parts.specs.With.{withCondition, withModeCondition}
+use Rattle.file_parts.specs.With.{withCondition, withModeCondition, withAdditions}
 use Rattle.file_parts.proofs.Pushing.{parts-fit, pushed}
 use native.Mathlib.Omega.{arith}
 use lib.Dec.{lit≤}

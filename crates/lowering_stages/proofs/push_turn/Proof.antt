@@ -1,7 +1,6 @@
 -- `lowering_stages::push_turn` meets its contract: blank, then its parts one by one. Assumes nothing.
 use Rattle.lowering_stages.proofs.Rows.{asked-few, difference-small}
-use Rattle.lowering_stages.specs.Stages.{withConditions, withAdditions}
-use Rattle.file_parts.specs.With.{withCondition, withModeCondition, withModeEffect}
+use Rattle.file_parts.specs.With.{withCondition, withConditions, withModeCondition, withModeEffect, withAdditions}
 use Rattle.file_parts.proofs.Pushing.{parts-fit, pushed}
 use native.Mathlib.Omega.{arith}
 use lib.Dec.{lit≤}

@@ -30,7 +30,10 @@ shared-slice-element-holds-2 : tie.Need-shared-slice-element-holds-2
 shared-slice-element-holds-2 c = search needs
 
 holds-requires : tie.Need-holds-requires
-holds-requires c κs = search needs
+holds-requires c κs =
+    let s = startOf (c .before .before .before .before .before .before .before) in
+    let u = s .pre .0 .0 in
+    (u .variablesFew, u .modesFew, u .usable (s .args .count) (omega arith))
 
 returns : tie.Need-returns
 returns c = let h = c .before in

@@ -48,13 +48,17 @@ returns-14 : tie.Need-returns-14
 returns-14 c = said 13 (c .before .before .before .before .before .match .keys14) (c .before .before .write14 .ensures) refl
 
 returns-15 : tie.Need-returns-15
-returns-15 c = said-unknown (c .before .before .before .before .before .match .rest) (c .before .before .write15 .ensures) refl
+returns-15 c = said 14 (c .before .before .before .before .before .match .keys15) (c .before .before .write15 .ensures) refl
+
+returns-16 : tie.Need-returns-16
+returns-16 c = said-unknown (c .before .before .before .before .before .match .rest) (c .before .before .write16 .ensures) refl
 
 -- a line for each arm: what its call asks; then what the arm returns
 pub write-text-spec : {M : Type 1} → statement M
 write-text-spec =
     tie.close
     (tie.spec
+    (λ c. search needs) (λ c κs. search needs)
     (λ c. search needs) (λ c κs. search needs)
     (λ c. search needs) (λ c κs. search needs)
     (λ c. search needs) (λ c κs. search needs)
@@ -84,4 +88,5 @@ write-text-spec =
     (λ c. search needs) returns-12
     (λ c. search needs) returns-13
     (λ c. search needs) returns-14
-    (λ c. search needs) returns-15)
+    (λ c. search needs) returns-15
+    (λ c. search needs) returns-16)

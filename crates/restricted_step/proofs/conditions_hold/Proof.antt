@@ -57,17 +57,14 @@ mul-value c = search (needs, arith, named c)
 element-copy-out-value : tie.Need-element-copy-out-value Inv-loop μ-loop
 element-copy-out-value c = named c
 
-add-relation-of : tie.Need-add-relation-of Inv-loop μ-loop
-add-relation-of c = search (needs, arith)
+add-relation : tie.Need-add-relation Inv-loop μ-loop
+add-relation c = search (needs, arith)
 
-mul-relation-of : tie.Need-mul-relation-of Inv-loop μ-loop
-mul-relation-of c = search (needs, arith)
+mul-relation : tie.Need-mul-relation Inv-loop μ-loop
+mul-relation c = search (needs, arith)
 
-element-copy-out-relation-of : tie.Need-element-copy-out-relation-of Inv-loop μ-loop
-element-copy-out-relation-of c = omega arith
-
-relation-of-requires : tie.Need-relation-of-requires Inv-loop μ-loop
-relation-of-requires c κs = search needs
+element-copy-out-relation : tie.Need-element-copy-out-relation Inv-loop μ-loop
+element-copy-out-relation c = omega arith
 
 mul-relation-holds : tie.Need-mul-relation-holds Inv-loop μ-loop
 mul-relation-holds c = search (needs, arith)
@@ -80,7 +77,7 @@ relation-holds-requires c κs = search needs
 
 -- one turn tests one condition
 abbrev valueOf : tie.After-relation-holds Inv-loop μ-loop → tie.After-value Inv-loop μ-loop
-valueOf c = c .before .before .before .before
+valueOf c = c .before .before .before
 
 abbrev loopOf : tie.After-value Inv-loop μ-loop → tie.In-loop Inv-loop μ-loop
 loopOf v = v .before .before .before
@@ -93,7 +90,7 @@ turn c =
     let s = h .before .before .before .before .args in
     let v : SFits w64 (integerAt (now (s .values)) (w .wide2 .result)) = search needs in
     let k : SFits w64 (integerAt (now (s .numbers)) (h .before .loop .i)) = search needs in
-    rw (sym (w .wide2 .ensures), sym (c .before .before .relation-of .ensures)) (sym (simp (toZ-ofZ v, toZ-ofZ k) at (c .relation-holds .ensures)))
+    rw (sym (w .wide2 .ensures)) (sym (simp (toZ-ofZ v, toZ-ofZ k) at (c .relation-holds .ensures)))
 
 returns : tie.Need-returns Inv-loop μ-loop
 returns c =
@@ -129,10 +126,9 @@ conditions-hold-spec =
     wide-requires-2
     mul-value
     element-copy-out-value
-    add-relation-of
-    mul-relation-of
-    element-copy-out-relation-of
-    relation-of-requires
+    add-relation
+    mul-relation
+    element-copy-out-relation
     mul-relation-holds
     element-copy-out-relation-holds
     relation-holds-requires

@@ -26,7 +26,7 @@ put-terms-requires : tie.Need-put-terms-requires
 put-terms-requires c κs =
     let k = c .before .before in
     let s = k .before .before .before in
-    (s .pre .0, few k, s .pre .2 .marksLong, s .pre .2 .numbersLong)
+    (omega (arith, s .pre .0), few k, s .pre .2 .marksLong, s .pre .2 .numbersLong)
 
 cast-put-head : tie.Need-cast-put-head
 cast-put-head c = record { fits = omega (arith, few (c .before .before .before .before .before)) }

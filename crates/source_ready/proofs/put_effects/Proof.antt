@@ -1,15 +1,17 @@
 -- `source_ready::put_effects` meets its contract: each turn writes one effect more. Assumes nothing.
 use native.Mathlib.Omega.{arith}
-use mathlib.Core.List.{map}
+use mathlib.Core.List.{[], map}
 use mathlib.Core.Path.{_≡_, refl}
-use Prim.Native.Nat.{_-_, _<_}
+use Prim.Native.Nat.{_-_, _≤_, _<_}
 use lib.ListN.{length, take}
 use denote.Ref.{now}
 use Rattle.lists.proofs.Loops.{length-mapped}
 use Rattle.model.specs.Limits.{sourceLimits}
 use Rattle.model.specs.TaskOk.{EffectOk}
+use Rattle.file_actions.specs.declared.Effect.the-variants.{None}
+use Rattle.file_actions.specs.declared.NumericEffect.{NumericEffect}
 use Rattle.file_actions.specs.Views.{numericIs, effectsIs}
-use Rattle.source_ready.proofs.Blocks.{effects-counted, effect-at, effect-ok, SoFar, none-put, one-put, all-put}
+use Rattle.source_ready.proofs.Blocks.{said-counted, said-at, said-of, SoFar, none-put, one-put, all-put}
 use borrow.Author.Needs.{needs}
 use Rattle.source_ready.proofs.put_effects.Statement.{statement}
 use Rattle.source_ready.proofs.put_effects.Tie as tie
@@ -24,8 +26,15 @@ abbrev μ-loop : tie.MeasureT-loop
 places-long : (s : tie.Start Inv-loop μ-loop) → length (s .args .effects .places) ≡ 3
 places-long s = search (needs, length-mapped)
 
+-- what a place says that holds none
+abbrev none : NumericEffect
+none = record { effect = None; «term_count» = 0; terms = [] }
+
+few : (s : tie.Start Inv-loop μ-loop) → s .args .effects .count ≤ length (s .args .effects .places)
+few s = omega (arith, places-long s, s .pre .2)
+
 counted : (s : tie.Start Inv-loop μ-loop) → length (effectsIs (s .args .effects)) ≡ s .args .effects .count
-counted s = effects-counted (s .args .effects) (places-long s) (s .pre .2)
+counted s = said-counted numericIs none (s .args .effects .count) (s .args .effects .places) (few s)
 
 cast-marks : tie.Need-cast-marks Inv-loop μ-loop
 cast-marks c = search (needs, arith)
@@ -53,8 +62,7 @@ put-effect-requires c κs =
       omega (arith, h, s .pre .2),
       s .pre .0,
       l .loop .inv .blank,
-      effect-ok (s .args .effects) (places-long s) (s .pre .2) (EffectOk sourceLimits (s .args .n))
-          (s .pre .3) (l .loop .e) h,
+      said-of numericIs none (s .args .effects .count) (s .args .effects .places) (few s) (EffectOk sourceLimits (s .args .n)) (s .pre .3) (l .loop .e) h,
     )
 
 add-e : tie.Need-add-e Inv-loop μ-loop
@@ -68,7 +76,8 @@ loop-again c =
     let l = c .before .before .before .before .before in
     let s = l .before .before in
     let h : l .loop .e < s .args .effects .count = c .before .before .before .before .loop-test .taken in
-    one-put (l .loop .inv) (omega (arith, h, counted s)) (rw (effect-at (s .args .effects) (places-long s) (s .pre .2) (l .loop .e) h) (c .put-effect .ensures))
+    one-put (l .loop .inv) (omega (arith, h, counted s))
+    (rw (said-at numericIs none (s .args .effects .count) (s .args .effects .places) (few s) (l .loop .e) h) (c .put-effect .ensures))
 
 returns : tie.Need-returns Inv-loop μ-loop
 returns c =

@@ -4,7 +4,7 @@ use Prim.Native.Nat.{ℕ}
 use lib.ListN.{length, length-replicate}
 use lib.IntN.{pos}
 use Rattle.source_step.specs.Layout.{MARKS, NUMBERS}
-use Rattle.source_ready.proofs.Making.{blank, ranges-ask, modes-ask, row-of}
+use Rattle.source_ready.proofs.Making.{blank, ranges-ask, sums-ask, modes-ask, row-of}
 use Rattle.source_ready.proofs.put_row.Statement.{statement}
 use Rattle.source_ready.proofs.put_row.Tie as tie
 
@@ -25,13 +25,20 @@ put-effects-requires c κs =
     let s = r .before .before in
     (s .pre .2 .few, blank (s .pre .0) (s .pre .1) (r .put-ranges .ensures) (m .put-modes .ensures), s .pre .2 .within .few, s .pre .2 .within .effects)
 
+put-sums-requires : tie.Need-put-sums-requires
+put-sums-requires c κs =
+    let e = c .before .before in
+    let s = e .before .before .before .before .before .before .before in
+    (e .put-effects .ensures .blank, s .pre .2 .sumsFew, sums-ask (s .pre .2))
+
 returns : tie.Need-returns
 returns c =
-    let m = c .before .before .before in
+    let e = c .before .before .before in
+    let m = e .before .before .before in
     let r = m .before .before in
     let s = r .before .before in
-    row-of (s .pre .2) (s .pre .0) (r .put-ranges .ensures) (m .put-modes .ensures) (c .put-effects .ensures)
+    row-of (s .pre .2) (s .pre .0) (r .put-ranges .ensures) (m .put-modes .ensures) (e .put-effects .ensures) (c .put-sums .ensures)
 
 pub put-row-spec : {M : Type 1} → statement M
 put-row-spec =
-    tie.close (tie.spec put-ranges-requires put-modes-requires put-effects-requires returns)
+    tie.close (tie.spec put-ranges-requires put-modes-requires put-effects-requires put-sums-requires returns)

@@ -5,7 +5,7 @@ use native.Mathlib.Omega.{arith}
 use Prim.Native.Nat.{_-_, _≤_}
 use denote.Ref.{now}
 use Rattle.source_ready.specs.Made.{termAt, TermsPut}
-use Rattle.source_ready.proofs.Effects.{terms-begin, terms-more}
+use Rattle.source_ready.proofs.Terms.{terms-begin, terms-more}
 use borrow.Author.Needs.{needs}
 use Rattle.source_ready.proofs.put_terms.Statement.{statement}
 use Rattle.source_ready.proofs.put_terms.Tie as tie

@@ -17,9 +17,13 @@ read-source-requires c κs = search needs
 decode-source-requires : tie.Need-decode-source-requires
 decode-source-requires c κs = search needs
 
+decode-sums-requires : tie.Need-decode-sums-requires
+decode-sums-requires c κs = search needs
+
 put-row-requires : tie.Need-put-row-requires
 put-row-requires c κs =
-    let d = c .before .before .before .before .before .before .before in
+    let q = c .before .before .before .before .before .before .before in
+    let d = q .before in
     let s = d .before .before .before .before .before .before .before .before .before .before .before in
     let file = now (s .args .file) in
     let bytes = bytes-of file (λ i. omega (arith, d .before .before .before .before .before .before .before .before .before .before .shared-slice-known .given i)) in
@@ -28,12 +32,17 @@ put-row-requires c κs =
     let g = given-of sourceLimits file k of in
     let held = source-held zero-room (d .before .before .before .read-source .ensures) in
     let decoded = rw (g .are) at (d .decode-source .ensures) in
-    let accepted = accepted-by file k of in
-    (s .pre .1, s .pre .2, action-fits file bytes (g .actions) _ _ _ _ _ accepted (record { starts = _; modes = _; holds = held }) k (g .below) _ _ _ decoded)
+    let sums = rw (g .are) at (q .decode-sums .ensures) in
+    let accepted = accepted-by file k of in (
+      s .pre .1,
+      s .pre .2,
+      action-fits file bytes (g .actions) _ _ _ _ _ accepted (record { starts = _; modes = _; holds = held }) k (g .below) _ _ _ _ decoded sums,
+    )
 
 returns : tie.Need-returns
 returns c =
-    let d = c .before .before .before .before .before .before .before .before in
+    let q = c .before .before .before .before .before .before .before .before in
+    let d = q .before in
     let s = d .before .before .before .before .before .before .before .before .before .before .before in
     let file = now (s .args .file) in
     let bytes = bytes-of file (λ i. omega (arith, d .before .before .before .before .before .before .before .before .before .before .shared-slice-known .given i)) in
@@ -51,9 +60,10 @@ returns c =
       holds = held;
       found = λ t e k of. let g = given-of sourceLimits file k of in
           let counted = counted-task file (g .actions) bytes (accepted-by file k of) t e in
-          source-action-decoded file bytes t e k (omega (arith, counted, g .below)) _ _ (d .decode-source .result) (rw (g .are) at (d .decode-source .ensures));
+          source-action-decoded file bytes t e k (omega (arith, counted, g .below)) _ _ (d .decode-source .result) (q .decode-sums .result)
+          (rw (g .are) at (d .decode-source .ensures)) (rw (g .are) at (q .decode-sums .ensures));
     }
 
 pub read-row-spec : {M : Type 1} → statement M
 read-row-spec =
-    tie.close (tie.spec read-source-requires decode-source-requires put-row-requires returns)
+    tie.close (tie.spec read-source-requires decode-source-requires decode-sums-requires put-row-requires returns)

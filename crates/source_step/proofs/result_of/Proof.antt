@@ -6,7 +6,7 @@ use mir.Facts.{toZ-ofZ}
 use mir.Syntax.{w64}
 use mir.Val.{SFits}
 use Rattle.source_step.specs.Row.{kindAt, constantAt}
-use Rattle.source_step.proofs.Numbers.{within, gives-sum, gives-linear, gives-quotient, gives-residue}
+use Rattle.source_step.proofs.Numbers.{within, constant-near, gives-sum, gives-linear, gives-quotient, gives-residue}
 use borrow.Author.Needs.{needs}
 use Rattle.source_step.proofs.result_of.Statement.{statement}
 use Rattle.source_step.proofs.result_of.Tie as tie
@@ -56,7 +56,7 @@ sum-requires c κs =
     let v = c .value-of in
     let a : SFits w64 (v .result) = search needs in
     let k : SFits w64 (constantAt (now (s .args .numbers)) (s .args .e)) = search needs in
-    rw (toZ-ofZ a, toZ-ofZ k, v .ensures) (s .pre .0 .near _, s .pre .0 .usable .constants (s .args .e) (s .pre .1))
+    rw (toZ-ofZ a, toZ-ofZ k, v .ensures) (s .pre .0 .near _, constant-near (s .pre .0) (s .args .e) (s .pre .1))
 
 returns : tie.Need-returns
 returns c =
@@ -100,7 +100,7 @@ quotient-requires c κs =
     let k : SFits w64 (constantAt (now (s .args .numbers)) (s .args .e)) = search needs in
     rw (toZ-ofZ a, toZ-ofZ k, v .ensures) (
       within _ (s .pre .0 .near _),
-      within _ (s .pre .0 .usable .constants (s .args .e) (s .pre .1)),
+      within _ (constant-near (s .pre .0) (s .args .e) (s .pre .1)),
       s .pre .0 .usable .divides (s .args .e) (s .pre .1)
           (omega (arith, c .if3 .taken)),
     )
@@ -127,7 +127,7 @@ residue-requires c κs =
     let k : SFits w64 (constantAt (now (s .args .numbers)) (s .args .e)) = search needs in
     rw (toZ-ofZ a, toZ-ofZ k, v .ensures) (
       within _ (s .pre .0 .near _),
-      within _ (s .pre .0 .usable .constants (s .args .e) (s .pre .1)),
+      within _ (constant-near (s .pre .0) (s .args .e) (s .pre .1)),
       s .pre .0 .usable .divides (s .args .e) (s .pre .1)
           (omega (arith, past c)),
     )

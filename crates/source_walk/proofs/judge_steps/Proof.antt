@@ -1,4 +1,5 @@
 -- `source_walk::judge_steps` meets its contract: the walk, then the goal's row. Assumes nothing.
+use native.Mathlib.Omega.{arith}
 use denote.Ref.{now}
 use Rattle.model.specs.Plans.{planNumbers}
 use Rattle.source_step.specs.Table.{table}
@@ -23,7 +24,10 @@ shared-slice-element-holds-2 : tie.Need-shared-slice-element-holds-2
 shared-slice-element-holds-2 c = search needs
 
 holds-requires : tie.Need-holds-requires
-holds-requires c κs = search needs
+holds-requires c κs =
+    let s = c .before .before .before .before .before .before .before .before in
+    let u = s .pre .0 in
+    (u .variablesFew, u .modesFew, u .usable (s .args .count) (omega arith))
 
 last-verdict-requires : tie.Need-last-verdict-requires
 last-verdict-requires c κs = search needs

@@ -1,0 +1,168 @@
+-- `file_check::take_sum` meets its contract: each exit is the first test that holds, and where none does the reading goes on. Assumes nothing.
+use mathlib.Core.Path.{refl, sym, ap, _∙_}
+use Prim.Native.Nat.{_^_, _<_}
+use native.Mathlib.Omega.{arith}
+use borrow.Author.Needs.{needs}
+use borrow.Author.Tests.{le-leb, lt-leb, lt-ltb, le-ltb}
+use denote.Ref.{now}
+use lib.Dec.{lit<}
+use Rattle.commands.proofs.Known.{cut-short}
+use Rattle.model.specs.ReadingState.{goOn, noVariables}
+use Rattle.model.specs.Rules.{testsOf, nextOf}
+use Rattle.file_check.specs.Views.{limitsOf, stateOf}
+use Rattle.file_check.proofs.Tests.{told, counted}
+use Rattle.file_check.proofs.Taking.{stops, goes}
+use Rattle.file_check.proofs.take_sum.Statement.{statement}
+use Rattle.file_check.proofs.take_sum.Tie as tie
+
+read-sum-requires : tie.Need-read-sum-requires
+read-sum-requires c κs = search needs
+
+enum-known-relation : tie.Need-enum-known-relation
+enum-known-relation c = search needs
+
+refuse-requires : tie.Need-refuse-requires
+refuse-requires c κs = search needs
+
+returns : tie.Need-returns
+unfolding testsOf
+returns c sizes set targets =
+    let r = c .before .before in
+    let s = r .before .before in
+    c .refuse .ensures sizes set targets (now (s .args .terms-seen))
+    ∙ stops (limitsOf (s .args .l)) (stateOf (s .args .p) sizes set targets (now (s .args .terms-seen)))
+    (cut-short (now (s .args .rest)) 14 (lit< tt) (s .pre .0) (s .pre .1) (r .read-sum .result) (r .read-sum .ensures) (c .before .match .keys2)) 0 refl
+
+has-no-room-for-condition-requires : tie.Need-has-no-room-for-condition-requires
+has-no-room-for-condition-requires c κs = search needs
+
+refuse-requires-2 : tie.Need-refuse-requires-2
+refuse-requires-2 c κs = search needs
+
+returns-2 : tie.Need-returns-2
+unfolding testsOf
+returns-2 c sizes set targets =
+    let t1 = c .before in
+    let v = t1 .before .before .before in
+    let s = v .before .before .before .before in
+    c .refuse2 .ensures sizes set targets (now (s .args .terms-seen))
+    ∙ stops (limitsOf (s .args .l)) (stateOf (s .args .p) sizes set targets (now (s .args .terms-seen)))
+    (sym (v .before .before .read-sum .ensures) ∙ v .relation .given .1) 0
+    (told (t1 .before .has-no-room-for-condition .ensures) (t1 .if1 .taken))
+
+refuse-requires-3 : tie.Need-refuse-requires-3
+refuse-requires-3 c κs = search needs
+
+returns-3 : tie.Need-returns-3
+unfolding testsOf
+returns-3 c sizes set targets =
+    let t2 = c .before in
+    let t1 = t2 .before .before .before in
+    let v = t1 .before .before .before in
+    let s = v .before .before .before .before in
+    c .refuse3 .ensures sizes set targets (now (s .args .terms-seen))
+    ∙ stops (limitsOf (s .args .l)) (stateOf (s .args .p) sizes set targets (now (s .args .terms-seen)))
+    (sym (v .before .before .read-sum .ensures) ∙ v .relation .given .1) 1
+    (told (t1 .before .has-no-room-for-condition .ensures) (t1 .if1 .left), le-leb _ _ (t2 .if2 .taken))
+
+cast-if3 : tie.Need-cast-if3
+cast-if3 c = search needs
+
+refuse-requires-4 : tie.Need-refuse-requires-4
+refuse-requires-4 c κs = search needs
+
+returns-4 : tie.Need-returns-4
+unfolding testsOf
+returns-4 c sizes set targets =
+    let t3 = c .before in
+    let t2 = t3 .before .before in
+    let t1 = t2 .before .before .before in
+    let v = t1 .before .before .before in
+    let s = v .before .before .before .before in
+    c .refuse4 .ensures sizes set targets (now (s .args .terms-seen))
+    ∙ stops (limitsOf (s .args .l)) (stateOf (s .args .p) sizes set targets (now (s .args .terms-seen)))
+    (sym (v .before .before .read-sum .ensures) ∙ v .relation .given .1) 2
+    (told (t1 .before .has-no-room-for-condition .ensures) (t1 .if1 .left), (lt-leb _ _ (t2 .if2 .left), lt-ltb _ _ (t3 .if3 .taken)))
+
+is-outside-requires : tie.Need-is-outside-requires
+is-outside-requires c κs = search needs
+
+refuse-requires-5 : tie.Need-refuse-requires-5
+refuse-requires-5 c κs = search needs
+
+returns-5 : tie.Need-returns-5
+unfolding testsOf
+returns-5 c sizes set targets =
+    let t4 = c .before in
+    let t3 = t4 .before .before in
+    let t2 = t3 .before .before in
+    let t1 = t2 .before .before .before in
+    let v = t1 .before .before .before in
+    let s = v .before .before .before .before in
+    c .refuse5 .ensures sizes set targets (now (s .args .terms-seen))
+    ∙ stops (limitsOf (s .args .l)) (stateOf (s .args .p) sizes set targets (now (s .args .terms-seen)))
+    (sym (v .before .before .read-sum .ensures) ∙ v .relation .given .1) 3 (
+      told (t1 .before .has-no-room-for-condition .ensures) (t1 .if1 .left),
+      (lt-leb _ _ (t2 .if2 .left), (le-ltb _ _ (t3 .if3 .left), told (t4 .before .is-outside .ensures) (t4 .if4 .taken))),
+    )
+
+-- limits are numbers of 32 bits
+conditions-fit : (s : tie.Start) → s .args .l .conditions < 2 ^ 32
+conditions-fit s = search needs
+
+sums-fit : (s : tie.Start) → s .args .l .sums < 2 ^ 32
+sums-fit s = search needs
+
+with-sum-requires : tie.Need-with-sum-requires
+with-sum-requires c κs =
+    let t4 = c .before in
+    let t3 = t4 .before .before in
+    let t2 = t3 .before .before in
+    let t1 = t2 .before .before .before in
+    let v = t1 .before .before .before in
+    let s = v .before .before .before .before in
+    let h : s .args .p .sums < s .args .l .sums = t2 .if2 .left in
+    (counted _ _ (t1 .before .has-no-room-for-condition .ensures) (t1 .if1 .left) (conditions-fit s), omega (arith, sums-fit s))
+
+go-on-requires : tie.Need-go-on-requires
+go-on-requires c κs = search needs
+
+returns-6 : tie.Need-returns-6
+unfolding testsOf nextOf
+returns-6 c sizes set targets =
+    let t4 = c .before .before .before in
+    let t3 = t4 .before .before in
+    let t2 = t3 .before .before in
+    let t1 = t2 .before .before .before in
+    let v = t1 .before .before .before in
+    let s = v .before .before .before .before in
+    c .go-on .ensures sizes set targets noVariables
+    ∙ ap goOn (c .before .with-sum .ensures sizes set targets (now (s .args .terms-seen)))
+    ∙ goes (limitsOf (s .args .l)) (stateOf (s .args .p) sizes set targets (now (s .args .terms-seen)))
+    (sym (v .before .before .read-sum .ensures) ∙ v .relation .given .1) (
+      told (t1 .before .has-no-room-for-condition .ensures) (t1 .if1 .left),
+      (lt-leb _ _ (t2 .if2 .left), (le-ltb _ _ (t3 .if3 .left), (told (t4 .before .is-outside .ensures) (t4 .if4 .left), tt))),
+    )
+
+pub take-sum-spec : {M : Type 1} → statement M
+take-sum-spec =
+    tie.close
+    (tie.spec
+    read-sum-requires
+    enum-known-relation
+    refuse-requires
+    returns
+    has-no-room-for-condition-requires
+    refuse-requires-2
+    returns-2
+    refuse-requires-3
+    returns-3
+    cast-if3
+    refuse-requires-4
+    returns-4
+    is-outside-requires
+    refuse-requires-5
+    returns-5
+    with-sum-requires
+    go-on-requires
+    returns-6)
