@@ -16,13 +16,13 @@
  *
  *    reading, the place of an action, a start, a refusal's text        1 KB
  *    a step, the price of a step                                       4 KB
- *    lowering                                                          5 KB
- *    judging or pricing a source plan, expanding, listing             18 KB
- *    projecting                                                       21 KB
+ *    lowering                                                          8 KB
+ *    judging or pricing a source plan, expanding, listing             29 KB
+ *    projecting                                                       32 KB
  *    judging a restricted plan                                       420 KB
  *
- * TIME. Every call reads the task's file anew, which is most of what a step by itself takes: 3 to 5 microseconds with a source file
- * of 4,534 bytes, 24 to 31 with its lowering of 28,297 (docs/PERFORMANCE.md). To check a plan judge it whole; don't take its steps one by one.
+ * TIME. Every call reads the task's file anew, which is most of what a step by itself takes: 5 to 6 microseconds with a source file
+ * of 4,534 bytes, 33 to 37 with its lowering of 28,297 (docs/PERFORMANCE.md). To check a plan judge it whole; don't take its steps one by one.
  *
  * ANSWERS. A function returns 0, or the number of the refusal:
  *
@@ -113,8 +113,8 @@ enum {
 uint32_t ruphenqo_version(void);
 
 /* ---- reading ----
- * Whether a file is accepted. counts: its variables, modes and actions. Refusals 1 to 7 and, of a source file, 14: `1 to 7` below has it
- * with them. */
+ * Whether a file is accepted. counts: its variables, modes and actions. Refusals 1 to 7, and 14 of a source file; wherever `1 to 7` is said
+ * below of a source task, 14 is among them. */
 uint32_t ruphenqo_read_source(const uint8_t *task, size_t task_length, uint64_t counts[3], uint64_t *place);
 uint32_t ruphenqo_read_restricted(const uint8_t *task, size_t task_length, uint64_t counts[3], uint64_t *place);
 
