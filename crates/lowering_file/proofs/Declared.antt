@@ -67,6 +67,11 @@ pairs-are n xs ys ms l e f =
     (sym (getD-take n xs k 0 b) ∙ ap (λ (z : List ℕ). getD z k 0) e ∙ getD-each (λ (m : ℕ × ℕ). m .0) ms k (0, 0))
     (sym (getD-take n ys k 0 b) ∙ ap (λ (z : List ℕ). getD z k 0) f ∙ getD-each (λ (m : ℕ × ℕ). m .1) ms k (0, 0)))
 
+-- ---- conditions on kept variables are as many
+pub kept-long : (j : ℕ) (cs : List (NumericCondition ℕ)) → length (onKept j cs) ≡ length cs
+kept-long j [] = refl
+kept-long j (c ∷ cs) = ap suc (kept-long (j + length (sumIn (c .measured))) cs)
+
 -- ---- an accepted file
 module _ (file : List ℕ) (count : ℕ) (bytes : Bytes file) (accepted : AcceptedWith (verdictOf sourceLimits file) count) where
   pub task-read : readSource file ≡ given (taskOf file)
@@ -138,10 +143,6 @@ module _ (file : List ℕ) (count : ℕ) (bytes : Bytes file) (accepted : Accept
         is = says .is;
       }
     where
-      kept-long : (j : ℕ) (cs : List (NumericCondition ℕ)) → length (onKept j cs) ≡ length cs
-      kept-long j [] = refl
-      kept-long j (c ∷ cs) = ap suc (kept-long (j + length (sumIn (c .measured))) cs)
-
       all-small : (n : ℕ) (cs : List (NumericCondition ℕ)) (j : ℕ) → All (ConditionOk sourceLimits n) cs → All Constant (onKept j cs)
       all-small n [] j h = tt
       all-small n (c ∷ cs) j (h, hs) = (one (c .measured) (c .constant) (h .measures), all-small n cs (j + length (sumIn (c .measured))) hs)

@@ -1,7 +1,7 @@
 -- The lowered task's file by its parts, as they are written; that it is short enough to be counted; and what a file that is refused, or
 -- accepted, comes to.
 -- Assumes nothing.
-use mathlib.Core.Path.{_≡_, refl, sym, ap, ap₂, _∙_}
+use mathlib.Core.Path.{_≡_, refl, sym, ap, ap₂, _∙_, subst}
 use mathlib.Core.Bool.{Bool}
 use mathlib.Core.List.{List, [], _∷_, _++_, flatMap, append-assoc, append-nil}
 use Prim.Native.Nat.{ℕ, zero, suc, _+_, _*_, _≤_, _<_}
@@ -10,6 +10,7 @@ use lib.ListN.{length, take, replicate, length-append, length-map}
 use lib.IntN.{ℤ, pos}
 use Rattle.integers.specs.All.{All}
 use Rattle.integers.specs.Numbers.{bitsOf}
+use Rattle.integers.proofs.All.{all-map}
 use Rattle.lists.specs.Each.{tabulate}
 use Rattle.lists.specs.Answer.{Answer, given, refused, then}
 use Rattle.lists.proofs.Each.{flatMap-nil, flatMap-append, length-flatMap}
@@ -20,10 +21,12 @@ use Rattle.commands.specs.declared.Command.{Command}
 use Rattle.commands.specs.declared.Command.the-variants.{Start, Mode, Goal, End}
 use Rattle.model.specs.Tasks.{NumericCondition, RestrictedAction, SourceTask, RestrictedTask}
 use Rattle.model.specs.Limits.{sourceLimits, restrictedLimits}
-use Rattle.model.specs.TaskOk.{ValuesIn, keys, RestrictedActionOk, RestrictedTaskOk}
+use Rattle.model.specs.TaskOk.{InRange, ValuesIn, keys, RestrictedActionOk, RestrictedTaskOk}
 use Rattle.model.specs.Reading.{Verdict, Rejected, verdictOf}
 use Rattle.model.specs.Decoding.{onVerdict, readSource}
 use Rattle.model.specs.Steps.{sizesOf}
+use Rattle.model.specs.Stages.{holdCount}
+use Rattle.model.specs.Sums.{sumValues}
 use Rattle.model.specs.Lowering.{restingHelpers, startCommands, modeCommands, modeConditionCommands, conditionCommands, encodeFile, lowerTask, lowerFile}
 use Rattle.model.specs.Judging.{lowerBytes}
 use Rattle.model.proofs.AcceptedOk.{accepted-source-ok}
@@ -32,15 +35,16 @@ use Rattle.file_parts.specs.Row.{rowIs}
 use Rattle.file_parts.specs.With.{withModeCondition}
 use Rattle.file_actions.proofs.Distinct.{few-distinct}
 use Rattle.model.specs.FourRelations.{inFour}
-use Rattle.lowering_sums.specs.Views.{startBytes}
+use Rattle.lowering_sums.specs.Views.{Fits, startBytes}
 use Rattle.lowering_rows.specs.Bytes.{modeConditionBytes, conditionBytes, modeEffectBytes, additionBytes, restrictedActionBytes, rowBytes}
 use Rattle.lowering_rows.proofs.Parts.{run-bytes, mode-conditions-bytes, conditions-bytes, actions-bytes}
 use Rattle.lowering_rows.proofs.Writing.{action-row}
 use Rattle.lowering_file.specs.declared.Declarations.{Declarations}
-use Rattle.lowering_file.specs.declared.Kept.{Kept}
 use Rattle.lowering_file.specs.Parts.{modeBytes, modesIn, holdsOf, startsIn}
+use Rattle.lowering_file.specs.Held.{taskOf, Kept, sumsIs, KeptOf, Declares, GoalOf, Told, startsPart, modesPart, actionsPart, goalEnd}
+use Rattle.lowering_file.specs.Held.{inFileOrder, actionsFirst}
 use Rattle.lowering_file.proofs.Keeping.{starts-kept}
-use Rattle.lowering_file.specs.Held.{taskOf, KeptOf, Declares, GoalOf, Told, startsPart, modesPart, actionsPart, goalEnd, inFileOrder, actionsFirst}
+use Rattle.lowering_file.proofs.Walk.{all-right}
 
 -- ---- the starts, the modes, and the whole file
 starts-bytes : (zs : List ℤ) (more : List Command) → encodeAll (startCommands zs more) ≡ flatMap startBytes zs ++ encodeAll more
@@ -113,12 +117,23 @@ goal-begun old at row = start old at (ap (λ (z : List ℕ). row ++ z) (sym (app
 -- ---- the parts that are written, from what is read
 module _ {file : List ℕ} {count : ℕ} {d : Declarations} (D : Declares file count d) where
   module _ {control : ℕ} {several : Bool} (told : Told file control several) where
-    pub starts-are : {p : Kept} → KeptOf file p → flatMap startBytes (startsIn (d .shape .variables) (d .starts) several (p .sums)) ≡ startsPart file
+    pub starts-are : {p : Kept} → KeptOf file p → flatMap startBytes (startsIn (d .shape .variables) (d .starts) several (sumsIs p)) ≡ startsPart file
     starts-are keeps =
         ap (flatMap startBytes) (starts-kept keeps (take (d .shape .variables) (d .starts)) (holdsOf several) (D .startsAre) (told .holdsAre))
 
     pub modes-are : flatMap modeBytes (modesIn (d .shape .modes) (d .shape .sizes) (d .values) ++ ((control, 0) ∷ [])) ≡ modesPart file
     modes-are = ap₂ (λ (ms : List (ℕ × ℕ)) (n : ℕ). flatMap modeBytes (ms ++ ((n, 0) ∷ []))) (D .modesAre) (told .controlIs)
+
+  -- the kept variables start in range
+  pub starts-fit : {p : Kept} → KeptOf file p → All Fits (sumValues (sumsIs p) (take (d .shape .variables) (d .starts)))
+  starts-fit {p} keeps =
+      let t = taskOf file in
+      let values = take (d .shape .variables) (d .starts) in
+      let holds = holdCount (t .actions) in
+      let all = subst (All (InRange restrictedLimits)) (sym (starts-kept keeps values holds (D .startsAre) refl))
+      (lowered-task-ok t (accepted-source-ok file t (D .held .is)) .startsIn) in
+      all-map (InRange restrictedLimits) Fits (λ z h. omega (arith, h)) (sumValues (sumsIs p) values)
+      (all-right (InRange restrictedLimits) (values ++ restingHelpers holds) (sumValues (sumsIs p) values) all)
 
   pub goal-are : {marks : List ℕ} {numbers : List ℤ} → GoalOf file marks numbers
       → rowBytes letterG (inFour (withModeCondition (rowIs marks numbers) (d .shape .modes, 0))) ++ encode End ≡ goalEnd file

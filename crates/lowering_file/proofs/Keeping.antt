@@ -1,5 +1,5 @@
--- R against the task that measures its sums: the actions one behind another, each with its own sums; the starts; and that where there is no sum any
--- number stands for the first kept variable.
+-- R against the task that measures its sums: the actions one behind another, each with its own sums; the starts; that the sums of the table keep
+-- what those of the file do, since they weigh alike; and that where there is no sum any number stands for the first kept variable.
 -- Assumes nothing.
 use mathlib.Core.Path.{_≡_, refl, sym, ap, ap₂, _∙_}
 use mathlib.Core.List.{List, [], _∷_, _++_, append-nil}
@@ -7,20 +7,17 @@ use Prim.Native.Nat.{ℕ, zero, suc, _+_}
 use native.Mathlib.Nat.{add-zero}
 use native.Mathlib.Omega.{arith}
 use lib.IntN.{ℤ, pos, _+ℤ_, _*ℤ_}
-use lib.ListN.{length, length-append, length-map, List·getD-append}
-use Rattle.integers.specs.All.{All}
-use Rattle.model.specs.Tasks.{Measured, variable, weightedSum, NumericCondition, SourceVariable, SourceAction, RestrictedAction, SourceTask}
-use Rattle.model.specs.Limits.{sourceLimits}
-use Rattle.model.specs.TaskOk.{AmountOk, TermsOk}
+use lib.ListN.{length, replicate, length-append}
+use Rattle.model.specs.Tasks.{Measured, variable, weightedSum, NumericCondition, SourceAction, RestrictedAction, SourceTask}
 use Rattle.model.specs.Steps.{integerAt, weigh, lowerBounds, upperBounds, sourceStart}
 use Rattle.model.specs.Stages.{Stage, stagesActions, onSourceVariables, stagesOf, addedBound, macro, holdCount}
 use Rattle.model.specs.FourRelations.{inFour}
-use Rattle.model.specs.Sums.{sumIn, sumsIn, sumsOfActions, sumsOf, keptVariable, onKept, kept, keepingAll, sumValues}
+use Rattle.model.specs.Sums.{sumIn, sumsIn, sumsOfActions, sumsOf, sumsOfSource, keptVariable, onKept, kept, keepingAll, sumValues}
 use Rattle.model.specs.Lowering.{numberedConditions, numberedAll, restingHelpers, lowerMeasuring, lowerTask}
+use Rattle.model.proofs.Arrays.{replicated}
 use Rattle.model.proofs.LoweredSums.{sums-in-file-order}
-use Rattle.lowering_file.specs.declared.Kept.{Kept}
-use Rattle.lowering_sums.specs.Views.{sumsIs}
-use Rattle.lowering_file.specs.Held.{taskOf, measuring, KeptOf, goalSum, GoalFrom}
+use Rattle.lowering_sums.proofs.Measuring.{kept-same, values-same}
+use Rattle.lowering_file.specs.Held.{taskOf, measuring, Kept, sumsIs, KeptOf, goalSum, GoalFrom}
 use Rattle.lowering_file.proofs.Sums.{none-of}
 
 -- ---- actions one behind another
@@ -99,20 +96,31 @@ no-sum-kept f g (a ∷ acts) i j e =
 
 -- ---- so the actions are R's, and the conditions of its goal are
 module _ {file : List ℕ} {p : Kept} (h : KeptOf file p) where
-  all-sums : sumsIs (p .sums) ≡ sumsOf (measuring file)
-  all-sums = h .sums .are ∙ sym (sums-in-file-order (taskOf file))
-
-  none : p .sums .count ≡ 0 → length (sumsOf (measuring file)) ≡ 0
+  none : p .count ≡ 0 → length (sumsOf (measuring file)) ≡ 0
   none e = omega (arith, h .sums .counted, ap length (sums-in-file-order (taskOf file)))
 
-  pub actions-kept : keepingAll (p .first) (sumsIs (p .sums)) (p .first) (measuring file .actions) ≡ lowerTask (taskOf file) .actions
+  -- the sums of the table are kept as those of the file are
+  table-keeps : (acts : List RestrictedAction) (j : ℕ) → keepingAll (p .first) (sumsIs p) j acts ≡ keepingAll (p .first) (sumsOfSource (taskOf file)) j acts
+  table-keeps [] j = refl
+  table-keeps (a ∷ acts) j = ap₂ (λ (es : List (ℕ × ℤ)) (z : List RestrictedAction). inFour (record {
+    modeConditions = a .modeConditions;
+    conditions = onKept j (a .conditions);
+    modeEffects = a .modeEffects;
+    additions = a .additions ++ es;
+  }) ∷ z)
+      (kept-same (p .first) (p .count) (sumsOfSource (taskOf file)) (p .weights) (a .additions) (h .sums .counted) (h .sums .weighs))
+      (table-keeps acts (j + length (sumsIn (a .conditions))))
+
+  pub actions-kept : keepingAll (p .first) (sumsIs p) (p .first) (measuring file .actions) ≡ lowerTask (taskOf file) .actions
   actions-kept =
-      ap (λ (s : List (List (ℕ × ℤ))). keepingAll (p .first) s (p .first) (measuring file .actions)) all-sums ∙ by (p .sums .count) refl
+      table-keeps (measuring file .actions) (p .first)
+      ∙ ap (λ (s : List (List (ℕ × ℤ))). keepingAll (p .first) s (p .first) (measuring file .actions)) (sym (sums-in-file-order (taskOf file)))
+      ∙ by (p .count) refl
     where
       at : ℕ → List RestrictedAction
       at first = keepingAll first (sumsOf (measuring file)) first (measuring file .actions)
 
-      by : (n : ℕ) → p .sums .count ≡ n → at (p .first) ≡ at (length (measuring file .starts))
+      by : (n : ℕ) → p .count ≡ n → at (p .first) ≡ at (length (measuring file .starts))
       by zero e =
           let no = none-of (sumsOf (measuring file)) (none e) in
           let own = front-none (sumsOfActions (measuring file .actions)) (sumsIn (measuring file .goalConditions)) (none e) in
@@ -123,33 +131,36 @@ module _ {file : List ℕ} {p : Kept} (h : KeptOf file p) where
           ∙ ap (λ (s : List (List (ℕ × ℤ))). keepingAll g s g (measuring file .actions)) (sym no)
       by (suc n) e = ap at (h .firstIs (omega arith))
 
--- ---- the sums at the start: their terms are of the declared variables
-weigh-front : (n : ℕ) (ts : List (ℕ × ℤ)) (xs ys : List ℤ) → length xs ≡ n → All (AmountOk sourceLimits n) ts
-    → weigh ts (integerAt xs) ≡ weigh ts (integerAt (xs ++ ys))
-weigh-front n [] xs ys e h = refl
-weigh-front n (t ∷ ts) xs ys e (h, hs) =
-    ap₂ (λ (x y : ℤ). x *ℤ t .1 +ℤ y) (sym (List·getD-append xs ys (pos 0) (t .0) (omega (arith, h .0)))) (weigh-front n ts xs ys e hs)
+-- ---- the sums at the start: what starts at 0 behind the declared variables weighs nothing
+zeros-behind : (xs : List ℤ) (n i : ℕ) → integerAt xs i ≡ integerAt (xs ++ replicate n (pos 0)) i
+zeros-behind [] n i = sym (replicated n i)
+zeros-behind (x ∷ xs) n zero = refl
+zeros-behind (x ∷ xs) n (suc i) = zeros-behind xs n i
 
-values-front : (n : ℕ) (sums : List (List (ℕ × ℤ))) (xs ys : List ℤ) → length xs ≡ n → All (TermsOk sourceLimits n) sums
-    → sumValues sums xs ≡ sumValues sums (xs ++ ys)
-values-front n [] xs ys e h = refl
-values-front n (ts ∷ sums) xs ys e (h, hs) = ap₂ _∷_ (weigh-front n ts xs ys e (h .0)) (values-front n sums xs ys e hs)
+weigh-front : (ts : List (ℕ × ℤ)) (xs : List ℤ) (n : ℕ) → weigh ts (integerAt xs) ≡ weigh ts (integerAt (xs ++ replicate n (pos 0)))
+weigh-front [] xs n = refl
+weigh-front (t ∷ ts) xs n = ap₂ (λ (x y : ℤ). x *ℤ t .1 +ℤ y) (zeros-behind xs n (t .0)) (weigh-front ts xs n)
+
+values-front : (sums : List (List (ℕ × ℤ))) (xs : List ℤ) (n : ℕ) → sumValues sums xs ≡ sumValues sums (xs ++ replicate n (pos 0))
+values-front [] xs n = refl
+values-front (ts ∷ sums) xs n = ap₂ _∷_ (weigh-front ts xs n) (values-front sums xs n)
 
 module _ {file : List ℕ} {p : Kept} (h : KeptOf file p) where
   pub starts-kept : (values : List ℤ) (holds : ℕ) → values ≡ sourceStart (taskOf file) .values → holds ≡ holdCount (taskOf file .actions)
-      → (values ++ restingHelpers holds) ++ sumValues (sumsIs (p .sums)) values ≡ lowerTask (taskOf file) .starts
+      → (values ++ restingHelpers holds) ++ sumValues (sumsIs p) values ≡ lowerTask (taskOf file) .starts
   starts-kept values holds e f =
-      let n = length (taskOf file .variables) in
       let own = sourceStart (taskOf file) .values in
-      let rest = restingHelpers (holdCount (taskOf file .actions)) in
-      let long : length own ≡ n = length-map (taskOf file .variables) (λ (b : SourceVariable). b .start) in
-      ap₂ (λ (v : List ℤ) (k : ℕ). (v ++ restingHelpers k) ++ sumValues (sumsIs (p .sums)) v) e f
+      let count = holdCount (taskOf file .actions) in
+      let rest = restingHelpers count in
+      ap₂ (λ (v : List ℤ) (k : ℕ). (v ++ restingHelpers k) ++ sumValues (sumsIs p) v) e f
       ∙ ap (λ (z : List ℤ). (own ++ rest) ++ z)
-      (values-front n (sumsIs (p .sums)) own rest long (h .sums .ok .sumsOk) ∙ ap (λ (s : List (List (ℕ × ℤ))). sumValues s (own ++ rest)) (all-sums h))
+      (values-same (p .count) (sumsOfSource (taskOf file)) (p .weights) own (h .sums .counted) (h .sums .weighs)
+      ∙ values-front (sumsOfSource (taskOf file)) own (suc (suc count))
+      ∙ ap (λ (s : List (List (ℕ × ℤ))). sumValues s (own ++ rest)) (sym (sums-in-file-order (taskOf file))))
 
 -- ---- the number of the goal's first sum, where it is counted on from the first of all
 module _ {file : List ℕ} {p : Kept} (h : KeptOf file p) where
-  pub goal-from : {number : ℕ} → number ≡ goalSum file (p .first) → GoalFrom file (p .sums .count) number
+  pub goal-from : {number : ℕ} → number ≡ goalSum file (p .first) → GoalFrom file (p .count) number
   goal-from {number} e = record {
     is = λ some-sum. e ∙ ap (goalSum file) (h .firstIs some-sum);
     low = omega (
@@ -157,7 +168,7 @@ module _ {file : List ℕ} {p : Kept} (h : KeptOf file p) where
       e,
       h .firstLow,
       h .sums .counted,
-      h .sums .ok .few .few,
+      h .sums .few,
       ap length (sums-in-file-order (taskOf file)),
       length-append (sumsOfActions (measuring file .actions)) (sumsIn (taskOf file .goalConditions)),
     );

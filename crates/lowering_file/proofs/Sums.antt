@@ -3,26 +3,27 @@
 use mathlib.Core.Path.{_≡_, refl, sym, ap, ap₂, _∙_, subst}
 use mathlib.Core.Bool.{Bool, true, false, cond}
 use mathlib.Core.Option.{some, Option·none-ne-some}
-use mathlib.Core.List.{List, [], _∷_, _++_, map}
+use mathlib.Core.List.{List, [], _∷_, _++_, append-nil, map}
 use Prim.Native.Nat.{ℕ, zero, suc, _+_, _≤_, _<_}
 use native.Mathlib.Omega.{arith}
 use native.Mathlib.Numerals.{add-one}
+use borrow.Author.Needs.{needs}
 use borrow.Author.Tests.{lt-ltb}
 use lib.Dec.{ltb}
-use lib.IntN.{ℤ}
-use lib.ListN.{length, take, drop, getElem?, length-append, length-map, length-take}
+use lib.IntN.{ℤ, pos}
+use lib.ListN.{length, take, drop, replicate, getElem?, length-append, length-map, length-take}
 use lib.Seq.{take-all, drop-length}
 use Rattle.integers.specs.All.{All}
 use Rattle.integers.specs.Numbers.{Bytes}
-use Rattle.integers.proofs.All.{all-app}
+use Rattle.integers.proofs.All.{all-app, all-map}
 use Rattle.commands.specs.Table.{letterC}
 use Rattle.commands.specs.declared.Command.{Command}
 use Rattle.model.specs.Tasks.{Measured, variable, weightedSum, NumericCondition, Effect, SourceAction}
 use Rattle.model.specs.Limits.{sourceLimits}
-use Rattle.model.specs.TaskOk.{TermsOk, MeasureOk, ConditionOk, SourceActionOk, SourceTaskOk}
-use Rattle.model.specs.Reading.{remainders, Verdict, Accepted, Rejected, verdictOf, commandsOf}
+use Rattle.model.specs.TaskOk.{AmountOk, TermsOk, MeasureOk, ConditionOk, SourceActionOk, SourceTaskOk}
+use Rattle.model.specs.Reading.{Verdict, Accepted, Rejected, verdictOf, commandsOf}
 use Rattle.model.specs.Decoding.{those, conditionsOf, sumConditionsOf, sourceConditionsOf, effectsOf, actionsOf, sourceActionOf}
-use Rattle.model.specs.ActionBytes.{actionPart, decodeAction, allAlong}
+use Rattle.model.specs.ActionBytes.{actionPart, decodeAction}
 use Rattle.model.specs.Steps.{sizesOf}
 use Rattle.model.specs.Stages.{several, holdCount}
 use Rattle.model.specs.Sums.{sumIn, sumsIn, sumsOfSourceActions, sumsOfSource}
@@ -32,11 +33,14 @@ use Rattle.model.proofs.ActionBytes.{action-decodes}
 use Rattle.model.proofs.LoweredOk.{measuring-starts}
 use Rattle.model.proofs.StageWalk.{all-get}
 use Rattle.model.proofs.SumsAccepted.{no-sum, sums-append}
+use Rattle.file_parts.specs.Layout.{MARKS, NUMBERS}
+use Rattle.file_parts.specs.Row.{rowIs}
 use Rattle.file_actions.specs.declared.SumCondition.{SumCondition}
 use Rattle.file_actions.specs.declared.SumConditions.{SumConditions}
 use Rattle.file_actions.specs.declared.Effects.{Effects}
 use Rattle.file_actions.specs.Places.{goalPart}
 use Rattle.file_actions.specs.Views.{effectRoom, sumRoom, termRoom, termsIs, effectsIs, sumTermsIs, sumIs as conditionIs}
+use Rattle.file_actions.specs.Numeric.{noSums}
 use Rattle.file_actions.specs.Views.{plainActionOf, fittingEffect, fittingMeasure, fittingSum, fittingSource, SourceDecoded, SumsDecoded}
 use Rattle.file_actions.proofs.GoalBytes.{goal-decodes}
 use Rattle.file_actions.proofs.Sums.{sums-counted, sums-next, action-sums, goal-sums}
@@ -44,11 +48,11 @@ use Rattle.source_step.specs.Accepted.{AcceptedWith}
 use Rattle.source_step.specs.Sizes.{VARIABLES}
 use Rattle.lowering_stages.specs.declared.Shape.{Shape}
 use Rattle.lowering_stages.proofs.Effects.{effects-length}
-use Rattle.lowering_sums.specs.declared.Sums.{Sums}
-use Rattle.lowering_sums.specs.Views.{sumsIs, SumsFew, OwnFew}
+use Rattle.lowering_sums.specs.Views.{WEIGHTS, Blank, PartSmall, OwnSmall, Weighs, WeightsPut}
+use Rattle.lowering_sums.proofs.Measuring.{blank-start, weighs-more}
 use Rattle.lowering_rows.proofs.Staging.{drop-get}
 use Rattle.lowering_file.specs.Parts.{holdsOf}
-use Rattle.lowering_file.specs.Held.{taskOf, Held, SumsOf, KeptOf}
+use Rattle.lowering_file.specs.Held.{taskOf, Held, SumsOf, kept, KeptOf, OwnPushed}
 use Rattle.lowering_file.proofs.Declared.{actions-counted, task-ok}
 
 -- ---- lists
@@ -60,11 +64,6 @@ get-map f (y ∷ xs) (suc k) x e = get-map f xs k x e
 pub none-of : {A : Type 0} (xs : List A) → length xs ≡ 0 → xs ≡ []
 none-of [] e = refl
 none-of (x ∷ xs) e = absurd (omega arith)
-
--- ---- no bytes give no K
-pub no-bytes-no-sums : sumConditionsOf (decodeAction []) ≡ []
-unfolding decodeAction allAlong remainders
-no-bytes-no-sums = refl
 
 -- ---- K's that keep to the rules have room whole
 measure-fits : (n : ℕ) (m : Measured ℕ) (k : ℤ) → MeasureOk sourceLimits n m k → fittingMeasure m ≡ m
@@ -97,8 +96,13 @@ module _ {ks : List (NumericCondition ℕ)} {s : SumConditions} (d : SumsDecoded
     d .long,
   )
 
-  pub own-few : OwnFew s
-  own-few = record { few = d .few; termsFew = d .termsFew }
+  own-small : (n : ℕ) → n ≤ VARIABLES → All (TermsOk sourceLimits n) (sumTermsIs s) → OwnSmall s
+  own-small n small ok = record {
+    few = d .few;
+    termsFew = d .termsFew;
+    terms = all-map (TermsOk sourceLimits n) (All PartSmall)
+        (λ ts h. all-map (AmountOk sourceLimits n) PartSmall (λ t a. (omega (arith, a .0), a .1 .1)) ts (h .0)) (sumTermsIs s) ok;
+  }
 
   whole-sums : (n : ℕ) → All (ConditionOk sourceLimits n) ks → length ks ≤ sumRoom → sumTermsIs s ≡ sumsIn ks
   whole-sums n ok few =
@@ -123,13 +127,6 @@ module _ (n : ℕ) where
       one : (m : Measured ℕ) (k : ℤ) → MeasureOk sourceLimits n m k → All (TermsOk sourceLimits n) (sumIn m)
       one (variable i) k h = tt
       one (weightedSum ts) k h = (h .2, tt)
-
-  all-terms-ok : (sizes : List ℕ) (acts : List SourceAction) → All (SourceActionOk sourceLimits n sizes) acts
-      → All (TermsOk sourceLimits n) (sumsOfSourceActions acts)
-  all-terms-ok sizes [] h = tt
-  all-terms-ok sizes (a ∷ acts) (h, hs) =
-      all-app (TermsOk sourceLimits n) (sumsIn (a .conditions)) (sumsOfSourceActions acts) (terms-ok (a .conditions) (h .conditionsOk .conditionsIn))
-      (all-terms-ok sizes acts hs)
 
 -- the first k actions have no more sums than all
 first-fewer : (k : ℕ) (acts : List SourceAction) → length (sumsOfSourceActions (take k acts)) ≤ length (sumsOfSourceActions acts)
@@ -159,13 +156,13 @@ decoded-several [] = refl
 decoded-several (e ∷ []) = refl
 decoded-several (e ∷ f ∷ es) = refl
 
--- ---- the sums of the first k actions are gathered
-pub record Gathered (file : List ℕ) (count k : ℕ) (sums : Sums) : Type 0 where
+-- ---- the sums of the first k actions are gathered: so many, with their weights in the table
+pub record Gathered (file : List ℕ) (count k sums : ℕ) (weights : List ℤ) : Type 0 where
   pub bytes : Bytes file
   pub bound : k ≤ count
-  pub few : SumsFew sums
-  pub counted : sums .count ≡ length (sumsOfSourceActions (take k (taskOf file .actions)))
-  pub are : sumsIs sums ≡ sumsOfSourceActions (take k (taskOf file .actions))
+  pub counted : sums ≡ length (sumsOfSourceActions (take k (taskOf file .actions)))
+  pub blank : Blank sums weights
+  pub weighs : Weighs 0 (sumsOfSourceActions (take k (taskOf file .actions))) weights
 
 -- ---- an accepted file
 module _ (file : List ℕ) (count : ℕ) (bytes : Bytes file) (accepted : AcceptedWith (verdictOf sourceLimits file) count) where
@@ -184,7 +181,7 @@ module _ (file : List ℕ) (count : ℕ) (bytes : Bytes file) (accepted : Accept
     abbrev commands-at : List Command
     commands-at = decodeAction (actionPart file k)
 
-    action-at : getElem? (taskOf file .actions) k ≡ some (sourceActionOf commands-at)
+    pub action-at : getElem? (taskOf file .actions) k ≡ some (sourceActionOf commands-at)
     action-at = get-map sourceActionOf (actionsOf (commandsOf sourceLimits file)) k commands-at (action-decodes sourceLimits file bytes verdict k
         (omega (arith, actions-counted file count bytes accepted, length-map (actionsOf (commandsOf sourceLimits file)) sourceActionOf)))
 
@@ -195,24 +192,32 @@ module _ (file : List ℕ) (count : ℕ) (bytes : Bytes file) (accepted : Accept
     pub none-at : (n : ℕ) → n ≡ length (sumsOfSource (taskOf file)) → n ≡ 0 → sumConditionsOf commands-at ≡ []
     none-at n e z = none-of (sumConditionsOf commands-at) (omega (arith, few-at))
 
+    here-ok : All (ConditionOk sourceLimits (length (taskOf file .variables))) (sourceConditionsOf commands-at)
+    here-ok =
+        let n = length (taskOf file .variables) in
+        let sizes = sizesOf (taskOf file .modes) in
+        let here = all-get (SourceActionOk sourceLimits n sizes) (taskOf file .actions) k (sourceActionOf commands-at) (ok .actionsOk) action-at in
+        here .conditionsOk .conditionsIn
+
     module _ {own : SumConditions} (d : SumsDecoded (sumConditionsOf (decodeAction (actionPart file k))) own) where
       sums-at : sumTermsIs own ≡ sumsIn (sourceConditionsOf commands-at)
-      sums-at =
-          let n = length (taskOf file .variables) in
-          let sizes = sizesOf (taskOf file .modes) in
-          let here = all-get (SourceActionOk sourceLimits n sizes) (taskOf file .actions) k (sourceActionOf commands-at) (ok .actionsOk) action-at in
-          part-sums n commands-at own d (here .conditionsOk .conditionsIn) (omega (arith, few-at, ok .sumsFew))
+      sums-at = part-sums (length (taskOf file .variables)) commands-at own d here-ok (omega (arith, few-at, ok .sumsFew))
 
-      module _ {sums : Sums} (g : Gathered file count k sums) where
+      pub small-at : OwnSmall own
+      small-at =
+          let n = length (taskOf file .variables) in
+          own-small d n (ok .variablesFew) (subst (All (TermsOk sourceLimits n)) (sym sums-at) (terms-ok n (sourceConditionsOf commands-at) here-ok))
+
+      module _ {sums : ℕ} {weights : List ℤ} (g : Gathered file count k sums weights) where
         next : sumsOfSourceActions (take (suc k) (taskOf file .actions)) ≡ sumsOfSourceActions (take k (taskOf file .actions)) ++ sumTermsIs own
         next = sums-next (taskOf file .actions) k (sourceActionOf commands-at) action-at
             ∙ ap (λ (z : List (List (ℕ × ℤ))). sumsOfSourceActions (take k (taskOf file .actions)) ++ z) (sym sums-at)
 
-        long : length (sumsOfSourceActions (take (suc k) (taskOf file .actions))) ≡ sums .count + own .count
+        long : length (sumsOfSourceActions (take (suc k) (taskOf file .actions))) ≡ sums + own .count
         long = ap length next ∙ length-append (sumsOfSourceActions (take k (taskOf file .actions))) (sumTermsIs own)
             ∙ ap₂ _+_ (sym (g .counted)) (sym (own-counted d))
 
-        pub gathered-room : sums .count + own .count ≤ sumRoom
+        pub gathered-room : sums + own .count ≤ sumRoom
         gathered-room = omega (
           arith,
           long,
@@ -221,14 +226,14 @@ module _ (file : List ℕ) (count : ℕ) (bytes : Bytes file) (accepted : Accept
           ok .sumsFew,
         )
 
-        pub gathered-next : {more : Sums} → sumsIs more ≡ sumsIs sums ++ sumTermsIs own → more .count ≡ sums .count + own .count
-            → (SumsFew sums → SumsFew more) → Gathered file count (k + 1) more
-        gathered-next {more} e n f = rw (add-one k) (record {
+        pub gathered-next : {more : List ℤ} → WeightsPut sums (sumTermsIs own) weights more → Gathered file count (k + 1) (sums + own .count) more
+        gathered-next {more} put = rw (add-one k) (record {
           bytes = bytes;
           bound = omega arith;
-          few = f (g .few);
-          counted = n ∙ sym long;
-          are = e ∙ ap (λ (z : List (List (ℕ × ℤ))). z ++ sumTermsIs own) (g .are) ∙ sym next;
+          counted = sym long;
+          blank = subst (λ (n : ℕ). Blank (sums + n) more) (sym (own-counted d)) (put .blank);
+          weighs = subst (λ (z : List (List (ℕ × ℤ))). Weighs 0 z more) (sym next)
+              (weighs-more (sumsOfSourceActions (take k (taskOf file .actions))) (g .weighs) (sym (g .counted)) put);
         })
 
     -- what is decoded of its effects
@@ -255,46 +260,79 @@ module _ (file : List ℕ) (count : ℕ) (bytes : Bytes file) (accepted : Accept
   pub none-in-goal : (n : ℕ) → n ≡ length (sumsOfSource (taskOf file)) → n ≡ 0 → sumConditionsOf goal-commands ≡ []
   none-in-goal n e z = none-of (sumConditionsOf goal-commands) (omega (arith, goal-few))
 
+  goal-ok : All (ConditionOk sourceLimits (length (taskOf file .variables))) (sourceConditionsOf goal-commands)
+  goal-ok = subst (All (ConditionOk sourceLimits (length (taskOf file .variables)))) (sym goal-at) (ok .goal .conditionsIn)
+
   -- with its sums behind those of all actions they are those of the task
   module _ {own : SumConditions} (d : SumsDecoded (sumConditionsOf (decodeAction (goalPart file count))) own) where
-    goal-sums-at : sumTermsIs own ≡ sumsIn (taskOf file .goalConditions)
-    goal-sums-at =
+    goal-sums-at : sumTermsIs own ≡ sumsIn (sourceConditionsOf goal-commands)
+    goal-sums-at = part-sums (length (taskOf file .variables)) goal-commands own d goal-ok (omega (arith, goal-few, ok .sumsFew))
+
+    pub small-in-goal : OwnSmall own
+    small-in-goal =
         let n = length (taskOf file .variables) in
-        part-sums n goal-commands own d (subst (All (ConditionOk sourceLimits n)) (sym goal-at) (ok .goal .conditionsIn)) (omega (arith, goal-few, ok .sumsFew))
-        ∙ ap sumsIn goal-at
+        own-small d n (ok .variablesFew) (subst (All (TermsOk sourceLimits n)) (sym goal-sums-at) (terms-ok n (sourceConditionsOf goal-commands) goal-ok))
 
-    module _ {k : ℕ} {sums : Sums} (g : Gathered file count k sums) (last : count ≤ k) where
-      all-gathered : sumsOfSourceActions (take k (taskOf file .actions)) ≡ sumsOfSourceActions (taskOf file .actions)
-      all-gathered = ap sumsOfSourceActions (take-all k (taskOf file .actions) (omega (arith, actions-counted file count bytes accepted)))
+    module _ {k sums : ℕ} {weights : List ℤ} (g : Gathered file count k sums weights) (last : count ≤ k) where
+      all-gathered : sumsOfSourceActions (take k (taskOf file .actions)) ++ sumTermsIs own ≡ sumsOfSource (taskOf file)
+      all-gathered = ap₂ _++_
+          (ap sumsOfSourceActions (take-all k (taskOf file .actions) (omega (arith, actions-counted file count bytes accepted))))
+          (goal-sums-at ∙ ap sumsIn goal-at)
 
-      all-long : length (sumsOfSource (taskOf file)) ≡ sums .count + own .count
-      all-long =
-          length-append (sumsOfSourceActions (taskOf file .actions)) (sumsIn (taskOf file .goalConditions))
-          ∙ ap₂ _+_ (sym (g .counted ∙ ap length all-gathered)) (sym (own-counted d ∙ ap length goal-sums-at))
+      all-long : length (sumsOfSource (taskOf file)) ≡ sums + own .count
+      all-long = sym (ap length all-gathered) ∙ length-append (sumsOfSourceActions (take k (taskOf file .actions))) (sumTermsIs own)
+          ∙ ap₂ _+_ (sym (g .counted)) (sym (own-counted d))
 
-      pub goal-room : sums .count + own .count ≤ sumRoom
+      pub goal-room : sums + own .count ≤ sumRoom
       goal-room = omega (arith, all-long, ok .sumsFew)
 
-      pub all-found : {more : Sums} → sumsIs more ≡ sumsIs sums ++ sumTermsIs own → more .count ≡ sums .count + own .count
-          → (SumsFew sums → SumsFew more) → SumsOf file more
-      all-found {more} e n f =
-          let size = length (taskOf file .variables) in
-          let are : sumsIs more ≡ sumsOfSource (taskOf file) = e ∙ ap₂ _++_ (g .are ∙ all-gathered) goal-sums-at in
-          record {
-            are = are;
-            counted = n ∙ sym all-long;
-            ok = record {
-              few = f (g .few);
-              sumsOk = subst (All (TermsOk sourceLimits size)) (sym are)
-                  (all-app (TermsOk sourceLimits size) (sumsOfSourceActions (taskOf file .actions)) (sumsIn (taskOf file .goalConditions))
-                  (all-terms-ok size (sizesOf (taskOf file .modes)) (taskOf file .actions) (ok .actionsOk))
-                  (terms-ok size (taskOf file .goalConditions) (ok .goal .conditionsIn)));
-            };
-          }
+      pub all-found : {more : List ℤ} → WeightsPut sums (sumTermsIs own) weights more → SumsOf file (sums + own .count) more
+      all-found {more} put = record {
+        counted = sym all-long;
+        few = goal-room;
+        blank = subst (λ (n : ℕ). Blank (sums + n) more) (sym (own-counted d)) (put .blank);
+        weighs = subst (λ (z : List (List (ℕ × ℤ))). Weighs 0 z more) all-gathered
+            (weighs-more (sumsOfSourceActions (take k (taskOf file .actions))) (g .weighs) (sym (g .counted)) put);
+      }
 
 -- none are gathered at first
-pub gathered-start : {file : List ℕ} {count : ℕ} {sums : Sums} → Bytes file → sumsIs sums ≡ [] → sums .count ≡ 0 → SumsFew sums → Gathered file count 0 sums
-gathered-start bytes e n f = record { bytes = bytes; bound = omega arith; few = f; counted = n; are = e }
+pub gathered-start : {file : List ℕ} {count : ℕ} {weights : List ℤ} → Bytes file → weights ≡ replicate WEIGHTS (pos 0) → Gathered file count 0 0 weights
+gathered-start bytes e = record {
+  bytes = bytes;
+  bound = omega arith;
+  counted = refl;
+  blank = subst (Blank 0) (sym e) blank-start;
+  weighs = λ i l. absurd (omega arith);
+}
+
+-- and none are to be found in a task without any
+pub none-found : {file : List ℕ} {weights : List ℤ} → sumsOfSource (taskOf file) ≡ [] → weights ≡ replicate WEIGHTS (pos 0) → SumsOf file 0 weights
+none-found none e = record {
+  counted = sym (ap length none);
+  few = omega arith;
+  blank = subst (Blank 0) (sym e) blank-start;
+  weighs = λ i l. absurd (omega (arith, ap length none));
+}
+
+-- ---- where an action has no K its rows stay as they are
+pub none-pushed : {ks : List (NumericCondition ℕ)} {j : ℕ} {marks : List ℕ} {numbers : List ℤ} → ks ≡ [] → length marks ≡ MARKS → length numbers ≡ NUMBERS
+    → OwnPushed ks j (rowIs marks numbers) marks numbers 0
+none-pushed {ks} {j} {marks} {numbers} e m n = record {
+  own = noSums;
+  decoded = subst (λ (z : List (NumericCondition ℕ)). SumsDecoded z noSums) (sym e)
+      (record { are = refl; few = omega arith; long = refl; termsFew = search (needs) });
+  counted = refl;
+  says = record {
+    marksLong = m;
+    numbersLong = n;
+    is = ap (λ (z : List (NumericCondition ℕ)). record {
+      modeConditions = rowIs marks numbers .modeConditions;
+      conditions = z;
+      modeEffects = rowIs marks numbers .modeEffects;
+      additions = rowIs marks numbers .additions;
+    }) (sym (append-nil (rowIs marks numbers .conditions)));
+  };
+}
 
 -- ---- whether some of the first k actions have several effects, with what is left, is whether some action has
 pub record Seeking (file : List ℕ) (count k : ℕ) (many : Bool) : Type 0 where
@@ -341,10 +379,10 @@ module _ {file : List ℕ} {count : ℕ} {h : Shape} (held : Held file count h) 
   pub few-variables : h .variables ≤ VARIABLES
   few-variables = omega (arith, held .variablesAre, held-ok .variablesFew)
 
-  pub kept-of : {s : Sums} {first : ℕ} → SumsOf file s → first ≤ VARIABLES + 5
-      → (0 < s .count → first ≡ h .variables + (2 + holdCount (taskOf file .actions))) → KeptOf file (record { first = first; sums = s })
-  kept-of {s} {first} sums low is = record {
-    sums = sums;
+  pub kept-of : {sums : ℕ} {weights : List ℤ} {first : ℕ} → SumsOf file sums weights → first ≤ VARIABLES + 5
+      → (0 < sums → first ≡ h .variables + (2 + holdCount (taskOf file .actions))) → KeptOf file (kept first sums weights)
+  kept-of {sums} {weights} {first} found low is = record {
+    sums = found;
     firstIs = λ some-sum. let e = is some-sum in omega (arith, held .variablesAre, measuring-starts (taskOf file) held-ok);
     firstLow = low;
   }

@@ -7,7 +7,7 @@ use mathlib.Core.List.{List, [], _∷_, _++_, map}
 use Prim.Native.Nat.{ℕ, zero, suc, _+_, _*_, _≤_, _<_}
 use native.Mathlib.Omega.{arith}
 use native.Mathlib.Numerals.{add-one}
-use lib.ListN.{length, drop, getElem?, length-append, length-map}
+use lib.ListN.{length, drop, getElem?, length-append, length-map, length-take}
 use lib.Seq.{drop-length}
 use lib.IntN.{ℤ, natAbs}
 use Rattle.integers.specs.All.{All}
@@ -16,21 +16,24 @@ use Rattle.model.specs.Tasks.{SourceVariable, SourceAction, RestrictedAction}
 use Rattle.model.specs.Limits.{sourceLimits, restrictedLimits}
 use Rattle.model.specs.TaskOk.{EffectOk, SourceVariableOk, SourceActionOk, SourceTaskOk, RestrictedActionOk}
 use Rattle.model.specs.Reading.{verdictOf}
-use Rattle.model.specs.Decoding.{sumConditionsOf}
+use Rattle.model.specs.Decoding.{conditionsOf, modeConditionsOf, sumConditionsOf, modeEffectsOf, sourceActionOf}
 use Rattle.model.specs.ActionBytes.{actionPart, decodeAction}
 use Rattle.model.specs.Steps.{integerAt, naturalAt, sizesOf, lowerBounds, upperBounds}
 use Rattle.model.specs.Stages.{stagesOf, macro, lowerActions, stageCount, several, holdCount}
-use Rattle.model.specs.Sums.{sumsIn, sumsOfActions, keepingAll}
+use Rattle.model.specs.Sums.{sumsIn, sumsOfActions, onKept, keepingAll}
 use Rattle.model.specs.Lowering.{numberedAll, lowerTask}
 use Rattle.model.proofs.AcceptedOk.{accepted-source-ok}
 use Rattle.model.proofs.LoweredOk.{lowered-task-ok}
 use Rattle.model.proofs.LoweredSums.{sums-in-file-order}
 use Rattle.model.proofs.StageWalk.{all-get}
-use Rattle.file_parts.specs.Layout.{modeEffectCount}
-use Rattle.file_parts.specs.Row.{modeEffectIn, rowIs}
+use Rattle.file_parts.specs.Layout.{conditionRoom, modeConditionRoom, modeEffectRoom, modeEffectCount}
+use Rattle.file_parts.specs.Row.{conditionsIn, modeEffectIn, rowIs, PartsFit, Says}
+use Rattle.file_parts.specs.With.{sourcePart}
+use Rattle.file_parts.proofs.Pushing.{parts-fit}
 use Rattle.file_actions.specs.declared.Effects.{Effects}
 use Rattle.file_actions.specs.declared.SumConditions.{SumConditions}
-use Rattle.file_actions.specs.Views.{sumRoom, effectsIs, sourceActionIs, plainActionOf, SourceDecoded, SumsDecoded, fittingSource}
+use Rattle.file_actions.specs.Views.{sumRoom, sumsIs as conditionsIs, effectsIs, plainIs, sourceActionIs, plainActionOf, SourceDecoded, SumsDecoded}
+use Rattle.file_actions.specs.Views.{fittingSource}
 use Rattle.file_actions.specs.Within.{SourceWithin}
 use Rattle.file_actions.proofs.Accepted.{source-action-decoded, source-action-within}
 use Rattle.file_actions.proofs.Sums.{decoded-sums}
@@ -38,13 +41,12 @@ use Rattle.source_step.specs.Accepted.{AcceptedWith}
 use Rattle.lowering_stages.specs.declared.Shape.{Shape}
 use Rattle.lowering_stages.specs.Stages.{mostStages, stageNumbers, PlacesFew}
 use Rattle.lowering_stages.specs.Shapes.{lowerOf, upperOf, Bounded}
-use Rattle.lowering_sums.specs.Views.{sumsIs}
-use Rattle.lowering_sums.proofs.Places.{sums-small}
-use Rattle.lowering_rows.specs.Macros.{Keeps, Lowerable, stagesIn, macroIn, Sound}
+use Rattle.lowering_rows.specs.Macros.{AllFit, withOwn, macroWith, Keeps, Lowerable, stagesIn, macroIn, Sound}
+use Rattle.lowering_rows.proofs.Macros.{macro-is, sound-fit}
 use Rattle.lowering_rows.proofs.Staging.{numbered-append, drop-get}
-use Rattle.lowering_file.specs.declared.Kept.{Kept}
-use Rattle.lowering_file.specs.Held.{taskOf, measuring, Held, KeptOf, goalSum, measuredAt, restAt, stagesOfTask, Told}
-use Rattle.lowering_file.proofs.Sums.{own-counted, none-at}
+use Rattle.lowering_file.specs.Held.{taskOf, measuring, Held, Kept, sumsIs, KeptOf, goalSum, measuredAt, restAt, stagesOfTask, Told}
+use Rattle.lowering_file.proofs.Declared.{kept-long}
+use Rattle.lowering_file.proofs.Sums.{own-counted, action-at, none-at}
 use Rattle.lowering_file.proofs.Keeping.{sums-behind, keeping-append, macro-measures, actions-kept}
 
 -- ---- lists
@@ -52,7 +54,7 @@ all-left : {A : Type 0} (P : A → Type 0) (xs ys : List A) → All P (xs ++ ys)
 all-left P [] ys h = tt
 all-left P (x ∷ xs) ys (p, ps) = (p, all-left P xs ys ps)
 
-all-right : {A : Type 0} (P : A → Type 0) (xs ys : List A) → All P (xs ++ ys) → All P ys
+pub all-right : {A : Type 0} (P : A → Type 0) (xs ys : List A) → All P (xs ++ ys) → All P ys
 all-right P [] ys h = h
 all-right P (x ∷ xs) ys (p, ps) = all-right P xs ys ps
 
@@ -111,35 +113,49 @@ module _ {file : List ℕ} {count : ℕ} {h : Shape} (held : Held file count h) 
     places-few : PlacesFew r
     places-few = record { few = decoded .few; termsFew = decoded .termsFew }
 
-    lowerable : (j : ℕ) → j + sumRoom ≤ 255 → Lowerable h marks numbers r s j
-    lowerable j low = record {
-      bounded = bounded;
-      parts = record {
-        marksLong = decoded .parts .marksLong;
-        numbersLong = decoded .parts .numbersLong;
-        is = λ i. record {
-          modeConditions = rowIs marks numbers .modeConditions;
-          conditions = rowIs marks numbers .conditions;
-          modeEffects = rowIs marks numbers .modeEffects;
-          additions = ap (λ (x : RestrictedAction). x .additions) (decoded .parts .is) i;
-        };
-      };
-      effects = record {
-        few = places-few;
-        effectsOk = subst (λ (n : ℕ). All (EffectOk sourceLimits n) (effectsIs r)) (sym (held .variablesAre)) (action-ok .effectsOk);
-      };
-      ownFew = sums .few;
-      ownNumbers = low;
-      conditionsFew = action-ok .conditionsOk .conditionsFew;
-      modeConditionsFew = action-ok .conditionsOk .modeConditionsFew;
-      modeEffectsFew = omega (
-        arith,
-        within .row .modeEffects .few,
-        length-tabulate (naturalAt marks modeEffectCount) (modeEffectIn marks),
-        task-ok .modesFew,
-        length-map (taskOf file .modes) (λ (m : ℕ × ℕ). m .0),
-      );
+    -- its rows have no +
+    plain-rows : rowIs marks numbers ≡ sourcePart (plainIs marks numbers r)
+    plain-rows = λ i. record {
+      modeConditions = rowIs marks numbers .modeConditions;
+      conditions = rowIs marks numbers .conditions;
+      modeEffects = rowIs marks numbers .modeEffects;
+      additions = ap (λ (x : RestrictedAction). x .additions) (decoded .parts .is) i;
     }
+
+    -- its K's behind its C's
+    module _ (j : ℕ) {marks′ : List ℕ} {numbers′ : List ℤ} (says : Says (withOwn j s (rowIs marks numbers)) marks′ numbers′) where
+      conditions-long : length (rowIs marks′ numbers′ .conditions) ≡ length (sourceActionIs marks numbers r s .conditions)
+      conditions-long =
+          ap (λ (x : RestrictedAction). length (x .conditions)) (says .is)
+          ∙ length-append (conditionsIn marks numbers) (onKept j (conditionsIs s))
+          ∙ ap (λ (n : ℕ). length (conditionsIn marks numbers) + n) (kept-long j (conditionsIs s))
+          ∙ sym (length-append (conditionsIn marks numbers) (conditionsIs s))
+
+      lowerable : Lowerable h marks′ numbers′ r
+      lowerable = record {
+        bounded = bounded;
+        marksLong = says .marksLong;
+        numbersLong = says .numbersLong;
+        noAdditions = ap (λ (x : RestrictedAction). x .additions) (says .is) ∙ ap (λ (x : RestrictedAction). x .additions) plain-rows;
+        effects = record {
+          few = places-few;
+          effectsOk = subst (λ (n : ℕ). All (EffectOk sourceLimits n) (effectsIs r)) (sym (held .variablesAre)) (action-ok .effectsOk);
+        };
+        conditionsFew = omega (arith, conditions-long, action-ok .conditionsOk .conditionsFew);
+        modeConditionsFew = omega (
+          arith,
+          ap (λ (x : RestrictedAction). length (x .modeConditions)) (says .is),
+          action-ok .conditionsOk .modeConditionsFew,
+        );
+        modeEffectsFew = omega (
+          arith,
+          ap (λ (x : RestrictedAction). length (x .modeEffects)) (says .is),
+          within .row .modeEffects .few,
+          length-tabulate (naturalAt marks modeEffectCount) (modeEffectIn marks),
+          task-ok .modesFew,
+          length-map (taskOf file .modes) (λ (m : ℕ × ℕ). m .0),
+        );
+      }
 
     lower-same : lowerOf h ≡ lowerBounds (taskOf file)
     lower-same = ap integerAt (held .lowersAre)
@@ -228,7 +244,7 @@ walk-start held keeps = record {
 
 module _ {file : List ℕ} {count : ℕ} {h : Shape} {p : Kept} {k from : ℕ} {many : Bool} {j : ℕ} (w : Walk file count h p k from many j) where
   -- the numbers of sums are small
-  numbers-low : j + sumRoom ≤ 255
+  pub numbers-low : j + sumRoom ≤ 255
   numbers-low = omega (
     arith,
     w .sums,
@@ -238,13 +254,32 @@ module _ {file : List ℕ} {count : ℕ} {h : Shape} {p : Kept} {k from : ℕ} {
     task-ok (w .held) .sumsFew,
   )
 
-  pub walk-keeps : Keeps (p .first) (p .sums)
-  walk-keeps = record { small = sums-small (w .keeps .sums .ok); numbers = omega (arith, w .keeps .firstLow) }
+  walk-keeps : Keeps (p .first) (p .count) (p .weights)
+  walk-keeps = record { few = w .keeps .sums .few; small = w .keeps .sums .blank .small; numbers = omega (arith, w .keeps .firstLow) }
 
   -- in a task without sums action k has none
-  pub walk-none : AcceptedWith (verdictOf sourceLimits file) count → k < count → p .sums .count ≡ 0
+  pub walk-none : AcceptedWith (verdictOf sourceLimits file) count → k < count → p .count ≡ 0
       → sumConditionsOf (decodeAction (actionPart file k)) ≡ []
-  walk-none accepted below e = none-at file count (w .held .bytes) accepted k below (p .sums .count) (w .keeps .sums .counted) e
+  walk-none accepted below e = none-at file count (w .held .bytes) accepted k below (p .count) (w .keeps .sums .counted) e
+
+  -- behind the parts of action k there is room for its K's as C
+  pub own-room : AcceptedWith (verdictOf sourceLimits file) count → k < count → {marks : List ℕ} {numbers : List ℤ} {r : Effects}
+      → SourceDecoded (fittingSource (plainActionOf (decodeAction (actionPart file k)))) marks numbers r → PartsFit sumRoom 0 0 0 marks
+  own-room accepted below decoded =
+      let cs = decodeAction (actionPart file k) in
+      let ok = all-get (SourceActionOk sourceLimits (length (taskOf file .variables)) (sizesOf (taskOf file .modes))) (taskOf file .actions) k
+      (sourceActionOf cs) (task-ok (w .held) .actionsOk) (action-at file count (w .held .bytes) accepted k below) in
+      parts-fit (decoded .parts) (record {
+        conditions = omega (
+          arith,
+          ok .conditionsOk .conditionsFew,
+          length-take conditionRoom (conditionsOf cs),
+          length-append (conditionsOf cs) (sumConditionsOf cs),
+        );
+        modeConditions = omega (arith, length-take modeConditionRoom (modeConditionsOf cs));
+        modeEffects = omega (arith, length-take modeEffectRoom (modeEffectsOf cs));
+        additions = omega arith;
+      })
 
   module _ (below : k < count) (marks : List ℕ) (numbers : List ℤ) (r : Effects) (s : SumConditions)
       (decoded : SourceDecoded (fittingSource (plainActionOf (decodeAction (actionPart file k)))) marks numbers r)
@@ -253,24 +288,32 @@ module _ {file : List ℕ} {count : ℕ} {h : Shape} {p : Kept} {k from : ℕ} {
     measured = macroIn h from (sourceActionIs marks numbers r s)
 
     abbrev becomes : List RestrictedAction
-    becomes = keepingAll (p .first) (sumsIs (p .sums)) j measured
+    becomes = keepingAll (p .first) (sumsIs p) j measured
 
     pub walk-split : (c : ℕ) → c ≡ length (stagesIn h r) → restAt file p from k j ≡ becomes ++ restAt file p (from + c) (k + 1) (j + s .count)
     walk-split c e =
         let rest = measuredAt file (from + c) (k + 1) in
-        ap (keepingAll (p .first) (sumsIs (p .sums)) j) (measured-split (w .held) k below marks numbers r s decoded sums from c e)
-        ∙ keeping-append (p .first) (sumsIs (p .sums)) measured rest j
-        ∙ ap (λ (n : ℕ). becomes ++ keepingAll (p .first) (sumsIs (p .sums)) (j + n) rest) (macro-sums (w .held) k below marks numbers r s decoded sums from)
+        ap (keepingAll (p .first) (sumsIs p) j) (measured-split (w .held) k below marks numbers r s decoded sums from c e)
+        ∙ keeping-append (p .first) (sumsIs p) measured rest j
+        ∙ ap (λ (n : ℕ). becomes ++ keepingAll (p .first) (sumsIs p) (j + n) rest) (macro-sums (w .held) k below marks numbers r s decoded sums from)
 
-    -- what a macro requires
-    pub macro-ready : Lowerable h marks numbers r s j × Keeps (p .first) (p .sums) × (0 < from) × (from ≤ stageNumbers) × Sound becomes
-    macro-ready = (
-      lowerable (w .held) k below marks numbers r s decoded sums j numbers-low,
-      walk-keeps,
-      w .low,
-      omega (arith, w .high, w .bound, few-actions (w .held)),
-      sound-left becomes _ (subst Sound (walk-split (length (stagesIn h r)) refl) (w .sound)),
-    )
+    -- from its rows, with its K's behind its C's
+    module _ {marks′ : List ℕ} {numbers′ : List ℤ} (says : Says (withOwn j s (rowIs marks numbers)) marks′ numbers′) where
+      pub rows-become : macroWith (p .first) (sumsIs p) h from (effectsIs r) (rowIs marks′ numbers′) ≡ becomes
+      rows-become =
+          ap (macroWith (p .first) (sumsIs p) h from (effectsIs r)) (says .is)
+          ∙ macro-is (p .first) (sumsIs p) h from marks numbers r s j (plain-rows (w .held) k below marks numbers r s decoded sums)
+
+      -- what a macro requires
+      pub macro-ready : Lowerable h marks′ numbers′ r × Keeps (p .first) (p .count) (p .weights) × (0 < from) × (from ≤ stageNumbers)
+          × AllFit (macroWith (p .first) (sumsIs p) h from (effectsIs r) (rowIs marks′ numbers′))
+      macro-ready = (
+        lowerable (w .held) k below marks numbers r s decoded sums j says,
+        walk-keeps,
+        w .low,
+        omega (arith, w .high, w .bound, few-actions (w .held)),
+        subst AllFit (sym rows-become) (sound-fit becomes (sound-left becomes _ (subst Sound (walk-split (length (stagesIn h r)) refl) (w .sound)))),
+      )
 
     pub walk-next : (c : ℕ) → c ≡ length (stagesIn h r) → c ≤ mostStages → (more : Bool) → more ≡ cond many true (several (effectsIs r))
         → Walk file count h p (k + 1) (from + c) more (j + s .count)
@@ -300,10 +343,6 @@ module _ {file : List ℕ} {count : ℕ} {h : Shape} {p : Kept} {k from : ℕ} {
         joined true c n = refl
         joined false c n = refl
 
-    -- the next number of a sum is small too
-    pub next-low : j + s .count ≤ 255
-    next-low = omega (arith, numbers-low, sums .few)
-
   -- behind the last
   dropped : count ≤ k → drop k (taskOf file .actions) ≡ []
   dropped l =
@@ -319,7 +358,7 @@ module _ {file : List ℕ} {count : ℕ} {h : Shape} {p : Kept} {k from : ℕ} {
       (dropped l)
 
   pub walk-end : count ≤ k → restAt file p from k j ≡ []
-  walk-end l = ap (keepingAll (p .first) (sumsIs (p .sums)) j) (measured-end l)
+  walk-end l = ap (keepingAll (p .first) (sumsIs p) j) (measured-end l)
 
   pub told : count ≤ k → Told file from many
   told l = record {

@@ -11,7 +11,7 @@ use Rattle.lists.specs.Answer.{given}
 use Rattle.commands.specs.Table.{letterG}
 use Rattle.commands.specs.Encoding.{encode}
 use Rattle.commands.specs.declared.Command.the-variants.{End}
-use Rattle.model.specs.Tasks.{SourceVariable, SourceTask, RestrictedAction, RestrictedTask}
+use Rattle.model.specs.Tasks.{NumericCondition, SourceVariable, SourceTask, RestrictedAction, RestrictedTask}
 use Rattle.model.specs.Limits.{sourceLimits}
 use Rattle.model.specs.Reading.{commandsOf}
 use Rattle.model.specs.ActionBytes.{edgeOf}
@@ -22,16 +22,15 @@ use Rattle.model.specs.FourRelations.{inFour}
 use Rattle.model.specs.Sums.{sumsOfActions, sumsOfSource, onKept, keepingAll}
 use Rattle.model.specs.Lowering.{numberedAll, lowerMeasuring, lowerTask}
 use Rattle.source_step.specs.Sizes.{VARIABLES}
-use Rattle.file_parts.specs.Row.{rowIs}
-use Rattle.file_parts.specs.With.{withModeCondition}
-use Rattle.file_actions.specs.Views.{sumRoom}
+use Rattle.file_parts.specs.Row.{rowIs, Says}
+use Rattle.file_parts.specs.With.{withConditions, withModeCondition}
+use Rattle.file_actions.specs.declared.SumConditions.{SumConditions}
+use Rattle.file_actions.specs.Views.{sumRoom, sumsIs as conditionsIs, SumsDecoded}
 use Rattle.lowering_stages.specs.declared.Shape.{Shape}
-use Rattle.lowering_sums.specs.declared.Sums.{Sums}
-use Rattle.lowering_sums.specs.Views.{sumsIs, SumsOk, ValuesSmall, startBytes}
+use Rattle.lowering_sums.specs.Views.{sumsIn, Blank, Weighs, ValuesSmall, startBytes}
 use Rattle.lowering_rows.specs.Bytes.{restrictedActionBytes, rowBytes, WroteRows}
 use Rattle.lowering_file.specs.Parts.{modeBytes, modesIn, holdsOf, GoalWritable}
 use Rattle.lowering_file.specs.declared.Declarations.{Declarations}
-use Rattle.lowering_file.specs.declared.Kept.{Kept}
 use Rattle.lowering_file.specs.declared.Put.{Put}
 
 -- the task of an accepted file
@@ -64,17 +63,37 @@ pub record Declares (file : List ℕ) (count : ℕ) (d : Declarations) : Type 0 
   pub startsAre : take (d .shape .variables) (d .starts) ≡ sourceStart (taskOf file) .values
   pub modesAre : modesIn (d .shape .modes) (d .shape .sizes) (d .values) ≡ taskOf file .modes
 
--- ---- its sums: those of the actions in order, then those of the goal
-pub record SumsOf (file : List ℕ) (s : Sums) : Type 0 where
-  pub are : sumsIs s ≡ sumsOfSource (taskOf file)
-  pub counted : s .count ≡ length (sumsOfSource (taskOf file))
-  pub ok : SumsOk (length (taskOf file .variables)) s
+-- ---- its sums, those of the actions in order, then those of the goal: how many, and the table of their weights
+pub record SumsOf (file : List ℕ) (sums : ℕ) (weights : List ℤ) : Type 0 where
+  pub counted : sums ≡ length (sumsOfSource (taskOf file))
+  pub few : sums ≤ sumRoom
+  pub blank : Blank sums weights
+  pub weighs : Weighs 0 (sumsOfSource (taskOf file)) weights
 
--- and what R keeps of them: the variables behind its others. Where there is no sum any number stands for the first
+-- and what R keeps of them: the variables behind its others, from the first on
+pub record Kept : Type 0 where
+  pub first : ℕ
+  pub count : ℕ
+  pub weights : List ℤ
+
+abbrev pub kept : ℕ → ℕ → List ℤ → Kept
+kept first count weights = record { first = first; count = count; weights = weights }
+
+abbrev pub sumsIs : Kept → List (List (ℕ × ℤ))
+sumsIs p = sumsIn (p .count) (p .weights)
+
+-- where there is no sum any number stands for the first
 pub record KeptOf (file : List ℕ) (p : Kept) : Type 0 where
-  pub sums : SumsOf file (p .sums)
-  pub firstIs : 0 < p .sums .count → p .first ≡ length (measuring file .starts)
+  pub sums : SumsOf file (p .count) (p .weights)
+  pub firstIs : 0 < p .count → p .first ≡ length (measuring file .starts)
   pub firstLow : p .first ≤ VARIABLES + 5
+
+-- ---- to the rows of an action, x, its K's were pushed as C on the kept variables from number j on, so many
+pub record OwnPushed (ks : List (NumericCondition ℕ)) (j : ℕ) (x : RestrictedAction) (marks : List ℕ) (numbers : List ℤ) (r : ℕ) : Type 0 where
+  pub own : SumConditions
+  pub decoded : SumsDecoded ks own
+  pub counted : r ≡ own .count
+  pub says : Says (withConditions x (onKept j (conditionsIs own))) marks numbers
 
 -- ---- the goal: its first sum is kept behind those of the actions, whose first is kept as number `first`
 abbrev pub goalSum : List ℕ → ℕ → ℕ
@@ -106,7 +125,7 @@ measuredAt file from k =
 
 -- and where R keeps them, the next being on variable j
 abbrev pub restAt : List ℕ → Kept → ℕ → ℕ → ℕ → List RestrictedAction
-restAt file p from k j = keepingAll (p .first) (sumsIs (p .sums)) j (measuredAt file from k)
+restAt file p from k j = keepingAll (p .first) (sumsIs p) j (measuredAt file from k)
 
 -- the count of all stages
 abbrev pub stagesOfTask : List ℕ → ℕ

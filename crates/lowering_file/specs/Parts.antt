@@ -2,8 +2,9 @@
 -- Assumes nothing.
 use mathlib.Core.Path.{_≡_}
 use Prim.Native.Nat.{ℕ}
-use mathlib.Core.Bool.{Bool, cond}
-use mathlib.Core.List.{List, _++_}
+use mathlib.Core.Bool.{Bool, true, false, cond}
+use mathlib.Core.List.{List, [], _∷_, _++_}
+use lib.Dec.{eqb}
 use lib.ListN.{length, take}
 use lib.IntN.{ℤ}
 use Rattle.lists.specs.Each.{tabulate}
@@ -14,9 +15,12 @@ use Rattle.model.specs.Sums.{sumValues}
 use Rattle.model.specs.Lowering.{restingHelpers}
 use Rattle.file_parts.specs.Layout.{NUMBERS}
 use Rattle.file_parts.specs.Row.{rowIs, PartsFit}
-use Rattle.lowering_sums.specs.declared.Sums.{Sums}
-use Rattle.lowering_sums.specs.Views.{sumsIs}
 use Rattle.lowering_rows.specs.Macros.{Fit}
+
+-- ---- whether a byte stands anywhere in bytes
+abbrev pub hasByte : ℕ → List ℕ → Bool
+hasByte b [] = false
+hasByte b (x ∷ xs) = cond (eqb x b) true (hasByte b xs)
 
 -- ---- the bytes of an M; for those of a U see lowering_sums, specs/Views
 abbrev pub modeBytes : ℕ × ℕ → List ℕ
@@ -34,8 +38,8 @@ abbrev pub holdsOf : Bool → ℕ
 holdsOf several = cond several 3 0
 
 -- ---- where all variables start: the n declared ones, as an array has them, the helpers at 0, and the kept ones at their sums
-abbrev pub startsIn : ℕ → List ℤ → Bool → Sums → List ℤ
-startsIn n starts several sums = (take n starts ++ restingHelpers (holdsOf several)) ++ sumValues (sumsIs sums) (take n starts)
+abbrev pub startsIn : ℕ → List ℤ → Bool → List (List (ℕ × ℤ)) → List ℤ
+startsIn n starts several sums = (take n starts ++ restingHelpers (holdsOf several)) ++ sumValues sums (take n starts)
 
 -- ---- what a writer requires: the rows of a goal, which has room for one P more
 pub record GoalWritable (marks : List ℕ) (numbers : List ℤ) : Type 0 where

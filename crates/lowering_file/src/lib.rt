@@ -8,7 +8,7 @@ use file_parts::MARKS;
 use file_parts::NUMBERS;
 use lists::Written;
 use lowering_stages::Shape;
-use lowering_sums::Sums;
+use lowering_sums::WEIGHTS;
 use source_step::MODES;
 use source_step::VARIABLES;
 ghost use mathlib.Core.Path.{_≡_};
@@ -17,9 +17,10 @@ ghost use mathlib.Core.List.{[], _∷_, _++_, flatMap};
 ghost use Prim.Native.Nat.{_+_, _<_, _≤_};
 ghost use lib.ListN.{length, take, replicate};
 ghost use lib.IntN.{pos};
+ghost use Rattle.integers.specs.All.{All};
 ghost use Rattle.lists.specs.Writing.{Room, Wrote};
 ghost use Rattle.lists.specs.Written.{Lent};
-ghost use Rattle.commands.specs.Table.{letterG};
+ghost use Rattle.commands.specs.Table.{letterG, letterK};
 ghost use Rattle.commands.specs.Encoding.{encode};
 ghost use Rattle.commands.specs.declared.Command.the-variants.{End};
 ghost use Rattle.model.specs.Limits.{sourceLimits};
@@ -28,21 +29,21 @@ ghost use Rattle.model.specs.Decoding.{sumConditionsOf};
 ghost use Rattle.model.specs.ActionBytes.{actionPart, decodeAction};
 ghost use Rattle.model.specs.Stages.{several, holdCount};
 ghost use Rattle.model.specs.FourRelations.{inFour};
-ghost use Rattle.model.specs.Sums.{sumsOfSource};
+ghost use Rattle.model.specs.Sums.{sumsOfSource, sumValues};
 ghost use Rattle.model.specs.Judging.{lowerBytes};
 ghost use Rattle.source_step.specs.Sizes.{VARIABLES, MODES, ACTIONS};
 ghost use Rattle.source_step.specs.Accepted.{AcceptedWith};
 ghost use Rattle.file_parts.specs.Layout.{MARKS, NUMBERS};
-ghost use Rattle.file_parts.specs.Row.{rowIs};
+ghost use Rattle.file_parts.specs.Row.{rowIs, PartsFit};
 ghost use Rattle.file_parts.specs.With.{withModeCondition};
 ghost use Rattle.file_actions.specs.Places.{goalFrom};
-ghost use Rattle.file_actions.specs.Views.{effectsIs, plainActionOf, SourceDecoded, SumsDecoded, fittingSource};
+ghost use Rattle.file_actions.specs.Views.{sumRoom, effectsIs, plainActionOf, SourceDecoded, SumsDecoded, fittingSource};
 ghost use Rattle.lowering_stages.specs.Stages.{PlacesFew};
-ghost use Rattle.lowering_sums.specs.Views.{startBytes, SumsSmall, ValuesSmall};
+ghost use Rattle.lowering_sums.specs.Views.{WEIGHTS, sumsIn, startBytes, Fits, WeightsSmall, ValuesSmall};
 ghost use Rattle.lowering_rows.specs.Bytes.{rowBytes, WroteRows};
-ghost use Rattle.lowering_file.specs.Parts.{modeBytes, modesIn, holdsOf, startsIn, GoalWritable};
-ghost use Rattle.lowering_file.specs.Held.{taskOf, Held, PlacesOf, SumsOf, KeptOf, Declares, GoalFrom, GoalOf, Told, actionsPart, inFileOrder};
-ghost use Rattle.lowering_file.specs.Held.{actionsFirst, Acted};
+ghost use Rattle.lowering_file.specs.Parts.{hasByte, modeBytes, modesIn, holdsOf, startsIn, GoalWritable};
+ghost use Rattle.lowering_file.specs.Held.{taskOf, Held, PlacesOf, SumsOf, kept, KeptOf, OwnPushed, Declares, GoalFrom, GoalOf, Told};
+ghost use Rattle.lowering_file.specs.Held.{actionsPart, inFileOrder, actionsFirst, Acted};
 
 // What a file declares, by value.
 struct Declarations {
@@ -102,38 +103,71 @@ fn goal_sums(file: &[u8], place: usize) -> SumConditions
     file_actions::decode_sums(file_actions::goal_from(file, place))
 }
 
-// The sums of an accepted file with so many actions: those of the actions in order, then those of the goal.
-fn find_sums(file: &[u8], places: &[usize; PLACES], count: usize) -> Sums
-    requires { ⌜ AcceptedWith (verdictOf sourceLimits (now file)) count × PlacesOf (now file) count (now places) ⌝ }
-    ensures { λ r. ⌜ SumsOf (now (file .entry)) r ⌝ }
+// Whether the byte of a K stands anywhere in a file. Where it does not, none of its commands is one.
+fn has_sum(file: &[u8]) -> bool
+    ensures { λ r. ⌜ r ≡ hasByte letterK (now (file .entry)) ⌝ }
 {
-    let mut sums = lowering_sums::no_sums();
+    let mut seen = false;
+    let mut i: usize = 0;
+    while i < file.len() {
+        if file[i] == b'K' {
+            seen = true;
+        }
+        i += 1;
+    }
+    seen
+}
+
+// The sums of an accepted file with so many actions, those of the actions in order, then those of the goal: how many they are, and their weights
+// in a table of zeros. Where no byte of the file is a K's, there is none.
+fn find_sums(
+    file: &[u8],
+    places: &[usize; PLACES],
+    count: usize,
+    weights: &mut [i64; WEIGHTS],
+) -> usize
+    requires { ⌜ AcceptedWith (verdictOf sourceLimits (now file)) count × PlacesOf (now file) count (now places) × (now weights ≡ replicate WEIGHTS (pos 0)) ⌝ }
+    ensures { λ r. ⌜ SumsOf (now (file .entry)) r (now (weights .exit)) ⌝ }
+{
+    if !has_sum(file) {
+        return 0;
+    }
+    let mut sums: usize = 0;
     let mut k: usize = 0;
     while k < count {
         let own = action_sums(file, places, count, k);
-        sums = lowering_sums::with_sums_of(sums, own);
+        lowering_sums::put_weights(weights, sums, own);
+        sums += own.count;
         k += 1;
     }
     let own = goal_sums(file, places[count]);
-    lowering_sums::with_sums_of(sums, own)
+    lowering_sums::put_weights(weights, sums, own);
+    sums + own.count
 }
 
-// The K's of action k in a task with so many K's in all: where there is none they are not looked for.
-fn own_sums(
+// To the rows of action k, in a task with so many K's in all, its own as C on the kept variables from `variable` on. How many they are.
+fn push_own(
     file: &[u8],
     places: &[usize; PLACES],
     count: usize,
     k: usize,
-    all: usize,
-) -> SumConditions
+    sums: usize,
+    variable: u8,
+    marks: &mut [u16; MARKS],
+    numbers: &mut [i64; NUMBERS],
+) -> u8
     requires { ⌜ PlacesOf (now file) count (now places) × (k < count) × (count ≤ ACTIONS) ⌝ }
-    requires { ⌜ (all ≡ 0 → sumConditionsOf (decodeAction (actionPart (now file) k)) ≡ []) ⌝ }
-    ensures { λ r. ⌜ SumsDecoded (sumConditionsOf (decodeAction (actionPart (now (file .entry)) k))) r ⌝ }
+    requires { ⌜ (sums ≡ 0 → sumConditionsOf (decodeAction (actionPart (now file) k)) ≡ []) ⌝ }
+    requires { ⌜ PartsFit sumRoom 0 0 0 (now marks) × (length (now numbers) ≡ NUMBERS) × («variable» + sumRoom ≤ 255) ⌝ }
+    ensures { λ r. ⌜ OwnPushed (sumConditionsOf (decodeAction (actionPart (now (file .entry)) k))) «variable»
+        (rowIs (now (marks .entry)) (now (numbers .entry))) (now (marks .exit)) (now (numbers .exit)) r ⌝ }
 {
-    if all == 0 {
-        return file_actions::decode_sums(&file[..0]);
+    if sums == 0 {
+        return 0;
     }
-    action_sums(file, places, count, k)
+    let own = action_sums(file, places, count, k);
+    lowering_sums::push_sums(marks, numbers, variable, own);
+    own.count as u8
 }
 
 // Where a writer stands; what the declarations take from the actions: the size of control, 1 and the count of all stages, and whether some
@@ -180,12 +214,6 @@ fn helper_count(several: bool) -> usize
     if several { 5 } else { 2 }
 }
 
-// What R keeps of the sums of a task: they, and the number of the variable kept for the first.
-struct Kept {
-    first: u8,
-    sums: Sums,
-}
-
 // The number of the first kept variable in a task with n variables and so many sums: behind A, B and the holds. Where there is no sum the holds
 // are not looked for.
 fn first_kept(file: &[u8], places: &[usize; PLACES], count: usize, n: usize, sums: usize) -> u8
@@ -199,59 +227,48 @@ fn first_kept(file: &[u8], places: &[usize; PLACES], count: usize, n: usize, sum
     (n + helper_count(several)) as u8
 }
 
-// What R keeps of the sums of an accepted file with so many actions, whose task has this shape.
-fn find_kept(file: &[u8], places: &[usize; PLACES], count: usize, shape: Shape) -> Kept
-    requires { ⌜ AcceptedWith (verdictOf sourceLimits (now file)) count × Held (now file) count shape × PlacesOf (now file) count (now places) ⌝ }
-    ensures { λ r. ⌜ KeptOf (now (file .entry)) r ⌝ }
-{
-    let sums = find_sums(file, places, count);
-    let first = first_kept(file, places, count, shape.variables, sums.count);
-    Kept { first, sums }
-}
-
-// What all actions become, through two lent rows.
+// What all actions become, so many, through two lent rows.
 fn put_actions(
     out: &mut [u8],
     at: usize,
     file: &[u8],
     places: &[usize; PLACES],
-    count: usize,
+    actions: usize,
     shape: Shape,
-    kept: Kept,
+    first: u8,
+    sums: usize,
+    weights: &[i64; WEIGHTS],
     marks: &mut [u16; MARKS],
     numbers: &mut [i64; NUMBERS],
 ) -> Put
-    requires { ⌜ AcceptedWith (verdictOf sourceLimits (now file)) count × Held (now file) count shape × PlacesOf (now file) count (now places) ⌝ }
-    requires { ⌜ (length (now marks) ≡ MARKS) × (length (now numbers) ≡ NUMBERS) × KeptOf (now file) kept ⌝ }
+    requires { ⌜ AcceptedWith (verdictOf sourceLimits (now file)) actions × Held (now file) actions shape × PlacesOf (now file) actions (now places) ⌝ }
+    requires { ⌜ (length (now marks) ≡ MARKS) × (length (now numbers) ≡ NUMBERS) × KeptOf (now file) (kept first sums (now weights)) ⌝ }
     requires { ⌜ Room (now out) at (actionsPart (now file)) ⌝ }
-    ensures { λ r. ⌜ Acted (now (file .entry)) (kept .first) (now (out .entry)) at (actionsPart (now (file .entry))) (now (out .exit)) r
+    ensures { λ r. ⌜ Acted (now (file .entry)) first (now (out .entry)) at (actionsPart (now (file .entry))) (now (out .exit)) r
         (now (marks .exit)) (now (numbers .exit)) ⌝ }
 {
-    let sums = kept.sums;
-    let first = kept.first;
     let mut place = at;
     let mut from: u16 = 1;
     let mut several = false;
     let mut sum = first;
     let mut k: usize = 0;
-    while k < count {
-        let effects = decode_action(file, places, count, k, marks, numbers);
-        let own = own_sums(file, places, count, k, sums.count);
+    while k < actions {
+        let effects = decode_action(file, places, actions, k, marks, numbers);
+        let own = push_own(file, places, actions, k, sums, sum, marks, numbers);
         place = lowering_rows::put_macro(
             out,
             place,
             marks,
             numbers,
             effects,
-            own,
             shape,
             from,
-            sum,
             first,
             sums,
+            weights,
         );
         from += lowering_stages::stage_count(effects) as u16;
-        sum += own.count as u8;
+        sum += own;
         several = some_several(several, effects);
         k += 1;
     }
@@ -358,17 +375,20 @@ fn put_starts(
     n: usize,
     starts: &[i64; VARIABLES],
     several: bool,
-    sums: Sums,
+    sums: usize,
+    weights: &[i64; WEIGHTS],
 ) -> usize
     requires { ⌜ (n ≤ VARIABLES) × (length (now starts) ≡ VARIABLES) ⌝ }
-    requires { ⌜ ValuesSmall n (now starts) × SumsSmall sums ⌝ }
-    requires { ⌜ Room (now out) at (flatMap startBytes (startsIn n (now starts) several sums)) ⌝ }
-    ensures { λ r. ⌜ Wrote (now (out .entry)) at (flatMap startBytes (startsIn n (now (starts .entry)) several sums)) (now (out .exit)) r ⌝ }
+    requires { ⌜ ValuesSmall n (now starts) × (sums ≤ sumRoom) × WeightsSmall (now weights) ⌝ }
+    requires { ⌜ All Fits (sumValues (sumsIn sums (now weights)) (take n (now starts))) ⌝ }
+    requires { ⌜ Room (now out) at (flatMap startBytes (startsIn n (now starts) several (sumsIn sums (now weights)))) ⌝ }
+    ensures { λ r. ⌜ Wrote (now (out .entry)) at (flatMap startBytes (startsIn n (now (starts .entry)) several (sumsIn sums (now (weights .entry)))))
+        (now (out .exit)) r ⌝ }
 {
     let helpers = put_declared_starts(out, at, n, starts);
     let count = helper_count(several);
     let kept = put_zeros(out, helpers, count);
-    lowering_sums::put_sum_starts(out, kept, n, starts, sums)
+    lowering_sums::put_sum_starts(out, kept, n, starts, sums, weights)
 }
 
 // The M of the first n of two arrays.
@@ -436,28 +456,49 @@ fn count_task(
     places: &[usize; PLACES],
     count: usize,
     declared: Declarations,
-    kept: Kept,
+    first: u8,
+    sums: usize,
+    weights: &[i64; WEIGHTS],
     marks: &mut [u16; MARKS],
     numbers: &mut [i64; NUMBERS],
 ) -> Put
     requires { ⌜ AcceptedWith (verdictOf sourceLimits (now file)) count × Declares (now file) count declared × PlacesOf (now file) count (now places) ⌝ }
-    requires { ⌜ (length (now marks) ≡ MARKS) × (length (now numbers) ≡ NUMBERS) × KeptOf (now file) kept ⌝ }
+    requires { ⌜ (length (now marks) ≡ MARKS) × (length (now numbers) ≡ NUMBERS) × KeptOf (now file) (kept first sums (now weights)) ⌝ }
     requires { ⌜ Room (now out) 0 (actionsFirst (now file)) ⌝ }
-    ensures { λ r. ⌜ Acted (now (file .entry)) (kept .first) (now (out .entry)) 0 (actionsFirst (now (file .entry))) (now (out .exit)) r
+    ensures { λ r. ⌜ Acted (now (file .entry)) first (now (out .entry)) 0 (actionsFirst (now (file .entry))) (now (out .exit)) r
         (now (marks .exit)) (now (numbers .exit)) ⌝ }
 {
-    let sums = kept.sums;
     let shape = declared.shape;
     let starts = declared.starts;
     let values = declared.values;
     let sizes = shape.sizes;
-    let acted = put_actions(out, 0, file, places, count, shape, kept, marks, numbers);
+    let acted = put_actions(
+        out,
+        0,
+        file,
+        places,
+        count,
+        shape,
+        first,
+        sums,
+        weights,
+        marks,
+        numbers,
+    );
     let control = acted.control;
     let several = acted.several;
     let goal_sum = acted.goal_sum;
-    let modes = put_starts(out, acted.place, shape.variables, &starts, several, sums);
+    let modes = put_starts(
+        out,
+        acted.place,
+        shape.variables,
+        &starts,
+        several,
+        sums,
+        weights,
+    );
     let goal = put_modes(out, modes, shape.modes, &sizes, &values, control);
-    read_goal(file, places, count, sums.count, goal_sum, marks, numbers);
+    read_goal(file, places, count, sums, goal_sum, marks, numbers);
     let place = put_goal(out, goal, marks, numbers, shape.modes as u8);
     Put {
         place,
@@ -474,34 +515,39 @@ fn put_task(
     places: &[usize; PLACES],
     count: usize,
     declared: Declarations,
-    kept: Kept,
+    first: u8,
+    sums: usize,
+    weights: &[i64; WEIGHTS],
     marks: &mut [u16; MARKS],
     numbers: &mut [i64; NUMBERS],
     control: u16,
     several: bool,
 ) -> usize
     requires { ⌜ AcceptedWith (verdictOf sourceLimits (now file)) count × Declares (now file) count declared × PlacesOf (now file) count (now places) ⌝ }
-    requires { ⌜ (length (now marks) ≡ MARKS) × (length (now numbers) ≡ NUMBERS) × Told (now file) control several × KeptOf (now file) kept ⌝ }
+    requires { ⌜ (length (now marks) ≡ MARKS) × (length (now numbers) ≡ NUMBERS) × Told (now file) control several × KeptOf (now file) (kept first sums (now weights)) ⌝ }
     requires { ⌜ Room (now out) 0 (inFileOrder (now file)) ⌝ }
     ensures { λ r. ⌜ Wrote (now (out .entry)) 0 (inFileOrder (now (file .entry))) (now (out .exit)) r ⌝ }
 {
-    let sums = kept.sums;
     let shape = declared.shape;
     let starts = declared.starts;
     let values = declared.values;
     let sizes = shape.sizes;
-    let modes = put_starts(out, 0, shape.variables, &starts, several, sums);
-    let first = put_modes(out, modes, shape.modes, &sizes, &values, control);
-    let acted = put_actions(out, first, file, places, count, shape, kept, marks, numbers);
-    read_goal(
+    let modes = put_starts(out, 0, shape.variables, &starts, several, sums, weights);
+    let behind = put_modes(out, modes, shape.modes, &sizes, &values, control);
+    let acted = put_actions(
+        out,
+        behind,
         file,
         places,
         count,
-        sums.count,
-        acted.goal_sum,
+        shape,
+        first,
+        sums,
+        weights,
         marks,
         numbers,
     );
+    read_goal(file, places, count, sums, acted.goal_sum, marks, numbers);
     put_goal(out, acted.place, marks, numbers, shape.modes as u8)
 }
 
@@ -512,7 +558,10 @@ fn lower_accepted(file: &[u8], count: usize, out: &mut [u8]) -> Written
 {
     let declared = read_declarations(file, count);
     let places = find_places(file, count);
-    let kept = find_kept(file, &places, count, declared.shape);
+    let mut weights = [0i64; WEIGHTS];
+    let sums = find_sums(file, &places, count, &mut weights);
+    let shape = declared.shape;
+    let first = first_kept(file, &places, count, shape.variables, sums);
     let mut marks = [0u16; MARKS];
     let mut numbers = [0i64; NUMBERS];
     let counted = count_task(
@@ -521,7 +570,9 @@ fn lower_accepted(file: &[u8], count: usize, out: &mut [u8]) -> Written
         &places,
         count,
         declared,
-        kept,
+        first,
+        sums,
+        &weights,
         &mut marks,
         &mut numbers,
     );
@@ -537,7 +588,9 @@ fn lower_accepted(file: &[u8], count: usize, out: &mut [u8]) -> Written
         &places,
         count,
         declared,
-        kept,
+        first,
+        sums,
+        &weights,
         &mut marks,
         &mut numbers,
         control,

@@ -1,18 +1,19 @@
--- The K's of an action as C on kept variables, and the + that follow its own. What measures no sum is kept as it is.
+-- What is kept of an action: its K's as C on kept variables, and the + that follow its own. What measures no sum is kept as it is; an
+-- opening has one + at most, a small one; and of the + that follow there is one for each sum that is not weighed 0.
 -- Assumes nothing.
 use mathlib.Core.Path.{_≡_, refl, sym, ap, ap₂, _∙_, subst}
 use mathlib.Core.Bool.{Bool, true, false, cond}
-use mathlib.Core.List.{List, [], _∷_, _++_, map}
-use Prim.Native.Nat.{ℕ, zero, suc, _+_, _≤_}
+use mathlib.Core.List.{List, [], _∷_, _++_, map, flatMap}
+use Prim.Native.Nat.{ℕ, zero, suc, _+_, _<_, _≤_}
 use native.Mathlib.Nat.{add-zero}
 use native.Mathlib.Omega.{arith}
-use lib.ListN.{length, take, length-append, length-map, length-take}
-use lib.IntN.{ℤ, pos, negsuc, _-ℤ_}
+use lib.ListN.{length, length-append}
+use lib.IntN.{ℤ, pos, negsuc, natAbs, _-ℤ_}
 use lib.Signed.{ltZ}
 use Rattle.integers.specs.All.{All}
 use Rattle.integers.specs.Relation.{atMost, atLeast}
-use Rattle.integers.proofs.All.{all-app}
 use Rattle.lists.specs.Each.{tabulate}
+use Rattle.lists.proofs.Each.{length-tabulate, flatMap-append}
 use Rattle.model.specs.Tasks.{NumericCondition, RestrictedAction, Effect, addEffect, linearEffect, quotientEffect, residueEffect}
 use Rattle.model.specs.Steps.{naturalAt, weigh}
 use Rattle.model.specs.Limits.{sourceLimits}
@@ -22,88 +23,30 @@ use Rattle.model.specs.Sums.{sumIn, sumsIn, onKept, addedTo, addition, keptAddi
 use Rattle.model.specs.Stages.{Stage, source, when, helperA, helperB, stagesActions, drainTerms, moveToHold, resultStages, resultIn, nextAdditions}
 use Rattle.model.specs.Stages.{holdStages, setStages, unloadStages, stagesOf, addedBound, addToA, enteringAdditions, openingAdditions}
 use Rattle.model.specs.Lowering.{numberedAdditions, numberedConditions, numberedAll}
-use Rattle.file_parts.specs.Layout.{conditionCount}
-use Rattle.file_parts.specs.Row.{conditionIn, conditionsIn, rowIs, PartsFit, Says}
+use Rattle.file_parts.specs.Layout.{conditionCount, additionCount}
+use Rattle.file_parts.specs.Row.{conditionIn, conditionsIn, additionIn, additionsIn, rowIs, PartsFit, Says}
 use Rattle.file_parts.proofs.Pushing.{Sized, parts-fit}
-use Rattle.file_actions.specs.declared.SumConditions.{SumConditions}
-use Rattle.file_actions.specs.Views.{sumRoom, sumIs, sumsIs as conditionsIs}
+use Rattle.file_actions.specs.declared.Effects.{Effects}
+use Rattle.file_actions.specs.Views.{effectsIs}
 use Rattle.lowering_stages.specs.declared.Shape.{Shape}
 use Rattle.lowering_stages.specs.Shapes.{lowerOf, upperOf}
-use Rattle.lowering_stages.proofs.Rows.{sized}
+use Rattle.lowering_stages.proofs.Rows.{own}
 use Rattle.lowering_stages.proofs.Openings.{room-less, opening-sized}
-use Rattle.lowering_sums.specs.declared.Sums.{Sums}
-use Rattle.lowering_sums.specs.Views.{sumsIs, SumsSmall, AmountSmall, AmountsSmall}
-use Rattle.lowering_sums.proofs.Places.{sums-length}
-use Rattle.lowering_rows.specs.Bytes.{withKept}
-use Rattle.lowering_rows.specs.Macros.{openingIn, withOwn, keptStages}
+use Rattle.lowering_sums.specs.Views.{mostAdded}
+use Rattle.lowering_rows.specs.Bytes.{additionBytes, withKept}
+use Rattle.lowering_rows.specs.Macros.{Amount, openingIn, keptStages, OneAddition, Lowerable}
 
--- ---- no more + follow than there are sums
-addition-few : (j : ℕ) (z : ℤ) → length (addition j z) ≤ 1
-addition-few j (pos zero) = omega arith
-addition-few j (pos (suc n)) = omega arith
-addition-few j (negsuc n) = omega arith
+-- ---- of one list behind another, and of a tabulated list
+module _ {A : Type 0} (P : A → Type 0) where
+  pub all-parts : (xs ys : List A) → All P (xs ++ ys) → All P xs × All P ys
+  all-parts [] ys h = (tt, h)
+  all-parts (x ∷ xs) ys (h, hs) = let (l, r) = all-parts xs ys hs in ((h, l), r)
 
-kept-few : (j : ℕ) (sums : List (List (ℕ × ℤ))) (es : List (ℕ × ℤ)) → length (keptAdditions j sums es) ≤ length sums
-kept-few j [] es = omega arith
-kept-few j (ts ∷ sums) es =
-    let z = weigh ts (addedTo es) in
-    omega (arith, length-append (addition j z) (keptAdditions (suc j) sums es), addition-few j z, kept-few (suc j) sums es)
-
-sums-few : (s : Sums) → SumsSmall s → length (sumsIs s) ≤ sumRoom
-sums-few s h = omega (arith, sums-length s, h .few .few)
-
-pub kept-sized : (first : ℕ) (s : Sums) {x : RestrictedAction} → SumsSmall s → Sized 0 0 0 sumRoom x → Sized 0 0 0 0 (withKept first (sumsIs s) x)
-kept-sized first s {x} h z = record {
-  conditions = z .conditions;
-  modeConditions = z .modeConditions;
-  modeEffects = z .modeEffects;
-  additions = omega (
-    arith,
-    z .additions,
-    length-append (x .additions) (keptAdditions first (sumsIs s) (x .additions)),
-    kept-few first (sumsIs s) (x .additions),
-    sums-few s h,
-  );
-}
-
--- ---- an action's own K's: no more than there is room for
-on-kept-length : (j : ℕ) (cs : List (NumericCondition ℕ)) → length (onKept j cs) ≡ length cs
-on-kept-length j [] = refl
-on-kept-length j (c ∷ cs) = ap suc (on-kept-length (j + length (sumIn (c .measured))) cs)
-
-own-few : (own : SumConditions) → own .count ≤ sumRoom → length (conditionsIs own) ≤ sumRoom
-own-few own h = omega (arith, length-map (take (own .count) (own .places)) sumIs, length-take (own .count) (own .places), h)
-
-own-sized : (j : ℕ) (own : SumConditions) {x : RestrictedAction} {a : ℕ} → own .count ≤ sumRoom → Sized (1 + sumRoom) 1 1 a x
-    → Sized 1 1 1 a (withOwn j own x)
-own-sized j own {x} h z = record {
-  conditions = omega (
-    arith,
-    z .conditions,
-    length-append (x .conditions) (onKept j (conditionsIs own)),
-    on-kept-length j (conditionsIs own),
-    own-few own h,
-  );
-  modeConditions = z .modeConditions;
-  modeEffects = z .modeEffects;
-  additions = z .additions;
-}
-
--- behind them there is room for the rest
-pub own-room : (j : ℕ) (own : SumConditions) {marks : List ℕ} (numbers : List ℤ) {marks′ : List ℕ} {numbers′ : List ℤ} {a : ℕ} → own .count ≤ sumRoom
-    → PartsFit (1 + sumRoom) 1 1 a marks → Says (withOwn j own (rowIs marks numbers)) marks′ numbers′ → PartsFit 1 1 1 a marks′
-own-room j own numbers h r w = parts-fit w (own-sized j own h (sized numbers r))
-
--- behind the opening there is room for the + that follow
-pub opened-sized : (h : Shape) (next : ℕ) (es : List Effect) (j : ℕ) (own : SumConditions) {marks : List ℕ} (numbers : List ℤ)
-    {marks′ : List ℕ} {numbers′ : List ℤ} → own .count ≤ sumRoom → PartsFit (1 + sumRoom) 1 1 (1 + sumRoom) marks → Says (withOwn j own (rowIs marks numbers)) marks′ numbers′
-    → Sized 0 0 0 sumRoom (openingIn h next es (withOwn j own (rowIs marks numbers)))
-opened-sized h next es j own numbers {marks′} {numbers′} few r w =
-    let room = own-room j own numbers few r w in
-    let z : Sized 0 0 0 sumRoom (openingIn h next es (rowIs marks′ numbers′)) = opening-sized numbers′
-    (room-less room (omega arith) (omega arith) (omega arith) (omega arith)) (h .variables) (lowerOf h) (upperOf h) es (h .modes) next sumRoom
-    (room-less room (omega arith) (omega arith) (omega arith) (omega arith)) in
-    subst (λ (x : RestrictedAction). Sized 0 0 0 sumRoom (openingIn h next es x)) (w .is) z
+  pub all-at : (n : ℕ) (f : ℕ → A) → All P (tabulate n f) → (i : ℕ) → i < n → P (f i)
+  unfolding tabulate
+  all-at zero f h i l = absurd (omega arith)
+  all-at (suc n) f (p, ps) zero l = p
+  all-at (suc n) f (p, ps) (suc i) l = all-at n (λ k. f (suc k)) ps i (omega arith)
 
 -- ---- conditions one behind another; those of a row measure no sum
 on-kept-append : (xs ys : List (NumericCondition ℕ)) (j : ℕ) → onKept j (xs ++ ys) ≡ onKept j xs ++ onKept (j + length (sumsIn xs)) ys
@@ -206,26 +149,105 @@ module _ (first : ℕ) (sums : List (List (ℕ × ℤ))) where
       let ds = stagesOf lower upper es in
       keeping-plain (numberedAll n m (stagesActions s ds)) (stages-kept-plain n m ds s (stages-plain n lower upper es)) j
 
--- ---- what an opening adds is small
-given-small : (a : ℕ) (z : ℤ) → AmountSmall (a, z) → AmountsSmall (numberedAdditions a (addToA z))
-given-small a (pos zero) h = tt
-given-small a (pos (suc n)) h = (h, tt)
-given-small a (negsuc n) h = (h, tt)
+-- ---- the + that follow, sum by sum
+addition-amount : (j : ℕ) (z : ℤ) → All Amount (addition j z) → natAbs z < 2147483648
+addition-amount j (pos zero) h = omega arith
+addition-amount j (pos (suc n)) h = h .0
+addition-amount j (negsuc n) h = h .0
 
-entering-small : (a n : ℕ) (e : Effect) → EffectOk sourceLimits n e → AmountsSmall (numberedAdditions a (enteringAdditions e))
-entering-small a n (addEffect t c) h = given-small a c (omega (arith, h .1 .1))
-entering-small a n (linearEffect t w ts) h = given-small a w (omega (arith, h .1))
-entering-small a n (quotientEffect t y c) h = tt
-entering-small a n (residueEffect t y c) h = tt
+module _ (es : List (ℕ × ℤ)) where
+  pub kept-amount-fits : (n : ℕ) (f : ℕ → List (ℕ × ℤ)) (j : ℕ) → All Amount (keptAdditions j (tabulate n f) es)
+      → (i : ℕ) → i < n → natAbs (weigh (f i) (addedTo es)) < 2147483648
+  unfolding tabulate
+  kept-amount-fits zero f j h i l = absurd (omega arith)
+  kept-amount-fits (suc n) f j h zero l =
+      addition-amount j (weigh (f 0) (addedTo es)) (all-parts Amount (addition j (weigh (f 0) (addedTo es)))
+      (keptAdditions (suc j) (tabulate n (λ k. f (suc k))) es) h .0)
+  kept-amount-fits (suc n) f j h (suc i) l =
+      kept-amount-fits n (λ k. f (suc k)) (suc j) (all-parts Amount (addition j (weigh (f 0) (addedTo es)))
+      (keptAdditions (suc j) (tabulate n (λ k. f (suc k))) es) h .1) i (omega arith)
 
-opened-small : (a n : ℕ) (es : List Effect) → All (EffectOk sourceLimits n) es → AmountsSmall (numberedAdditions a (openingAdditions es))
-opened-small a n [] h = tt
-opened-small a n (addEffect t c ∷ []) h = (omega (arith, h .0 .1 .1), tt)
-opened-small a n (linearEffect t w ts ∷ []) h = given-small a w (omega (arith, h .0 .1))
-opened-small a n (quotientEffect t y c ∷ []) h = tt
-opened-small a n (residueEffect t y c ∷ []) h = tt
-opened-small a n (e ∷ f ∷ es) h = entering-small a n e (h .0)
+  -- g numbers the kept variables from j on
+  pub kept-bytes : (n : ℕ) (f : ℕ → List (ℕ × ℤ)) (g : ℕ → ℕ) (j : ℕ) → ((i : ℕ) → g i ≡ j + i)
+      → flatMap additionBytes (keptAdditions j (tabulate n f) es)
+      ≡ flatMap (flatMap additionBytes) (tabulate n (λ i. addition (g i) (weigh (f i) (addedTo es))))
+  unfolding tabulate flatMap
+  kept-bytes zero f g j h = refl
+  kept-bytes (suc n) f g j h =
+      let w = weigh (f 0) (addedTo es) in
+      let zeroth : j ≡ g 0 = omega (arith, h 0) in
+      flatMap-append additionBytes (addition j w) (keptAdditions (suc j) (tabulate n (λ k. f (suc k))) es)
+      ∙ ap₂ _++_ (ap (λ (v : ℕ). flatMap additionBytes (addition v w)) zeroth)
+      (kept-bytes n (λ k. f (suc k)) (λ k. g (suc k)) (suc j) (λ i. omega (arith, h (suc i))))
 
-pub opening-small : (a n : ℕ) (es : List Effect) (own : List (ℕ × ℤ)) → All (EffectOk sourceLimits n) es → AmountsSmall own
-    → AmountsSmall (own ++ numberedAdditions a (openingAdditions es))
-opening-small a n es own h s = all-app AmountSmall own (numberedAdditions a (openingAdditions es)) s (opened-small a n es h)
+-- ---- what an opening adds is small, and on a variable by its number in a file
+abbrev SmallAddition : ℕ × ℤ → Type 0
+SmallAddition e = (e .0 < 256) × (natAbs (e .1) ≤ mostAdded)
+
+given-small : (a : ℕ) (z : ℤ) → a < 256 → natAbs z ≤ mostAdded → All SmallAddition (numberedAdditions a (addToA z))
+given-small a (pos zero) v h = tt
+given-small a (pos (suc n)) v h = ((v, h), tt)
+given-small a (negsuc n) v h = ((v, h), tt)
+
+entering-small : (a : ℕ) (e : Effect) → a < 256 → EffectOk sourceLimits a e → All SmallAddition (numberedAdditions a (enteringAdditions e))
+entering-small a (addEffect t c) v h = given-small a c v (omega (arith, h .1 .1))
+entering-small a (linearEffect t w ts) v h = given-small a w v (omega (arith, h .1))
+entering-small a (quotientEffect t y c) v h = tt
+entering-small a (residueEffect t y c) v h = tt
+
+opening-small : (a : ℕ) (es : List Effect) → a < 256 → All (EffectOk sourceLimits a) es → All SmallAddition (numberedAdditions a (openingAdditions es))
+opening-small a [] v h = tt
+opening-small a (addEffect t c ∷ []) v h = ((omega (arith, h .0 .0), omega (arith, h .0 .1 .1)), tt)
+opening-small a (linearEffect t w ts ∷ []) v h = given-small a w v (omega (arith, h .0 .1))
+opening-small a (quotientEffect t y c ∷ []) v h = tt
+opening-small a (residueEffect t y c ∷ []) v h = tt
+opening-small a (e ∷ f ∷ es) v h = entering-small a e v (h .0)
+
+-- ---- and it has one + at most, since the row of a source action has none
+module _ {h : Shape} {marks : List ℕ} {numbers : List ℤ} {r : Effects} (l : Lowerable h marks numbers r) where
+  fits : (a : ℕ) → a ≤ 16 → PartsFit 1 1 1 a marks
+  fits a b = parts-fit (own {marks = marks} {numbers = numbers} (l .marksLong) (l .numbersLong)) (record {
+    conditions = omega (arith, l .conditionsFew);
+    modeConditions = omega (arith, l .modeConditionsFew);
+    modeEffects = omega (arith, l .modeEffectsFew);
+    additions = omega (arith, ap length (l .noAdditions), b);
+  })
+
+  pub opening-room : PartsFit 1 1 1 1 marks
+  opening-room = fits 1 (omega arith)
+
+  module _ (next : ℕ) where
+    abbrev opened : RestrictedAction
+    opened = openingIn h next (effectsIs r) (rowIs marks numbers)
+
+    opened-fits : (more : ℕ) → more ≤ 15 → Sized 0 0 0 more opened
+    opened-fits more b =
+        opening-sized numbers opening-room (h .variables) (lowerOf h) (upperOf h) (effectsIs r) (h .modes) next more
+        (room-less (fits (1 + more) (omega arith)) (omega arith) (omega arith) (omega arith) (omega arith))
+
+    pub opened-sized : Sized 0 0 0 0 opened
+    opened-sized = opened-fits 0 (omega arith)
+
+    pub opened-once : {marks′ : List ℕ} {numbers′ : List ℤ} → Says opened marks′ numbers′ → OneAddition marks′ numbers′
+    opened-once {marks′} {numbers′} w =
+        let count = naturalAt marks′ additionCount in
+        let same : additionsIn marks′ numbers′ ≡ opened .additions = ap (λ (x : RestrictedAction). x .additions) (w .is) in
+        let few : count ≤ 1 = omega (
+          arith,
+          length-tabulate count (additionIn marks′ numbers′),
+          ap length same,
+          opened-fits 15 (omega arith) .additions,
+        ) in
+        let added = numberedAdditions (h .variables) (openingAdditions (effectsIs r)) in
+        let small : All SmallAddition (additionsIn marks′ numbers′) = subst (All SmallAddition)
+        (sym (same ∙ ap (λ (z : List (ℕ × ℤ)). z ++ added) (l .noAdditions)))
+        (opening-small (h .variables) (effectsIs r) (omega (arith, l .bounded .variablesFew)) (l .effects .effectsOk)) in
+        let at-first : count ≡ 1 → SmallAddition (additionIn marks′ numbers′ 0) =
+        λ e. all-at SmallAddition count (additionIn marks′ numbers′) small 0 (omega arith) in
+        record {
+          marksLong = w .marksLong;
+          numbersLong = w .numbersLong;
+          few = few;
+          variable = λ e. at-first e .0;
+          small = λ e. at-first e .1;
+        }

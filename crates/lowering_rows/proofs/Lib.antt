@@ -1,3 +1,4 @@
+pub mod Adding
 pub mod Kept
 pub mod Loops
 pub mod Macros

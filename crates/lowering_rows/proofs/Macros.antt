@@ -40,7 +40,8 @@ measure-back : (n : ℕ) (x : Measured ℕ) → numberedMeasure n (onSource x) �
 measure-back n (variable i) = refl
 measure-back n (weightedSum ts) = ap weightedSum (terms-back n ts)
 
-conditions-back : (n : ℕ) (cs : List (NumericCondition ℕ)) (more : List (NumericCondition Name)) → numberedConditions n (onSourceVariables cs ++ more) ≡ cs ++ numberedConditions n more
+conditions-back : (n : ℕ) (cs : List (NumericCondition ℕ)) (more : List (NumericCondition Name))
+    → numberedConditions n (onSourceVariables cs ++ more) ≡ cs ++ numberedConditions n more
 conditions-back n [] more = refl
 conditions-back n (c ∷ cs) more = rw (measure-back n (c .measured), conditions-back n cs more)
 
@@ -97,7 +98,8 @@ constants-of-four : (cs : List (NumericCondition ℕ)) → All Constant (allInFo
 constants-of-four [] h = tt
 constants-of-four (c ∷ cs) h = let (first, rest) = by (c .relation) h in (first, constants-of-four cs rest)
   where
-    by : (r : Relation) → All Constant (inFourRelations (c .measured) r (c .constant) ++ allInFourRelations cs) → Constant c × All Constant (allInFourRelations cs)
+    by : (r : Relation) → All Constant (inFourRelations (c .measured) r (c .constant) ++ allInFourRelations cs)
+        → Constant c × All Constant (allInFourRelations cs)
     by below h = h
     by atMost h = h
     by atLeast h = h

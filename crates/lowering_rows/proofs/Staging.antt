@@ -9,7 +9,6 @@ use native.Mathlib.Numerals.{add-one}
 use lib.ListN.{length, drop, getElem?}
 use lib.Seq.{drop-length}
 use lib.IntN.{ℤ}
-use Rattle.integers.specs.All.{All}
 use Rattle.lists.specs.Writing.{Room, Wrote}
 use Rattle.lists.proofs.Each.{flatMap-nil, flatMap-append}
 use Rattle.lists.proofs.Writing.{Left, start, step, done, recast, room}
@@ -20,6 +19,7 @@ use Rattle.lowering_rows.specs.Bytes.{restrictedActionBytes, withKept}
 use Rattle.lowering_rows.specs.Macros.{Fit, AllFit, keptStages, stagesBytes}
 use Rattle.lowering_stages.specs.Shapes.{nextNumber}
 use Rattle.lowering_stages.proofs.Effects.{first-next}
+use Rattle.lowering_rows.proofs.Kept.{all-parts}
 
 -- ---- lists
 pub numbered-append : (n m : ℕ) (xs ys : List NamedAction) → numberedAll n m (xs ++ ys) ≡ numberedAll n m xs ++ numberedAll n m ys
@@ -35,10 +35,6 @@ left-behind : {A : Type 0} (xs : List A) (k : ℕ) → length (drop (suc k) xs) 
 left-behind [] k = omega arith
 left-behind (x ∷ xs) zero = omega arith
 left-behind (x ∷ xs) (suc k) = left-behind xs k ∙ omega arith
-
-all-parts : {A : Type 0} (P : A → Type 0) (xs ys : List A) → All P (xs ++ ys) → All P xs × All P ys
-all-parts P [] ys h = (tt, h)
-all-parts P (x ∷ xs) ys (h, hs) = let (l, r) = all-parts P xs ys hs in ((h, l), r)
 
 -- the three actions of a stage
 abbrev pub keptStage : ℕ → List (List (ℕ × ℤ)) → ℕ → ℕ → ℕ → Stage → ℕ → List RestrictedAction

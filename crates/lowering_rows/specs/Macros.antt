@@ -1,7 +1,8 @@
 -- What a source action becomes, from its rows and from its task; and what is known of both when it is lowered.
 -- Assumes nothing.
+use mathlib.Core.Path.{_≡_}
 use Prim.Native.Nat.{ℕ, _+_, _≤_, _<_}
-use mathlib.Core.List.{List, _∷_, map, flatMap}
+use mathlib.Core.List.{List, [], _∷_, map, flatMap}
 use lib.ListN.{length}
 use lib.IntN.{ℤ, natAbs}
 use Rattle.integers.specs.All.{All}
@@ -9,20 +10,21 @@ use Rattle.model.specs.Tasks.{NumericCondition, Effect, SourceAction, Restricte
 use Rattle.model.specs.Limits.{sourceLimits, restrictedLimits}
 use Rattle.model.specs.TaskOk.{RestrictedActionOk}
 use Rattle.model.specs.Stages.{Stage, firstStage, stagesOf, stagesActions, macro}
+use Rattle.model.specs.Steps.{integerAt, naturalAt}
 use Rattle.model.specs.FourRelations.{inFour}
 use Rattle.model.specs.Sums.{onKept}
 use Rattle.model.specs.Lowering.{numberedAll}
-use Rattle.file_parts.specs.Row.{Says}
-use Rattle.file_parts.specs.With.{withConditions, sourcePart}
+use Rattle.file_parts.specs.Layout.{MARKS, NUMBERS, additionCount, additionVariable, additionAmount}
+use Rattle.file_parts.specs.Row.{rowIs}
+use Rattle.file_parts.specs.With.{withConditions}
 use Rattle.file_actions.specs.declared.Effects.{Effects}
 use Rattle.file_actions.specs.declared.SumConditions.{SumConditions}
-use Rattle.file_actions.specs.Views.{sumRoom, sumsIs as conditionsIs, effectsIs, plainIs, sourceActionIs}
+use Rattle.file_actions.specs.Views.{sumRoom, sumsIs as conditionsIs, effectsIs}
 use Rattle.lowering_stages.specs.declared.Shape.{Shape}
 use Rattle.lowering_stages.specs.Stages.{PlacesOk}
 use Rattle.lowering_stages.specs.Openings.{withOpening}
 use Rattle.lowering_stages.specs.Shapes.{lowerOf, upperOf, Bounded}
-use Rattle.lowering_sums.specs.declared.Sums.{Sums}
-use Rattle.lowering_sums.specs.Views.{SumsSmall}
+use Rattle.lowering_sums.specs.Views.{mostAdded, WeightsSmall}
 use Rattle.lowering_rows.specs.Bytes.{restrictedActionBytes, withKept}
 
 -- ---- constants and amounts fit the width of a file's
@@ -60,21 +62,30 @@ macroWith first sums h from es x =
     inFour (withKept first sums (openingIn h (firstStage from (stagesOf (lowerOf h) (upperOf h) es)) es x))
     ∷ keptStages first sums (h .variables) (h .modes) from (stagesOf (lowerOf h) (upperOf h) es)
 
--- ---- the sums of a task, whose variables are kept from number `first` on
-pub record Keeps (first : ℕ) (sums : Sums) : Type 0 where
-  pub small : SumsSmall sums
+-- ---- so many sums of a task, by their weights, whose variables are kept from number `first` on
+pub record Keeps (first sums : ℕ) (weights : List ℤ) : Type 0 where
+  pub few : sums ≤ sumRoom
+  pub small : WeightsSmall weights
   pub numbers : first + sumRoom ≤ 255
 
--- ---- an action of a task of this shape: its rows, its effects, its own K's, which are on the kept variables from number j on
-pub record Lowerable (h : Shape) (marks : List ℕ) (numbers : List ℤ) (r : Effects) (own : SumConditions) (j : ℕ) : Type 0 where
+-- ---- a row that has one + at most, on a variable by its number in a file, of no more than an action adds
+pub record OneAddition (marks : List ℕ) (numbers : List ℤ) : Type 0 where
+  pub marksLong : length marks ≡ MARKS
+  pub numbersLong : length numbers ≡ NUMBERS
+  pub few : naturalAt marks additionCount ≤ 1
+  pub variable : naturalAt marks additionCount ≡ 1 → naturalAt marks additionVariable < 256
+  pub small : naturalAt marks additionCount ≡ 1 → natAbs (integerAt numbers additionAmount) ≤ mostAdded
+
+-- ---- an action of a task of this shape: its rows, which have no +, and its effects
+pub record Lowerable (h : Shape) (marks : List ℕ) (numbers : List ℤ) (r : Effects) : Type 0 where
   pub bounded : Bounded h
-  pub parts : Says (sourcePart (plainIs marks numbers r)) marks numbers
+  pub marksLong : length marks ≡ MARKS
+  pub numbersLong : length numbers ≡ NUMBERS
+  pub noAdditions : rowIs marks numbers .additions ≡ []
   pub effects : PlacesOk (h .variables) r
-  pub ownFew : own .count ≤ sumRoom
-  pub ownNumbers : j + sumRoom ≤ 255
-  pub conditionsFew : length (sourceActionIs marks numbers r own .conditions) ≤ sourceLimits .conditions
-  pub modeConditionsFew : length (sourceActionIs marks numbers r own .modeConditions) ≤ sourceLimits .modeConditions
-  pub modeEffectsFew : length (sourceActionIs marks numbers r own .modeEffects) ≤ sourceLimits .modes
+  pub conditionsFew : length (rowIs marks numbers .conditions) ≤ sourceLimits .conditions
+  pub modeConditionsFew : length (rowIs marks numbers .modeConditions) ≤ sourceLimits .modeConditions
+  pub modeEffectsFew : length (rowIs marks numbers .modeEffects) ≤ sourceLimits .modes
 
 -- the stages of its effects, and what it becomes, its stages being numbered from `from`
 abbrev pub stagesIn : Shape → Effects → List Stage

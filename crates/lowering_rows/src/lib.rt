@@ -2,7 +2,6 @@
 //
 // It never looks whether there is room (its caller shows that there is) and never refuses.
 use file_actions::Effects;
-use file_actions::SumConditions;
 use file_parts::ADDITION_AMOUNT;
 use file_parts::ADDITION_COUNT;
 use file_parts::ADDITION_VARIABLE;
@@ -19,28 +18,31 @@ use file_parts::MODE_EFFECT_VALUE;
 use file_parts::NUMBERS;
 use lowering_stages::Shape;
 use lowering_stages::Stage;
-use lowering_sums::Sums;
+use lowering_sums::Added;
+use lowering_sums::WEIGHTS;
 ghost use mathlib.Core.Path.{_≡_};
-ghost use Prim.Native.Nat.{_+_, _≤_, _<_, _%_};
+ghost use Prim.Native.Nat.{_≤_, _<_, _%_};
 ghost use mathlib.Core.Bool.{cond};
 ghost use mathlib.Core.List.{map, flatMap};
 ghost use lib.Dec.{eqb};
 ghost use lib.ListN.{length};
+ghost use lib.IntN.{natAbs};
+ghost use Rattle.integers.specs.All.{All};
 ghost use Rattle.lists.specs.Writing.{Room, Wrote};
 ghost use Rattle.commands.specs.Table.{letterA};
 ghost use Rattle.model.specs.FourRelations.{inFour};
-ghost use Rattle.model.specs.Sums.{keepingAll};
+ghost use Rattle.model.specs.Sums.{addition, keptAdditions};
 ghost use Rattle.file_parts.specs.Layout.{MARKS, NUMBERS};
-ghost use Rattle.file_parts.specs.Row.{additionsIn, rowIs, PartsFit};
+ghost use Rattle.file_parts.specs.Row.{additionsIn, rowIs};
 ghost use Rattle.file_parts.specs.With.{condition};
-ghost use Rattle.file_actions.specs.Views.{sumRoom, effectsIs, sourceActionIs};
-ghost use Rattle.lowering_stages.specs.Stages.{Small, PlacesOk, mostStages, stageNumbers};
+ghost use Rattle.file_actions.specs.Views.{effectsIs};
+ghost use Rattle.lowering_stages.specs.Stages.{givenIs, addedIs as strokeAdded, Small, PlacesOk, mostStages, stageNumbers};
 ghost use Rattle.lowering_stages.specs.Shapes.{Bounded};
-ghost use Rattle.lowering_sums.specs.Views.{sumsIs, AmountsSmall};
+ghost use Rattle.lowering_sums.specs.Views.{sumsIn, mostAdded, addedIs, AddedSmall};
 ghost use Rattle.lowering_rows.specs.Bytes.{conditionBytes, fourBytes, modePartBytes, additionBytes, restrictedActionBytes, withKept};
 ghost use Rattle.lowering_rows.specs.Bytes.{ModePartsThere, modePartsIn, rowBytes, Writable, stageRows, WroteRows};
-ghost use Rattle.lowering_rows.specs.Macros.{Constant, Fit, AllFit, openingIn, withOwn, keptStages, stagesBytes, stagesIn, macroIn};
-ghost use Rattle.lowering_rows.specs.Macros.{Keeps, Lowerable, Sound};
+ghost use Rattle.lowering_rows.specs.Macros.{Constant, Amount, Fit, AllFit, openingIn, keptStages, stagesBytes, stagesIn, macroWith};
+ghost use Rattle.lowering_rows.specs.Macros.{Keeps, OneAddition, Lowerable};
 
 // The relation that a restricted file does not have, and the two that stand for it.
 const EQUAL: u16 = 4;
@@ -195,25 +197,110 @@ pub fn put_row(
     put_additions(out, additions, marks, numbers)
 }
 
-// A row as an action, with the + on the kept variables that go with its own.
+// A + of so much on a variable; nothing where it is 0.
+fn put_addition(out: &mut [u8], at: usize, variable: u8, d: i64) -> usize
+    requires { ⌜ natAbs d < 2147483648 ⌝ }
+    requires { ⌜ Room (now out) at (flatMap additionBytes (addition variable d)) ⌝ }
+    ensures { λ r. ⌜ Wrote (now (out .entry)) at (flatMap additionBytes (addition variable d)) (now (out .exit)) r ⌝ }
+{
+    if d == 0 {
+        return at;
+    }
+    let bits = integers::bits(d);
+    commands::put_add(out, at, variable, bits)
+}
+
+// The + on the kept variables, so many, numbered from `first` on, that go with some + of an action.
 fn put_kept(
     out: &mut [u8],
     at: usize,
-    marks: &mut [u16; MARKS],
-    numbers: &mut [i64; NUMBERS],
+    added: Added,
     first: u8,
-    sums: Sums,
+    sums: usize,
+    weights: &[i64; WEIGHTS],
 ) -> usize
-    requires { ⌜ PartsFit 0 0 0 sumRoom (now marks) × (length (now numbers) ≡ NUMBERS) × AmountsSmall (additionsIn (now marks) (now numbers))
-        × Keeps first sums ⌝ }
-    requires { ⌜ Fit (withKept first (sumsIs sums) (rowIs (now marks) (now numbers))) ⌝ }
-    requires { ⌜ Room (now out) at (rowBytes letterA (inFour (withKept first (sumsIs sums) (rowIs (now marks) (now numbers))))) ⌝ }
-    ensures { λ r. ⌜ WroteRows (now (out .entry)) at
-        (rowBytes letterA (inFour (withKept first (sumsIs sums) (rowIs (now (marks .entry)) (now (numbers .entry))))))
-        (now (out .exit)) r (now (marks .exit)) (now (numbers .exit)) ⌝ }
+    requires { ⌜ Keeps first sums (now weights) × AddedSmall added × All Amount (keptAdditions first (sumsIn sums (now weights)) (addedIs added)) ⌝ }
+    requires { ⌜ Room (now out) at (flatMap additionBytes (keptAdditions first (sumsIn sums (now weights)) (addedIs added))) ⌝ }
+    ensures { λ r. ⌜ Wrote (now (out .entry)) at (flatMap additionBytes (keptAdditions first (sumsIn sums (now (weights .entry))) (addedIs added)))
+        (now (out .exit)) r ⌝ }
 {
-    lowering_sums::push_kept(marks, numbers, first, sums);
-    put_row(out, at, commands::ACTION_BYTE, marks, numbers)
+    let mut place = at;
+    let mut j: usize = 0;
+    while j < sums {
+        let d = lowering_sums::kept_amount(weights, j, added);
+        let variable = first + j as u8;
+        place = put_addition(out, place, variable, d);
+        j += 1;
+    }
+    place
+}
+
+// The same behind the bytes of the action: where no sum is kept, nothing is looked at.
+fn follow(
+    out: &mut [u8],
+    at: usize,
+    added: Added,
+    first: u8,
+    sums: usize,
+    weights: &[i64; WEIGHTS],
+) -> usize
+    requires { ⌜ Keeps first sums (now weights) × AddedSmall added × All Amount (keptAdditions first (sumsIn sums (now weights)) (addedIs added)) ⌝ }
+    requires { ⌜ Room (now out) at (flatMap additionBytes (keptAdditions first (sumsIn sums (now weights)) (addedIs added))) ⌝ }
+    ensures { λ r. ⌜ Wrote (now (out .entry)) at (flatMap additionBytes (keptAdditions first (sumsIn sums (now (weights .entry))) (addedIs added)))
+        (now (out .exit)) r ⌝ }
+{
+    if sums == 0 {
+        return at;
+    }
+    put_kept(out, at, added, first, sums, weights)
+}
+
+// What a stroke of a stage adds.
+fn added_by(s: Stage, falls: bool) -> Added
+    requires { ⌜ Small s ⌝ }
+    ensures { λ r. ⌜ (addedIs r ≡ strokeAdded falls s) × AddedSmall r ⌝ }
+{
+    let variables = s.variables;
+    let first = lowering_stages::signed_by(falls, s.amounts[0]);
+    let second = lowering_stages::signed_by(falls, s.amounts[1]);
+    let third = lowering_stages::signed_by(falls, s.amounts[2]);
+    let fourth = lowering_stages::signed_by(falls, s.amounts[3]);
+    Added {
+        count: s.added,
+        variables,
+        amounts: [first, second, third, fourth],
+    }
+}
+
+// A + of so much on a variable, and where it is 0 none.
+fn added_once(variable: u8, d: i64) -> Added
+    requires { ⌜ natAbs d ≤ mostAdded ⌝ }
+    ensures { λ r. ⌜ (addedIs r ≡ givenIs variable d) × AddedSmall r ⌝ }
+{
+    let mut count: usize = 1;
+    if d == 0 {
+        count = 0;
+    }
+    Added {
+        count,
+        variables: [variable, 0, 0, 0],
+        amounts: [d, 0, 0, 0],
+    }
+}
+
+// What a row adds that has one + at most.
+fn added_in(marks: &[u16; MARKS], numbers: &[i64; NUMBERS]) -> Added
+    requires { ⌜ OneAddition (now marks) (now numbers) ⌝ }
+    ensures { λ r. ⌜ (addedIs r ≡ additionsIn (now (marks .entry)) (now (numbers .entry))) × AddedSmall r ⌝ }
+{
+    let count = wide(marks[ADDITION_COUNT]);
+    let variable = low(marks[ADDITION_VARIABLE]);
+    let d = numbers[ADDITION_AMOUNT];
+    Added {
+        count,
+        variables: [variable, 0, 0, 0],
+        amounts: [d, 0, 0, 0],
+    }
 }
 
 // The three actions of a stage with a number, through two lent rows.
@@ -228,20 +315,25 @@ fn put_stage(
     number: u16,
     next: u16,
     first: u8,
-    sums: Sums,
+    sums: usize,
+    weights: &[i64; WEIGHTS],
 ) -> usize
-    requires { ⌜ (length (now marks) ≡ MARKS) × (length (now numbers) ≡ NUMBERS) × Small s × Keeps first sums ⌝ }
-    requires { ⌜ AllFit (map (withKept first (sumsIs sums)) (stageRows a control number next s)) ⌝ }
-    requires { ⌜ Room (now out) at (flatMap (rowBytes letterA) (map (withKept first (sumsIs sums)) (stageRows a control number next s))) ⌝ }
-    ensures { λ r. ⌜ WroteRows (now (out .entry)) at (flatMap (rowBytes letterA) (map (withKept first (sumsIs sums)) (stageRows a control number next s)))
+    requires { ⌜ (length (now marks) ≡ MARKS) × (length (now numbers) ≡ NUMBERS) × Small s × Keeps first sums (now weights) ⌝ }
+    requires { ⌜ AllFit (map (withKept first (sumsIn sums (now weights))) (stageRows a control number next s)) ⌝ }
+    requires { ⌜ Room (now out) at (flatMap (rowBytes letterA) (map (withKept first (sumsIn sums (now weights))) (stageRows a control number next s))) ⌝ }
+    ensures { λ r. ⌜ WroteRows (now (out .entry)) at
+        (flatMap (rowBytes letterA) (map (withKept first (sumsIn sums (now (weights .entry)))) (stageRows a control number next s)))
         (now (out .exit)) r (now (marks .exit)) (now (numbers .exit)) ⌝ }
 {
     lowering_stages::push_stroke(marks, numbers, s, true, control, number);
-    let second = put_kept(out, at, marks, numbers, first, sums);
+    let fallen = put_row(out, at, commands::ACTION_BYTE, marks, numbers);
+    let second = follow(out, fallen, added_by(s, true), first, sums, weights);
     lowering_stages::push_stroke(marks, numbers, s, false, control, number);
-    let third = put_kept(out, second, marks, numbers, first, sums);
+    let risen = put_row(out, second, commands::ACTION_BYTE, marks, numbers);
+    let third = follow(out, risen, added_by(s, false), first, sums, weights);
     lowering_stages::push_turn(marks, numbers, s, a, control, number, next);
-    put_kept(out, third, marks, numbers, first, sums)
+    let turned = put_row(out, third, commands::ACTION_BYTE, marks, numbers);
+    follow(out, turned, added_once(a, s.gives), first, sums, weights)
 }
 
 // The stages, so many, of an action with these effects; they are numbered from `from`. Its rows are its own and not lent, so that they need not
@@ -254,13 +346,15 @@ fn put_stages(
     count: usize,
     from: u16,
     first: u8,
-    sums: Sums,
+    sums: usize,
+    weights: &[i64; WEIGHTS],
 ) -> usize
-    requires { ⌜ Bounded shape × PlacesOk (shape .variables) effects × Keeps first sums ⌝ }
+    requires { ⌜ Bounded shape × PlacesOk (shape .variables) effects × Keeps first sums (now weights) ⌝ }
     requires { ⌜ (count ≡ length (stagesIn shape effects)) × (count ≤ mostStages) × (0 < from) × (from ≤ stageNumbers) ⌝ }
-    requires { ⌜ AllFit (keptStages first (sumsIs sums) (shape .variables) (shape .modes) from (stagesIn shape effects)) ⌝ }
-    requires { ⌜ Room (now out) at (stagesBytes first (sumsIs sums) (shape .variables) (shape .modes) from (stagesIn shape effects)) ⌝ }
-    ensures { λ r. ⌜ Wrote (now (out .entry)) at (stagesBytes first (sumsIs sums) (shape .variables) (shape .modes) from (stagesIn shape effects))
+    requires { ⌜ AllFit (keptStages first (sumsIn sums (now weights)) (shape .variables) (shape .modes) from (stagesIn shape effects)) ⌝ }
+    requires { ⌜ Room (now out) at (stagesBytes first (sumsIn sums (now weights)) (shape .variables) (shape .modes) from (stagesIn shape effects)) ⌝ }
+    ensures { λ r. ⌜ Wrote (now (out .entry)) at
+        (stagesBytes first (sumsIn sums (now (weights .entry))) (shape .variables) (shape .modes) from (stagesIn shape effects))
         (now (out .exit)) r ⌝ }
 {
     let a = shape.variables as u8;
@@ -286,6 +380,7 @@ fn put_stages(
             next,
             first,
             sums,
+            weights,
         );
         number += 1;
     }
@@ -302,59 +397,54 @@ fn first_stage(from: u16, count: usize) -> u16
     from
 }
 
-// The opening or single action, from rows that have the parts of the source action but for its own K's, which are on the kept variables from
-// `at_sum` on.
+// The opening or single action, from rows that have the C, P and E of the source action, its K's as C on kept variables.
 fn put_opening(
     out: &mut [u8],
     at: usize,
     marks: &mut [u16; MARKS],
     numbers: &mut [i64; NUMBERS],
     effects: Effects,
-    own: SumConditions,
     shape: Shape,
     next: u16,
-    at_sum: u8,
     first: u8,
-    sums: Sums,
+    sums: usize,
+    weights: &[i64; WEIGHTS],
 ) -> usize
-    requires { ⌜ PartsFit (1 + sumRoom) 1 1 (1 + sumRoom) (now marks) × (length (now numbers) ≡ NUMBERS)
-        × AmountsSmall (additionsIn (now marks) (now numbers)) ⌝ }
-    requires { ⌜ Bounded shape × PlacesOk (shape .variables) effects × (own .count ≤ sumRoom) × («at_sum» + sumRoom ≤ 255) × Keeps first sums ⌝ }
-    requires { ⌜ Fit (withKept first (sumsIs sums) (openingIn shape next (effectsIs effects) (withOwn «at_sum» own (rowIs (now marks) (now numbers))))) ⌝ }
-    requires { ⌜ Room (now out) at (rowBytes letterA (inFour (withKept first (sumsIs sums)
-        (openingIn shape next (effectsIs effects) (withOwn «at_sum» own (rowIs (now marks) (now numbers))))))) ⌝ }
-    ensures { λ r. ⌜ WroteRows (now (out .entry)) at (rowBytes letterA (inFour (withKept first (sumsIs sums)
-        (openingIn shape next (effectsIs effects) (withOwn «at_sum» own (rowIs (now (marks .entry)) (now (numbers .entry))))))))
+    requires { ⌜ Lowerable shape (now marks) (now numbers) effects × Keeps first sums (now weights) ⌝ }
+    requires { ⌜ Fit (withKept first (sumsIn sums (now weights)) (openingIn shape next (effectsIs effects) (rowIs (now marks) (now numbers)))) ⌝ }
+    requires { ⌜ Room (now out) at (rowBytes letterA (inFour (withKept first (sumsIn sums (now weights))
+        (openingIn shape next (effectsIs effects) (rowIs (now marks) (now numbers)))))) ⌝ }
+    ensures { λ r. ⌜ WroteRows (now (out .entry)) at (rowBytes letterA (inFour (withKept first (sumsIn sums (now (weights .entry)))
+        (openingIn shape next (effectsIs effects) (rowIs (now (marks .entry)) (now (numbers .entry)))))))
         (now (out .exit)) r (now (marks .exit)) (now (numbers .exit)) ⌝ }
 {
     let a = shape.variables as u8;
     let control = shape.modes as u8;
-    lowering_sums::push_sums(marks, numbers, at_sum, own);
     lowering_stages::push_opening(marks, numbers, effects, shape, a, control, next);
-    put_kept(out, at, marks, numbers, first, sums)
+    let behind = put_row(out, at, commands::ACTION_BYTE, marks, numbers);
+    follow(out, behind, added_in(marks, numbers), first, sums, weights)
 }
 
-// What a source action becomes whose parts, but for its own K's, stand in two lent rows, its stages being numbered from `from`, and its own K's
-// being on the kept variables from `at_sum` on. The rows are written over.
+// What a source action becomes whose C, P and E, its K's as C on kept variables, stand in two lent rows, its stages being numbered from `from`.
+// The rows are written over.
 pub fn put_macro(
     out: &mut [u8],
     at: usize,
     marks: &mut [u16; MARKS],
     numbers: &mut [i64; NUMBERS],
     effects: Effects,
-    own: SumConditions,
     shape: Shape,
     from: u16,
-    at_sum: u8,
     first: u8,
-    sums: Sums,
+    sums: usize,
+    weights: &[i64; WEIGHTS],
 ) -> usize
-    requires { ⌜ Lowerable shape (now marks) (now numbers) effects own «at_sum» × Keeps first sums × (0 < from) × (from ≤ stageNumbers)
-        × Sound (keepingAll first (sumsIs sums) «at_sum» (macroIn shape from (sourceActionIs (now marks) (now numbers) effects own))) ⌝ }
+    requires { ⌜ Lowerable shape (now marks) (now numbers) effects × Keeps first sums (now weights) × (0 < from) × (from ≤ stageNumbers)
+        × AllFit (macroWith first (sumsIn sums (now weights)) shape from (effectsIs effects) (rowIs (now marks) (now numbers))) ⌝ }
     requires { ⌜ Room (now out) at (flatMap restrictedActionBytes
-        (keepingAll first (sumsIs sums) «at_sum» (macroIn shape from (sourceActionIs (now marks) (now numbers) effects own)))) ⌝ }
+        (macroWith first (sumsIn sums (now weights)) shape from (effectsIs effects) (rowIs (now marks) (now numbers)))) ⌝ }
     ensures { λ r. ⌜ WroteRows (now (out .entry)) at (flatMap restrictedActionBytes
-        (keepingAll first (sumsIs sums) «at_sum» (macroIn shape from (sourceActionIs (now (marks .entry)) (now (numbers .entry)) effects own))))
+        (macroWith first (sumsIn sums (now (weights .entry))) shape from (effectsIs effects) (rowIs (now (marks .entry)) (now (numbers .entry)))))
         (now (out .exit)) r (now (marks .exit)) (now (numbers .exit)) ⌝ }
 {
     let count = lowering_stages::stage_count(effects);
@@ -365,12 +455,21 @@ pub fn put_macro(
         marks,
         numbers,
         effects,
-        own,
         shape,
         next,
-        at_sum,
         first,
         sums,
+        weights,
     );
-    put_stages(out, place, effects, shape, count, from, first, sums)
+    put_stages(
+        out,
+        place,
+        effects,
+        shape,
+        count,
+        from,
+        first,
+        sums,
+        weights,
+    )
 }

@@ -556,7 +556,7 @@ fn threshold(falls: bool, unit: i64, deep: i64) -> i64
     difference(-1, deep)
 }
 
-fn signed_by(falls: bool, x: i64) -> i64
+pub fn signed_by(falls: bool, x: i64) -> i64
     requires { ⌜ InRange sourceLimits x ⌝ }
     ensures { λ r. ⌜ r ≡ signed falls x ⌝ }
 {

@@ -1,6 +1,5 @@
-pub mod Adding
-pub mod Keeping
+pub mod Measuring
 pub mod Own
-pub mod Places
+pub mod Putting
 pub mod Starting
 pub mod Weighing

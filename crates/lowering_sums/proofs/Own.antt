@@ -1,13 +1,13 @@
--- The K's of an action or of the goal, one by one: their sums behind those that are there, and the C's that they become. What is made of the
--- first, with what is left, is the whole.
+-- The K's of an action or of the goal, one by one, and the C's that they become: what is made of the first, with what is left, is the whole.
 -- Assumes nothing.
 use mathlib.Core.Path.{_≡_, refl, sym, ap, _∙_}
 use mathlib.Core.List.{List, [], _∷_, _++_, map, append-assoc, append-nil}
-use Prim.Native.Nat.{ℕ, _+_, _≤_, _<_}
+use Prim.Native.Nat.{ℕ, zero, suc, _+_, _≤_, _<_}
 use native.Mathlib.Nat.{add-zero}
 use native.Mathlib.Omega.{arith}
 use lib.ListN.{length, getD, take, drop, length-append}
 use lib.IntN.{ℤ, pos}
+use Rattle.integers.specs.All.{All}
 use Rattle.lists.proofs.Each.{length-tabulate}
 use Rattle.lists.proofs.Loops.{There, there-all, rest-more, rest-none}
 use Rattle.model.specs.Tasks.{NumericCondition, RestrictedAction}
@@ -19,10 +19,13 @@ use Rattle.file_parts.specs.With.{condition, withCondition, withConditions}
 use Rattle.file_parts.proofs.Pushing.{parts-fit, says-as, pushed}
 use Rattle.file_actions.specs.declared.SumCondition.{SumCondition}
 use Rattle.file_actions.specs.declared.SumConditions.{SumConditions}
-use Rattle.file_actions.specs.Views.{sumRoom, termRoom, termsIs, sumTermsIs, sumIs as conditionIs, sumsIs as conditionsIs}
-use Rattle.lowering_sums.specs.declared.Sums.{Sums}
-use Rattle.lowering_sums.specs.Views.{sumsIs, SumsFew, OwnFew}
-use Rattle.lowering_sums.proofs.Places.{all-at}
+use Rattle.file_actions.specs.Views.{sumRoom, sumIs as conditionIs, sumsIs as conditionsIs}
+
+-- ---- what holds of every element holds of one by number
+pub all-at : {A : Type 0} (P : A → Type 0) (xs : List A) (i : ℕ) (d : A) → All P xs → i < length xs → P (getD xs i d)
+all-at P [] i d h l = absurd (omega arith)
+all-at P (x ∷ xs) zero d (p, ps) l = p
+all-at P (x ∷ xs) (suc i) d (p, ps) l = all-at P xs i d ps (omega arith)
 
 -- ---- a K by number; what stands for one behind them all
 abbrev pub noCondition : SumCondition
@@ -30,52 +33,6 @@ noCondition = record { relation = 0; constant = pos 0; «term_count» = 0; terms
 
 abbrev pub ownAt : SumConditions → ℕ → SumCondition
 ownAt own i = getD (own .places) i noCondition
-
-pub own-terms-few : (own : SumConditions) (i : ℕ) → OwnFew own → i < length (own .places) → ownAt own i .«term_count» ≤ termRoom
-own-terms-few own i h l = all-at (λ (k : SumCondition). k .«term_count» ≤ termRoom) (own .places) i noCondition (h .termsFew) l
-
-abbrev termsOfOne : SumCondition → List (ℕ × ℤ)
-termsOfOne k = termsIs (k .«term_count») (k .terms)
-
--- ---- the sums of the first i stand behind those of `sums`
-pub record Behind (sums : Sums) (own : SumConditions) (i : ℕ) (more : Sums) : Type 0 where
-  pub here : There (own .count) (own .places) (own .count)
-  pub bound : i ≤ own .count
-  pub counted : more .count ≡ sums .count + i
-  pub few : SumsFew sums → SumsFew more
-  pub same : sumsIs more ++ map termsOfOne (drop i (take (own .count) (own .places))) ≡ sumsIs sums ++ sumTermsIs own
-
-pub behind-start : (sums : Sums) (own : SumConditions) → own .count ≤ length (own .places) → Behind sums own 0 sums
-behind-start sums own l = record {
-  here = there-all (own .count) (own .places) l;
-  bound = omega arith;
-  counted = omega arith;
-  few = λ h. h;
-  same = refl;
-}
-
-module _ {sums : Sums} {own : SumConditions} {i : ℕ} {more : Sums} (h : Behind sums own i more) where
-  pub behind-next : i < own .count → {next : Sums} → sumsIs next ≡ sumsIs more ++ (termsOfOne (ownAt own i) ∷ []) → next .count ≡ more .count + 1
-      → (SumsFew more → SumsFew next) → Behind sums own (i + 1) next
-  behind-next l {next} e counted few =
-      let rest = drop (i + 1) (take (own .count) (own .places)) in
-      let from : drop i (take (own .count) (own .places)) ≡ ownAt own i ∷ rest = rest-more noCondition (h .here) l in
-      record {
-        here = h .here;
-        bound = omega arith;
-        counted = omega (arith, counted, h .counted);
-        few = λ f. few (h .few f);
-        same = ap (λ (z : List (List (ℕ × ℤ))). z ++ map termsOfOne rest) e
-            ∙ append-assoc (sumsIs more) (termsOfOne (ownAt own i) ∷ []) (map termsOfOne rest)
-            ∙ ap (λ (z : List SumCondition). sumsIs more ++ map termsOfOne z) (sym from)
-            ∙ h .same;
-      }
-
-  pub behind-end : own .count ≤ i → (sumsIs more ≡ sumsIs sums ++ sumTermsIs own) × (more .count ≡ sums .count + own .count) × (SumsFew sums → SumsFew more)
-  behind-end l =
-      let none : drop i (take (own .count) (own .places)) ≡ [] = rest-none (h .here) (h .bound) l in
-      let all : sumsIs more ++ map termsOfOne (drop i (take (own .count) (own .places))) ≡ sumsIs more = rw none (append-nil (sumsIs more)) in
-      (sym all ∙ h .same, omega (arith, h .counted, h .bound), h .few)
 
 -- ---- the first i are pushed as C, on the variables from v on
 pub record Becoming (marks₀ : List ℕ) (numbers₀ : List ℤ) (v : ℕ) (own : SumConditions) (i : ℕ) (marks : List ℕ) (numbers : List ℤ) : Type 0 where

@@ -1,84 +1,106 @@
--- The sums of a task as the code has them, in the words of the model; and what is known of them, and of a row to which their + are added.
+-- The sums of a task as the code has them, a table of weights, in the words of the model; and what is known of them.
 -- Assumes nothing.
-use Prim.Native.Nat.{ℕ, _≤_}
-use mathlib.Core.List.{List, map}
-use lib.ListN.{take}
-use lib.IntN.{ℤ, natAbs}
+use mathlib.Core.Path.{_≡_}
+use Prim.Native.Nat.{ℕ, _+_, _*_, _≤_, _<_}
+use mathlib.Core.List.{List, []}
+use lib.ListN.{length, take, getD}
+use lib.IntN.{ℤ, pos, natAbs}
 use Rattle.integers.specs.All.{All}
 use Rattle.integers.specs.Numbers.{bitsOf}
+use Rattle.lists.specs.Each.{tabulate}
 use Rattle.commands.specs.Encoding.{encode}
 use Rattle.commands.specs.declared.Command.the-variants.{Start}
 use Rattle.model.specs.Limits.{sourceLimits}
-use Rattle.model.specs.Steps.{integerAt, naturalAt}
-use Rattle.model.specs.TaskOk.{InRange, TermsOk}
-use Rattle.file_parts.specs.Layout.{additionRoom, additionCount}
-use Rattle.file_parts.specs.Row.{additionsIn}
+use Rattle.model.specs.Steps.{integerAt, naturalAt, weigh}
+use Rattle.model.specs.TaskOk.{InRange}
+use Rattle.source_step.specs.Sizes.{VARIABLES}
+use Rattle.file_actions.specs.declared.Term.{Term}
 use Rattle.file_actions.specs.declared.SumCondition.{SumCondition}
 use Rattle.file_actions.specs.declared.SumConditions.{SumConditions}
-use Rattle.file_actions.specs.Views.{sumRoom, termRoom, termsIs}
-use Rattle.lowering_sums.specs.declared.Sum.{Sum}
-use Rattle.lowering_sums.specs.declared.Sums.{Sums}
+use Rattle.file_actions.specs.Views.{sumRoom, termRoom, termsIs, sumTermsIs}
+use Rattle.lowering_sums.specs.declared.Added.{Added}
 
--- ---- the terms of a sum; the sums of a task, in the order of its file
-abbrev pub sumIs : Sum → List (ℕ × ℤ)
-sumIs s = termsIs (s .«term_count») (s .terms)
+-- ---- how long the table is: of sum j the weight of variable v stands at VARIABLES × j + v
+abbrev pub WEIGHTS : ℕ
+WEIGHTS = 32
 
-abbrev pub sumsIs : Sums → List (List (ℕ × ℤ))
-sumsIs s = map sumIs (take (s .count) (s .places))
+-- sum j, with a term for each variable; and the first `count` sums
+abbrev pub weightsIn : List ℤ → ℕ → List (ℕ × ℤ)
+weightsIn weights j = tabulate VARIABLES (λ v. (v, integerAt weights (VARIABLES * j + v)))
 
--- ---- no more than there is room for
-abbrev pub TermsFew : Sum → Type 0
-TermsFew s = s .«term_count» ≤ termRoom
+abbrev pub sumsIn : ℕ → List ℤ → List (List (ℕ × ℤ))
+sumsIn count weights = tabulate count (weightsIn weights)
 
-pub record SumsFew (s : Sums) : Type 0 where
-  pub few : s .count ≤ sumRoom
-  pub termsFew : All TermsFew (s .places)
+-- ---- four terms on one variable make no more than this
+abbrev pub mostWeight : ℕ
+mostWeight = 40_000
 
--- ---- the weights are those of a source file
-abbrev pub WeightSmall : ℕ × ℤ → Type 0
-WeightSmall t = InRange sourceLimits (t .1)
+abbrev pub WeightsSmall : List ℤ → Type 0
+WeightsSmall weights = (i : ℕ) → natAbs (integerAt weights i) ≤ mostWeight
 
-abbrev pub WeightsSmall : List (ℕ × ℤ) → Type 0
-WeightsSmall ts = All WeightSmall ts
+-- ---- the table has so many sums, and zeros behind them
+pub record Blank (sums : ℕ) (weights : List ℤ) : Type 0 where
+  pub long : length weights ≡ WEIGHTS
+  pub blank : (i : ℕ) → VARIABLES * sums ≤ i → integerAt weights i ≡ pos 0
+  pub small : WeightsSmall weights
 
-pub record SumSmall (s : Sum) : Type 0 where
-  pub few : TermsFew s
-  pub weights : WeightsSmall (sumIs s)
+-- ---- terms of a source file
+abbrev pub PartSmall : ℕ × ℤ → Type 0
+PartSmall t = (t .0 < VARIABLES) × InRange sourceLimits (t .1)
 
-pub record SumsSmall (s : Sums) : Type 0 where
-  pub few : SumsFew s
-  pub weights : All WeightsSmall (sumsIs s)
+abbrev pub TermSmall : ℕ → List Term → Type 0
+TermSmall count terms = All PartSmall (termsIs count terms)
 
--- ---- what is known of the sums of a source task with n variables
-pub record SumsOk (n : ℕ) (s : Sums) : Type 0 where
-  pub few : SumsFew s
-  pub sumsOk : All (TermsOk sourceLimits n) (sumsIs s)
+-- the K's of one action, or of the goal: no more than there is room for
+pub record OwnSmall (own : SumConditions) : Type 0 where
+  pub few : own .count ≤ sumRoom
+  pub termsFew : All (λ (k : SumCondition). k .«term_count» ≤ termRoom) (own .places)
+  pub terms : All (All PartSmall) (sumTermsIs own)
+
+-- ---- sums are measured by the table from sum `from` on: whatever is weighed, they weigh it alike
+abbrev pub Weighs : ℕ → List (List (ℕ × ℤ)) → List ℤ → Type 0
+Weighs from sums weights = (i : ℕ) → i < length sums → (f : ℕ → ℤ) → weigh (weightsIn weights (from + i)) f ≡ weigh (getD sums i []) f
+
+-- the weights of one sum were put into the table as sum j
+pub record TermsPut (j : ℕ) (terms : List (ℕ × ℤ)) (weights weights′ : List ℤ) : Type 0 where
+  pub blank : Blank (j + 1) weights′
+  pub before : (i : ℕ) → i < VARIABLES * j → integerAt weights′ i ≡ integerAt weights i
+  pub weighs : (f : ℕ → ℤ) → weigh (weightsIn weights′ j) f ≡ weigh terms f
+
+-- those of several, from sum `from` on
+pub record WeightsPut (from : ℕ) (sums : List (List (ℕ × ℤ))) (weights weights′ : List ℤ) : Type 0 where
+  pub blank : Blank (from + length sums) weights′
+  pub before : (i : ℕ) → i < VARIABLES * from → integerAt weights′ i ≡ integerAt weights i
+  pub weighs : Weighs from sums weights′
 
 -- ---- the first n values are those of a source file
 abbrev pub ValuesSmall : ℕ → List ℤ → Type 0
 ValuesSmall n values = (j : ℕ) → InRange sourceLimits (integerAt (take n values) j)
 
--- ---- no + of an action adds more than this
+-- ---- some + of an action: at most so many, none of more than this
+abbrev pub ADDED : ℕ
+ADDED = 4
+
 abbrev pub mostAdded : ℕ
 mostAdded = 20_000
 
-abbrev pub AmountSmall : ℕ × ℤ → Type 0
-AmountSmall e = natAbs (e .1) ≤ mostAdded
+abbrev pub addedAt : List ℕ → List ℤ → ℕ → ℕ × ℤ
+addedAt variables amounts i = (naturalAt variables i, integerAt amounts i)
 
-abbrev pub AmountsSmall : List (ℕ × ℤ) → Type 0
-AmountsSmall es = All AmountSmall es
+abbrev pub addedIs : Added → List (ℕ × ℤ)
+addedIs a = tabulate (a .count) (addedAt (a .variables) (a .amounts))
 
--- the first `count` + of rows are there, and small
-pub record Counted (count : ℕ) (marks : List ℕ) (numbers : List ℤ) : Type 0 where
-  pub few : naturalAt marks additionCount ≤ additionRoom
-  pub there : count ≤ naturalAt marks additionCount
-  pub small : AmountsSmall (take count (additionsIn marks numbers))
+pub record AddedSmall (a : Added) : Type 0 where
+  pub few : a .count ≤ ADDED
+  pub amounts : (i : ℕ) → i < a .count → natAbs (integerAt (a .amounts) i) ≤ mostAdded
 
--- ---- the K's of one action, or of the goal: no more than there is room for
-pub record OwnFew (own : SumConditions) : Type 0 where
-  pub few : own .count ≤ sumRoom
-  pub termsFew : All (λ (k : SumCondition). k .«term_count» ≤ termRoom) (own .places)
+-- the most that one of them adds to a sum
+abbrev pub mostPart : ℕ
+mostPart = 800_000_000
 
--- ---- the bytes of a U
+-- ---- a number that a file has room for; the bytes of a U
+abbrev pub Fits : ℤ → Type 0
+Fits z = natAbs z < 2147483648
+
 abbrev pub startBytes : ℤ → List ℕ
 startBytes z = encode (Start (bitsOf 4 z))

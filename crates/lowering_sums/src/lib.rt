@@ -1,210 +1,123 @@
-// The weighted sums that the conditions of a task measure, and what R keeps of them, a variable for each: the U at which it starts, the C on it
-// that a K becomes, and the + on it that a lowered action has besides its own. Where the row of the action adds d to a variable, that is weight × d.
+// The weighted sums that the conditions of a task measure, as a lent table of weights, and what R keeps of them, a variable for each: the U at
+// which it starts, the C on it that a K becomes, and how much a lowered action adds to it: weight × d for every d that the action adds.
 //
-// It never reads a file and decodes no K. It knows no stage, and of a parts row only its C and +.
-use file_actions::SUMS;
+// It never reads a file and decodes no K. It knows no stage, and of a parts row only its C.
 use file_actions::SumConditions;
 use file_actions::TERMS;
 use file_actions::Term;
-use file_parts::ADDITION_AMOUNT;
-use file_parts::ADDITION_COUNT;
-use file_parts::ADDITION_VARIABLE;
 use file_parts::MARKS;
 use file_parts::NUMBERS;
 use source_step::VARIABLES;
 ghost use mathlib.Core.Path.{_≡_};
-ghost use mathlib.Core.List.{[], _∷_, _++_, flatMap};
+ghost use mathlib.Core.List.{flatMap};
 ghost use Prim.Native.Nat.{_+_, _*_, _≤_, _<_};
 ghost use lib.ListN.{length, take};
 ghost use lib.IntN.{natAbs, _+ℤ_, _*ℤ_};
-ghost use Rattle.integers.specs.Parts.{Within};
+ghost use Rattle.integers.specs.All.{All};
 ghost use Rattle.lists.specs.Writing.{Room, Wrote};
-ghost use Rattle.model.specs.Limits.{sourceLimits};
-ghost use Rattle.model.specs.TaskOk.{InRange};
-ghost use Rattle.model.specs.Steps.{integerAt, naturalAt, weigh};
+ghost use Rattle.model.specs.Steps.{integerAt, weigh};
 ghost use Rattle.source_step.specs.Sizes.{VARIABLES};
-ghost use Rattle.file_parts.specs.Layout.{NUMBERS, additionRoom, additionVariable, additionAmount};
-ghost use Rattle.file_parts.specs.Row.{additionsIn, rowIs, PartsFit, Says};
-ghost use Rattle.file_parts.specs.With.{withConditions, withAdditions};
+ghost use Rattle.file_parts.specs.Layout.{NUMBERS};
+ghost use Rattle.file_parts.specs.Row.{rowIs, PartsFit, Says};
+ghost use Rattle.file_parts.specs.With.{withConditions};
 ghost use Rattle.file_actions.specs.Views.{sumRoom, termRoom, termsIs, sumTermsIs, sumsIs as conditionsIs};
-ghost use Rattle.model.specs.Sums.{onKept, amount, addedTo, addition, keptAdditions, sumValues};
-ghost use Rattle.lowering_sums.specs.Views.{sumIs, sumsIs, SumsFew, OwnFew, SumSmall, SumsSmall, ValuesSmall, AmountsSmall, Counted};
-ghost use Rattle.lowering_sums.specs.Views.{startBytes};
+ghost use Rattle.model.specs.Sums.{onKept, amount, addedTo, sumValues};
+ghost use Rattle.lowering_sums.specs.Views.{weightsIn, sumsIn, Blank, TermSmall, OwnSmall, TermsPut, WeightsPut, ValuesSmall, WeightsSmall};
+ghost use Rattle.lowering_sums.specs.Views.{ADDED, addedIs, AddedSmall, mostAdded, mostWeight, mostPart, Fits, startBytes};
 
-// A sum: its first `term_count` terms.
-pub struct Sum {
-    pub term_count: usize,
-    pub terms: [Term; TERMS],
-}
+// How long the table of weights is: of sum j the weight of variable v stands at VARIABLES × j + v, 0 where the sum has no such term.
+pub const WEIGHTS: usize = 32;
 
-// The sums of a task, in the order of its file: the first `count` places.
-pub struct Sums {
+// The most + that go with one another into the kept variables.
+pub const ADDED: usize = 4;
+
+// Some + of an action: to each of the first `count` variables its amount.
+pub struct Added {
     pub count: usize,
-    pub places: [Sum; SUMS],
+    pub variables: [u8; ADDED],
+    pub amounts: [i64; ADDED],
 }
 
-// No sum.
-pub fn no_sums() -> Sums
-    ensures { λ r. ⌜ (sumsIs r ≡ []) × (r .count ≡ 0) × SumsFew r ⌝ }
+fn wide(x: u8) -> usize
+    ensures { λ r. ⌜ r ≡ x ⌝ }
 {
-    let term = Term {
-        variable: 0,
-        weight: 0,
-    };
-    let terms = [term; TERMS];
-    let place = Sum {
-        term_count: 0,
-        terms,
-    };
-    let places = [place; SUMS];
-    Sums { count: 0, places }
+    x as usize
 }
 
-// One sum more, behind the others.
-fn with_sum(sums: Sums, term_count: usize, terms: [Term; TERMS]) -> Sums
-    requires { ⌜ (sums .count < sumRoom) × («term_count» ≤ termRoom) ⌝ }
-    ensures { λ r. ⌜ (sumsIs r ≡ sumsIs sums ++ (termsIs «term_count» terms ∷ [])) × (r .count ≡ sums .count + 1) × (SumsFew sums → SumsFew r) ⌝ }
+// z + w.
+fn plus(z: i64, w: i64) -> i64
+    requires { ⌜ (natAbs z ≤ 1000000000000) × (natAbs w ≤ 1000000000000) ⌝ }
+    ensures { λ r. ⌜ r ≡ z +ℤ w ⌝ }
 {
-    let place = Sum { term_count, terms };
-    let count = sums.count;
-    let mut more = sums;
-    more.places[count] = place;
-    more.count = count + 1;
-    more
+    z + w
 }
 
-// The sums of the K's of an action or of the goal, behind the others.
-pub fn with_sums_of(sums: Sums, own: SumConditions) -> Sums
-    requires { ⌜ (sums .count + own .count ≤ sumRoom) × OwnFew own ⌝ }
-    ensures { λ r. ⌜ (sumsIs r ≡ sumsIs sums ++ sumTermsIs own) × (r .count ≡ sums .count + own .count) × (SumsFew sums → SumsFew r) ⌝ }
+// Into the table the weights of the first `count` terms, as sum j, of which it has none yet.
+fn put_terms(weights: &mut [i64; WEIGHTS], j: usize, count: usize, terms: [Term; TERMS])
+    requires { ⌜ (j < sumRoom) × («count» ≤ termRoom) × TermSmall «count» terms × Blank j (now weights) ⌝ }
+    ensures { λ _. ⌜ TermsPut j (termsIs «count» terms) (now (weights .entry)) (now (weights .exit)) ⌝ }
+{
+    let mut i: usize = 0;
+    while i < count {
+        let term = terms[i];
+        let weight = term.weight;
+        let at = VARIABLES * j + wide(term.variable);
+        weights[at] = plus(weights[at], weight);
+        i += 1;
+    }
+}
+
+// Into the table the weights of the K's of an action or of the goal, behind those of so many sums.
+pub fn put_weights(weights: &mut [i64; WEIGHTS], from: usize, own: SumConditions)
+    requires { ⌜ (from + own .count ≤ sumRoom) × OwnSmall own × Blank from (now weights) ⌝ }
+    ensures { λ _. ⌜ WeightsPut from (sumTermsIs own) (now (weights .entry)) (now (weights .exit)) ⌝ }
 {
     let count = own.count;
-    let mut more = sums;
     let mut i: usize = 0;
     while i < count {
         let place = own.places[i];
         let terms = place.terms;
-        more = with_sum(more, place.term_count, terms);
+        put_terms(weights, from + i, place.term_count, terms);
         i += 1;
     }
-    more
 }
 
-// z + value × weight.
-fn plus_product(z: i64, value: i64, weight: i64) -> i64
-    requires { ⌜ Within 1000000000000 z × (natAbs value ≤ 1000000) × InRange sourceLimits weight ⌝ }
-    ensures { λ r. ⌜ (r ≡ z +ℤ value *ℤ weight) × (natAbs r ≤ natAbs z + natAbs value * 10000) ⌝ }
+// value × weight.
+fn product(value: i64, weight: i64) -> i64
+    requires { ⌜ (natAbs value ≤ mostAdded) × (natAbs weight ≤ mostWeight) ⌝ }
+    ensures { λ r. ⌜ (r ≡ value *ℤ weight) × (natAbs r ≤ mostPart) ⌝ }
 {
-    z + value * weight
+    value * weight
 }
 
-// What a sum comes to over the values of n variables.
-fn sum_of(values: &[i64; VARIABLES], n: usize, sum: Sum) -> i64
-    requires { ⌜ (n ≤ VARIABLES) × ValuesSmall n (now values) × SumSmall sum ⌝ }
-    ensures { λ r. ⌜ (r ≡ weigh (sumIs sum) (integerAt (take n (now (values .entry))))) × (natAbs r ≤ 400000000) ⌝ }
+// What a + of so much on a variable adds to sum j.
+fn kept_part(weights: &[i64; WEIGHTS], j: usize, variable: u8, d: i64) -> i64
+    requires { ⌜ (j < sumRoom) × WeightsSmall (now weights) × (natAbs d ≤ mostAdded) ⌝ }
+    ensures { λ r. ⌜ (r ≡ weigh (weightsIn (now (weights .entry)) j) (amount d variable)) × (natAbs r ≤ mostPart) ⌝ }
 {
-    let count = sum.term_count;
-    let mut total: i64 = 0;
-    let mut i: usize = 0;
-    while i < count {
-        let term = sum.terms[i];
-        let weight = term.weight;
-        let value = source_step::value_at(values, n, term.variable);
-        total = plus_product(total, value, weight);
-        i += 1;
-    }
-    total
-}
-
-fn mark(x: u8) -> u16
-    ensures { λ r. ⌜ r ≡ x ⌝ }
-{
-    x as u16
-}
-
-// What + number i of a row adds to a variable.
-fn amount_at(marks: &[u16; MARKS], numbers: &[i64; NUMBERS], i: usize, variable: u8) -> i64
-    requires { ⌜ i < additionRoom ⌝ }
-    ensures { λ r. ⌜ r ≡ amount (integerAt (now (numbers .entry)) (additionAmount + i))
-        (naturalAt (now (marks .entry)) (additionVariable + i)) variable ⌝ }
-{
-    if marks[ADDITION_VARIABLE + i] == mark(variable) {
-        return numbers[ADDITION_AMOUNT + i];
+    let v = wide(variable);
+    if v < VARIABLES {
+        return product(d, weights[VARIABLES * j + v]);
     }
     0
 }
 
-// What the first `count` + of a row add to a variable.
-fn added_to(marks: &[u16; MARKS], numbers: &[i64; NUMBERS], count: usize, variable: u8) -> i64
-    requires { ⌜ Counted count (now marks) (now numbers) ⌝ }
-    ensures { λ r. ⌜ (r ≡ addedTo (take count (additionsIn (now (marks .entry)) (now (numbers .entry)))) variable) × (natAbs r ≤ 320000) ⌝ }
+// What some + add to sum j together.
+pub fn kept_amount(weights: &[i64; WEIGHTS], j: usize, added: Added) -> i64
+    requires { ⌜ (j < sumRoom) × WeightsSmall (now weights) × AddedSmall added ⌝ }
+    ensures { λ r. ⌜ (r ≡ weigh (weightsIn (now (weights .entry)) j) (addedTo (addedIs added))) × (natAbs r ≤ ADDED * mostPart) ⌝ }
 {
+    let count = added.count;
+    let variables = added.variables;
+    let amounts = added.amounts;
     let mut total: i64 = 0;
     let mut e: usize = 0;
     while e < count {
-        total += amount_at(marks, numbers, e, variable);
+        let part = kept_part(weights, j, variables[e], amounts[e]);
+        total = plus(total, part);
         e += 1;
     }
     total
-}
-
-// What the first `count` + of a row add to a sum.
-fn kept_amount(marks: &[u16; MARKS], numbers: &[i64; NUMBERS], count: usize, sum: Sum) -> i64
-    requires { ⌜ Counted count (now marks) (now numbers) × SumSmall sum ⌝ }
-    ensures { λ r. ⌜ r ≡ weigh (sumIs sum) (addedTo (take count (additionsIn (now (marks .entry)) (now (numbers .entry))))) ⌝ }
-{
-    let terms = sum.term_count;
-    let mut total: i64 = 0;
-    let mut i: usize = 0;
-    while i < terms {
-        let term = sum.terms[i];
-        let weight = term.weight;
-        let added = added_to(marks, numbers, count, term.variable);
-        total = plus_product(total, added, weight);
-        i += 1;
-    }
-    total
-}
-
-// The + on the variable of a sum that goes with the first `count` + of a row, where it is not 0.
-fn push_sum(
-    marks: &mut [u16; MARKS],
-    numbers: &mut [i64; NUMBERS],
-    count: usize,
-    variable: u8,
-    sum: Sum,
-)
-    requires { ⌜ PartsFit 0 0 0 1 (now marks) × (length (now numbers) ≡ NUMBERS) × Counted count (now marks) (now numbers) × SumSmall sum ⌝ }
-    ensures { λ _. ⌜ Says (withAdditions (rowIs (now (marks .entry)) (now (numbers .entry)))
-        (addition variable (weigh (sumIs sum) (addedTo (take count (additionsIn (now (marks .entry)) (now (numbers .entry))))))))
-        (now (marks .exit)) (now (numbers .exit)) ⌝ }
-{
-    let amount = kept_amount(marks, numbers, count, sum);
-    if amount == 0 {
-        return;
-    }
-    file_parts::push_addition(marks, numbers, variable, amount);
-}
-
-// To a row the + on the kept variables, numbered from `first` on, that go with its own: weight × d for every d that it adds, where that is not 0.
-pub fn push_kept(marks: &mut [u16; MARKS], numbers: &mut [i64; NUMBERS], first: u8, sums: Sums)
-    requires { ⌜ PartsFit 0 0 0 sumRoom (now marks) × (length (now numbers) ≡ NUMBERS) × AmountsSmall (additionsIn (now marks) (now numbers))
-        × SumsSmall sums × (first + sumRoom ≤ 255) ⌝ }
-    ensures { λ _. ⌜ Says (withAdditions (rowIs (now (marks .entry)) (now (numbers .entry)))
-        (keptAdditions first (sumsIs sums) (rowIs (now (marks .entry)) (now (numbers .entry)) .additions))) (now (marks .exit)) (now (numbers .exit)) ⌝ }
-{
-    let count = sums.count;
-    if count == 0 {
-        return;
-    }
-    let added = source_step::wide16(marks[ADDITION_COUNT]);
-    let mut j: usize = 0;
-    while j < count {
-        let place = sums.places[j];
-        let variable = first + j as u8;
-        push_sum(marks, numbers, added, variable, place);
-        j += 1;
-    }
 }
 
 // To a row the C's that the K's of its action, or of the goal, become: on the kept variables numbered from `variable` on.
@@ -228,27 +141,43 @@ pub fn push_sums(
     }
 }
 
-// The U of each sum, where n variables start at the first of these values.
+// What sum j comes to over the values of n variables, where any other is 0.
+fn sum_of(values: &[i64; VARIABLES], n: usize, weights: &[i64; WEIGHTS], j: usize) -> i64
+    requires { ⌜ (n ≤ VARIABLES) × ValuesSmall n (now values) × (j < sumRoom) × WeightsSmall (now weights) ⌝ }
+    ensures { λ r. ⌜ (r ≡ weigh (weightsIn (now (weights .entry)) j) (integerAt (take n (now (values .entry))))) × (natAbs r ≤ VARIABLES * mostPart) ⌝ }
+{
+    let mut total: i64 = 0;
+    let mut v: usize = 0;
+    while v < n {
+        let part = product(values[v], weights[VARIABLES * j + v]);
+        total = plus(total, part);
+        v += 1;
+    }
+    total
+}
+
+// The U of so many sums, where n variables start at the first of these values.
 pub fn put_sum_starts(
     out: &mut [u8],
     at: usize,
     n: usize,
     starts: &[i64; VARIABLES],
-    sums: Sums,
+    sums: usize,
+    weights: &[i64; WEIGHTS],
 ) -> usize
-    requires { ⌜ (n ≤ VARIABLES) × ValuesSmall n (now starts) × SumsSmall sums ⌝ }
-    requires { ⌜ Room (now out) at (flatMap startBytes (sumValues (sumsIs sums) (take n (now starts)))) ⌝ }
-    ensures { λ r. ⌜ Wrote (now (out .entry)) at (flatMap startBytes (sumValues (sumsIs sums) (take n (now (starts .entry))))) (now (out .exit)) r ⌝ }
+    requires { ⌜ (n ≤ VARIABLES) × ValuesSmall n (now starts) × (sums ≤ sumRoom) × WeightsSmall (now weights) ⌝ }
+    requires { ⌜ All Fits (sumValues (sumsIn sums (now weights)) (take n (now starts))) ⌝ }
+    requires { ⌜ Room (now out) at (flatMap startBytes (sumValues (sumsIn sums (now weights)) (take n (now starts)))) ⌝ }
+    ensures { λ r. ⌜ Wrote (now (out .entry)) at (flatMap startBytes (sumValues (sumsIn sums (now (weights .entry))) (take n (now (starts .entry)))))
+        (now (out .exit)) r ⌝ }
 {
-    let count = sums.count;
     let mut place = at;
-    let mut i: usize = 0;
-    while i < count {
-        let sum = sums.places[i];
-        let start = sum_of(starts, n, sum);
+    let mut j: usize = 0;
+    while j < sums {
+        let start = sum_of(starts, n, weights, j);
         let bits = integers::bits(start);
         place = commands::put_start(out, place, bits);
-        i += 1;
+        j += 1;
     }
     place
 }

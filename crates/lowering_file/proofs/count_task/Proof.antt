@@ -4,11 +4,10 @@ use mathlib.Core.List.{[], _∷_}
 use native.Mathlib.Omega.{arith}
 use denote.Ref.{now}
 use Rattle.lists.proofs.Writing.{Left, step, done, room, room-as, wrote-as}
-use Rattle.lowering_sums.proofs.Places.{sums-small}
 use Rattle.lowering_file.specs.Held.{startsPart, modesPart, actionsPart, goalEnd, actionsFirst}
 use Rattle.lowering_file.proofs.Walk.{bounded}
 use Rattle.lowering_file.proofs.Keeping.{goal-from}
-use Rattle.lowering_file.proofs.File.{starts-are, modes-are, goal-are, count-begun}
+use Rattle.lowering_file.proofs.File.{starts-are, starts-fit, modes-are, goal-are, count-begun}
 use borrow.Author.Needs.{needs}
 use Rattle.lowering_file.proofs.count_task.Statement.{statement}
 use Rattle.lowering_file.proofs.count_task.Tie as tie
@@ -20,20 +19,20 @@ begun s = count-begun (now (s .args .file)) (now (s .args .out))
 
 put-actions-requires : tie.Need-put-actions-requires
 put-actions-requires c κs =
-    let s = c .before .before .before .before .before .before .before .before .before .before in
+    let s = c .before .before .before .before .before .before .before .before .before in
     ((s .pre .0 .0, s .pre .0 .1 .held, s .pre .0 .2), (s .pre .1 .0, room (s .pre .1 .1) (begun s)))
 
 put-starts-requires : tie.Need-put-starts-requires
 put-starts-requires c κs =
     let acted = c .before .before .before .before in
-    let s = acted .before .before .before .before .before .before .before .before .before .before .before in
+    let s = acted .before .before .before .before .before .before .before .before .before .before in
     let d = s .pre .0 .1 in
     let keeps = s .pre .1 .0 .2 in
     let e = acted .put-actions .ensures in (
       (bounded (d .held) .variablesFew, d .startsLong),
       (
-        (d .startsSmall, sums-small (keeps .sums .ok)),
-        room-as (sym (starts-are d (e .told) keeps)) (room (s .pre .1 .1) (step (begun s) (e .rows .wrote))),
+        (d .startsSmall, keeps .sums .few, keeps .sums .blank .small),
+        (starts-fit d keeps, room-as (sym (starts-are d (e .told) keeps)) (room (s .pre .1 .1) (step (begun s) (e .rows .wrote)))),
       ),
     )
 
@@ -41,7 +40,7 @@ put-modes-requires : tie.Need-put-modes-requires
 put-modes-requires c κs =
     let starts = c .before .before .before .before .before in
     let acted = starts .before .before .before .before .before in
-    let s = acted .before .before .before .before .before .before .before .before .before .before .before in
+    let s = acted .before .before .before .before .before .before .before .before .before .before in
     let d = s .pre .0 .1 in
     let e = acted .put-actions .ensures in
     let two = step (step (begun s) (e .rows .wrote)) (wrote-as (starts-are d (e .told) (s .pre .1 .0 .2)) (starts .put-starts .ensures)) in
@@ -50,7 +49,7 @@ put-modes-requires c κs =
 read-goal-requires : tie.Need-read-goal-requires
 read-goal-requires c κs =
     let acted = c .before .before .before .before .before .before .before .before .before .before .before .before .before .before .before in
-    let s = acted .before .before .before .before .before .before .before .before .before .before .before in
+    let s = acted .before .before .before .before .before .before .before .before .before .before in
     let keeps = s .pre .1 .0 .2 in
     let e = acted .put-actions .ensures in
     ((s .pre .0 .0, s .pre .0 .2), ((keeps .sums .counted, goal-from keeps (e .goalSumIs)), (e .rows .marksLong, e .rows .numbersLong)))
@@ -59,7 +58,7 @@ cast-put-goal : tie.Need-cast-put-goal
 cast-put-goal c =
     let modes = c .before .before .before .before .before .before .before .before .before in
     let acted = modes .before .before .before .before .before .before .before .before .before .before .before in
-    let s = acted .before .before .before .before .before .before .before .before .before .before .before in
+    let s = acted .before .before .before .before .before .before .before .before .before .before in
     omega (arith, bounded (s .pre .0 .1 .held) .modesFew)
 
 put-goal-requires : tie.Need-put-goal-requires
@@ -67,7 +66,7 @@ put-goal-requires c κs =
     let modes = c .before .before .before .before .before .before .before .before .before in
     let starts = modes .before .before .before .before .before .before in
     let acted = starts .before .before .before .before .before in
-    let s = acted .before .before .before .before .before .before .before .before .before .before .before in
+    let s = acted .before .before .before .before .before .before .before .before .before .before in
     let d = s .pre .0 .1 in
     let e = acted .put-actions .ensures in
     let goal = c .before .before .before .before .read-goal .ensures in
@@ -84,7 +83,7 @@ returns c =
     let modes = c .before .before .before .before .before .before .before .before .before .before .before .before in
     let starts = modes .before .before .before .before .before .before in
     let acted = starts .before .before .before .before .before in
-    let s = acted .before .before .before .before .before .before .before .before .before .before .before in
+    let s = acted .before .before .before .before .before .before .before .before .before .before in
     let d = s .pre .0 .1 in
     let e = acted .put-actions .ensures in
     let goal = c .before .before .put-goal .ensures in

@@ -5,7 +5,7 @@ use lib.IntN.{ℤ}
 use lib.ListN.{take}
 use Rattle.lists.proofs.Writing.{step, done, room}
 use Rattle.model.specs.Sums.{sumValues}
-use Rattle.lowering_sums.specs.Views.{sumsIs}
+use Rattle.lowering_sums.specs.Views.{sumsIn}
 use Rattle.lowering_file.specs.Parts.{holdsOf}
 use Rattle.lowering_file.proofs.File.{starts-begun}
 use mathlib.Core.Path.{refl}
@@ -18,12 +18,12 @@ abbrev declared : tie.Start → List ℤ
 declared s = take (s .args .n) (now (s .args .starts))
 
 abbrev sums : tie.Start → List ℤ
-sums s = sumValues (sumsIs (s .args .sums)) (take (s .args .n) (now (s .args .starts)))
+sums s = sumValues (sumsIn (s .args .sums) (now (s .args .weights))) (take (s .args .n) (now (s .args .starts)))
 
 put-declared-starts-requires : tie.Need-put-declared-starts-requires
 put-declared-starts-requires c κs =
     let s = c .before .before in
-    (s .pre .0, (s .pre .1 .0 .0, room (s .pre .1 .1) (starts-begun _ _ (declared s) (holdsOf (s .args .several)) _ (sums s) refl)))
+    (s .pre .0, (s .pre .1 .0 .0, room (s .pre .1 .1 .1) (starts-begun _ _ (declared s) (holdsOf (s .args .several)) _ (sums s) refl)))
 
 helper-count-requires : tie.Need-helper-count-requires
 helper-count-requires c κs = search needs
@@ -33,15 +33,17 @@ put-zeros-requires c κs =
     let s = c .before .before .before .before .before .before .before in
     let count = c .before .helper-count in
     let begun = starts-begun _ _ (declared s) (holdsOf (s .args .several)) (count .result) (sums s) (count .ensures) in
-    room (s .pre .1 .1) (step begun (c .before .before .before .before .put-declared-starts .ensures))
+    room (s .pre .1 .1 .1) (step begun (c .before .before .before .before .put-declared-starts .ensures))
 
 put-sum-starts-requires : tie.Need-put-sum-starts-requires
 put-sum-starts-requires c κs =
     let s = c .before .before .before .before .before .before .before .before .before .before .before in
     let count = c .before .before .before .before .before .helper-count in
     let begun = starts-begun _ _ (declared s) (holdsOf (s .args .several)) (count .result) (sums s) (count .ensures) in
-    let one = step begun (c .before .before .before .before .before .before .before .before .put-declared-starts .ensures) in
-    ((s .pre .0 .0, s .pre .1 .0 .0, s .pre .1 .0 .1), room (s .pre .1 .1) (step one (c .before .before .before .put-zeros .ensures)))
+    let one = step begun (c .before .before .before .before .before .before .before .before .put-declared-starts .ensures) in (
+      (s .pre .0 .0, s .pre .1 .0 .0, s .pre .1 .0 .1, s .pre .1 .0 .2),
+      (s .pre .1 .1 .0, room (s .pre .1 .1 .1) (step one (c .before .before .before .put-zeros .ensures))),
+    )
 
 same-length : tie.Need-same-length
 same-length c = search needs

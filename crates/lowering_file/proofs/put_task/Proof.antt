@@ -4,11 +4,10 @@ use mathlib.Core.List.{[], _∷_}
 use native.Mathlib.Omega.{arith}
 use denote.Ref.{now}
 use Rattle.lists.proofs.Writing.{Left, step, done, room, room-as, wrote-as, wrote-long}
-use Rattle.lowering_sums.proofs.Places.{sums-small}
 use Rattle.lowering_file.specs.Held.{startsPart, modesPart, actionsPart, goalEnd, inFileOrder}
 use Rattle.lowering_file.proofs.Walk.{bounded}
 use Rattle.lowering_file.proofs.Keeping.{goal-from}
-use Rattle.lowering_file.proofs.File.{starts-are, modes-are, goal-are, file-begun}
+use Rattle.lowering_file.proofs.File.{starts-are, starts-fit, modes-are, goal-are, file-begun}
 use Rattle.lowering_file.proofs.put_task.Statement.{statement}
 use Rattle.lowering_file.proofs.put_task.Tie as tie
 
@@ -23,7 +22,7 @@ whole c =
     let acted = c .before .before .before .before .before .before .before .before .before .before .before .before in
     let modes = acted .before .before .before .before .before .before in
     let starts = modes .before .before .before .before .before .before in
-    let s = starts .before .before .before .before .before .before .before .before .before .before in
+    let s = starts .before .before .before .before .before .before .before .before .before in
     let d = s .pre .0 .1 in
     let told = s .pre .1 .0 .2 in
     let one = step (begun s) (wrote-as (starts-are d told (s .pre .1 .0 .3)) (starts .put-starts .ensures)) in
@@ -34,17 +33,20 @@ whole c =
 
 put-starts-requires : tie.Need-put-starts-requires
 put-starts-requires c κs =
-    let s = c .before .before .before .before .before .before .before .before .before in
+    let s = c .before .before .before .before .before .before .before .before in
     let d = s .pre .0 .1 in
     let keeps = s .pre .1 .0 .3 in (
       (bounded (d .held) .variablesFew, d .startsLong),
-      ((d .startsSmall, sums-small (keeps .sums .ok)), room-as (sym (starts-are d (s .pre .1 .0 .2) keeps)) (room (s .pre .1 .1) (begun s))),
+      (
+        (d .startsSmall, keeps .sums .few, keeps .sums .blank .small),
+        (starts-fit d keeps, room-as (sym (starts-are d (s .pre .1 .0 .2) keeps)) (room (s .pre .1 .1) (begun s))),
+      ),
     )
 
 put-modes-requires : tie.Need-put-modes-requires
 put-modes-requires c κs =
     let starts = c .before .before .before .before .before in
-    let s = starts .before .before .before .before .before .before .before .before .before .before in
+    let s = starts .before .before .before .before .before .before .before .before .before in
     let d = s .pre .0 .1 in
     let told = s .pre .1 .0 .2 in
     let one = step (begun s) (wrote-as (starts-are d told (s .pre .1 .0 .3)) (starts .put-starts .ensures)) in
@@ -54,7 +56,7 @@ put-actions-requires : tie.Need-put-actions-requires
 put-actions-requires c κs =
     let modes = c .before .before .before .before .before in
     let starts = modes .before .before .before .before .before .before in
-    let s = starts .before .before .before .before .before .before .before .before .before .before in
+    let s = starts .before .before .before .before .before .before .before .before .before in
     let d = s .pre .0 .1 in
     let told = s .pre .1 .0 .2 in
     let keeps = s .pre .1 .0 .3 in
@@ -66,7 +68,7 @@ read-goal-requires : tie.Need-read-goal-requires
 read-goal-requires c κs =
     let acted = c .before .before .before .before in
     let starts = acted .before .before .before .before .before .before .before .before .before .before .before .before in
-    let s = starts .before .before .before .before .before .before .before .before .before .before in
+    let s = starts .before .before .before .before .before .before .before .before .before in
     let keeps = s .pre .1 .0 .3 in
     let e = acted .put-actions .ensures in
     ((s .pre .0 .0, s .pre .0 .2), ((keeps .sums .counted, goal-from keeps (e .goalSumIs)), (e .rows .marksLong, e .rows .numbersLong)))
@@ -75,7 +77,7 @@ cast-put-goal : tie.Need-cast-put-goal
 cast-put-goal c =
     let acted = c .before .before .before .before .before .before .before .before .before in
     let starts = acted .before .before .before .before .before .before .before .before .before .before .before .before in
-    let s = starts .before .before .before .before .before .before .before .before .before .before in
+    let s = starts .before .before .before .before .before .before .before .before .before in
     omega (arith, bounded (s .pre .0 .1 .held) .modesFew)
 
 put-goal-requires : tie.Need-put-goal-requires
@@ -83,7 +85,7 @@ put-goal-requires c κs =
     let acted = c .before .before .before .before .before .before .before .before .before in
     let modes = acted .before .before .before .before .before .before in
     let starts = modes .before .before .before .before .before .before in
-    let s = starts .before .before .before .before .before .before .before .before .before .before in
+    let s = starts .before .before .before .before .before .before .before .before .before in
     let d = s .pre .0 .1 in
     let told = s .pre .1 .0 .2 in
     let goal = c .before .before .before .before .read-goal .ensures in

@@ -6,13 +6,14 @@ use Prim.Native.Nat.{ℕ, _+_, _-_, _<_}
 use native.Mathlib.Omega.{arith}
 use lib.Dec.{eqb}
 use lib.ListN.{length, getD, getElem?}
+use denote.Ref.{now}
 use borrow.Author.Needs.{needs}
 use Rattle.lists.proofs.Writing.{long, room-as, wrote-as}
 use Rattle.model.specs.Stages.{clear}
 use Rattle.file_parts.specs.Layout.{MARKS, NUMBERS}
 use Rattle.lowering_stages.specs.Shapes.{nextNumber}
 use Rattle.lowering_stages.proofs.Effects.{turns-on}
-use Rattle.lowering_sums.specs.Views.{sumsIs}
+use Rattle.lowering_sums.specs.Views.{sumsIn}
 use Rattle.lowering_rows.specs.Macros.{AllFit, stagesIn}
 use Rattle.lowering_rows.proofs.Stages.{there, rows-are, stage-is}
 use Rattle.lowering_rows.proofs.Staging.{Staging, staging-start, staging-fit, staging-room, staging-next, staging-end}
@@ -20,11 +21,11 @@ use Rattle.lowering_rows.proofs.put_stages.Statement.{statement}
 use Rattle.lowering_rows.proofs.put_stages.Tie as tie
 
 abbrev Inv-loop : tie.InvT-loop
-Inv-loop out₀ at effects shape count from first sums a control marks₀ numbers₀ place₀ number₀ j₀ out marks numbers place number j =
-    Staging first (sumsIs sums) a control from (stagesIn shape effects) out₀ at out place number j × (length marks ≡ MARKS) × (length numbers ≡ NUMBERS)
+Inv-loop out₀ at effects shape count from first sums weights a control marks₀ numbers₀ place₀ number₀ j₀ out marks numbers place number j =
+    Staging first (sumsIn sums weights) a control from (stagesIn shape effects) out₀ at out place number j × (length marks ≡ MARKS) × (length numbers ≡ NUMBERS)
 
 abbrev μ-loop : tie.MeasureT-loop
-μ-loop out₀ at effects shape count from first sums a control marks₀ numbers₀ place₀ number₀ j₀ out marks numbers place number j =
+μ-loop out₀ at effects shape count from first sums weights a control marks₀ numbers₀ place₀ number₀ j₀ out marks numbers place number j =
     count - j
 
 cast-a : tie.Need-cast-a Inv-loop μ-loop
@@ -73,7 +74,7 @@ put-stage-requires c κs =
     let on : next ≡ nextNumber n (length ds - (j + 1)) = c .before .before .before .next-stage .ensures ∙ ap (λ (z : ℕ). nextNumber n (z - (j + 1))) size in
     let high : 0 < n = omega (arith, loop .inv .0 .numberIs, s .pre .1 .0 .2) in
     let turns = subst (λ (z : ℕ). eqb n z ≡ false) (sym (c .before .before .before .next-stage .ensures)) (turns-on n (s .args .count - (j + 1)) high) in
-    let sums = sumsIs (s .args .sums) in (
+    let sums = sumsIn (s .args .sums) (now (s .args .weights)) in (
       (loop .inv .1, loop .inv .2, stands .small, s .pre .0 .2),
       (
         subst AllFit (sym (rows-are (s .args .first) sums (h .variables) (h .modes) n next stands turns)) (staging-fit (loop .inv .0) d is below next on),
@@ -113,7 +114,7 @@ loop-again c =
     let high : 0 < n = omega (arith, loop .inv .0 .numberIs, s .pre .1 .0 .2) in
     let turns = subst (λ (z : ℕ). eqb n z ≡ false) (sym (c .before .before .before .before .before .before .next-stage .ensures))
     (turns-on n (s .args .count - (j + 1)) high) in
-    let wrote = wrote-as (stage-is (s .args .first) (sumsIs (s .args .sums)) (h .variables) (h .modes) n next stands turns)
+    let wrote = wrote-as (stage-is (s .args .first) (sumsIn (s .args .sums) (now (s .args .weights))) (h .variables) (h .modes) n next stands turns)
     (c .before .before .put-stage .ensures .wrote) in
     (staging-next (loop .inv .0) d is below next on wrote, c .before .before .put-stage .ensures .marksLong, c .before .before .put-stage .ensures .numbersLong)
 

@@ -1,79 +1,70 @@
--- `lowering_sums::kept_amount` meets its contract. The loop's invariant: what the first terms make, with what is left, is the whole.
--- Assumes nothing.
-use mathlib.Core.Path.{_≡_}
-use Prim.Native.Nat.{_-_, _≤_}
+-- `lowering_sums::kept_amount` meets its contract. The loop's invariant: what the first + add, with what is left, is the whole. Assumes nothing.
+use Prim.Native.Nat.{_-_}
 use native.Mathlib.Omega.{arith}
-use lib.IntN.{natAbs}
-use lib.ListN.{length, take}
 use mir.Facts.{toZ-ofZ}
 use mir.Syntax.{w64}
 use mir.Val.{SFits, toZ}
 use borrow.Author.Needs.{needs}
-use Rattle.lists.proofs.Loops.{length-mapped}
-use Rattle.file_parts.specs.Row.{additionsIn}
-use Rattle.model.specs.Sums.{addedTo}
-use Rattle.lowering_sums.proofs.Weighing.{Weighing, termAt, weigh-start, weigh-next, weigh-small, weigh-end, weight-small}
+use Rattle.model.specs.Steps.{integerAt}
+use Rattle.lowering_sums.proofs.Weighing.{Adding, adding-start, adding-next, adding-small, adding-end}
 use Rattle.lowering_sums.proofs.kept_amount.Statement.{statement}
 use Rattle.lowering_sums.proofs.kept_amount.Tie as tie
 
 abbrev Inv-loop : tie.InvT-loop
-Inv-loop marks numbers count sum terms total₀ i₀ total i =
-    Weighing sum (addedTo (take count (additionsIn marks numbers))) 3_200_000_000 terms i (toZ w64 total)
+Inv-loop weights j count variables amounts total₀ e₀ total e = Adding weights j count variables amounts e (toZ w64 total)
 
 abbrev μ-loop : tie.MeasureT-loop
-μ-loop marks numbers count sum terms total₀ i₀ total i = terms - i
-
--- there are as many terms as there is room for
-long : (s : tie.Start Inv-loop μ-loop) → length (s .args .t4 .terms) ≡ 4
-long s = search (needs, length-mapped)
+μ-loop weights j count variables amounts total₀ e₀ total e = count - e
 
 loop-holds : tie.Need-loop-holds Inv-loop μ-loop
-loop-holds c = weigh-start (c .args .t4) _ _ (c .pre .1) (long c)
+loop-holds c = adding-start _ _ _ _ _
 
-mul-term : tie.Need-mul-term Inv-loop μ-loop
-mul-term c = search needs
+array-read-kept-part : tie.Need-array-read-kept-part Inv-loop μ-loop
+array-read-kept-part c = search needs
 
-element-copy-out-term : tie.Need-element-copy-out-term Inv-loop μ-loop
-element-copy-out-term c = search needs
+mul-kept-part : tie.Need-mul-kept-part Inv-loop μ-loop
+mul-kept-part c = search needs
 
-added-to-requires : tie.Need-added-to-requires Inv-loop μ-loop
-added-to-requires c κs = search needs
+array-copy-out-kept-part : tie.Need-array-copy-out-kept-part Inv-loop μ-loop
+array-copy-out-kept-part c = search needs
 
-plus-product-requires : tie.Need-plus-product-requires Inv-loop μ-loop
-plus-product-requires c κs =
-    let s = c .before .before .before .before .before in
-    let l = c .before .before .before .before in
-    let v : SFits w64 (c .added-to .result) = search needs in
-    let w : SFits w64 (termAt (s .args .t4) (l .loop .i) .weight) = search needs in
-    simp (toZ-ofZ, v, w) (
-      record { within = omega (arith, weigh-small (l .loop .inv) (s .pre .1)) },
-      omega (arith, c .added-to .ensures .1),
-      omega (arith, weight-small (s .args .t4) (s .pre .1) (long s) (l .loop .i) (c .before .before .before .loop-test .taken)),
-    )
+kept-part-requires : tie.Need-kept-part-requires Inv-loop μ-loop
+kept-part-requires c κs =
+    let l = c .before .before in
+    let s = l .before .before .before in
+    let d : SFits w64 (integerAt (s .args .added .amounts) (l .loop .e)) = search needs in
+    rw (toZ-ofZ d) (s .pre .0, s .pre .1, s .pre .2 .amounts (l .loop .e) (c .before .loop-test .taken))
 
-add-i : tie.Need-add-i Inv-loop μ-loop
-add-i c = search needs
+plus-requires : tie.Need-plus-requires Inv-loop μ-loop
+plus-requires c κs =
+    let l = c .before .before .before in
+    let s = l .before .before .before in
+    let r : SFits w64 (c .kept-part .result) = search needs in
+    rw (toZ-ofZ r) (omega (arith, adding-small (l .loop .inv) (s .pre .2 .few)), omega (arith, c .kept-part .ensures .1))
+
+add-e : tie.Need-add-e Inv-loop μ-loop
+add-e c = search needs
 
 loop-less : tie.Need-loop-less Inv-loop μ-loop
 loop-less c = search needs
 
 loop-again : tie.Need-loop-again Inv-loop μ-loop
 loop-again c =
-    let s = c .before .before .before .before .before .before in
-    let l = c .before .before .before .before .before in
-    let t = termAt (s .args .t4) (l .loop .i) in
-    let a = c .before .added-to in
-    let v : SFits w64 (a .result) = search needs in
-    let w : SFits w64 (t .weight) = search needs in
-    let r : SFits w64 (c .plus-product .result) = search needs in
-    let p = simp (toZ-ofZ, v, w) at (c .plus-product .ensures) in
-    let near : natAbs (a .result) ≤ 320_000 = a .ensures .1 in
-    rw (toZ-ofZ r)
-    (weigh-next (l .loop .inv) (c .before .before .before .before .loop-test .taken) (a .result) (c .plus-product .result) (a .ensures .0) (p .0) (p .1)
-    (omega arith))
+    let l = c .before .before .before .before in
+    let s = l .before .before .before in
+    let k = c .before .kept-part in
+    let d : SFits w64 (integerAt (s .args .added .amounts) (l .loop .e)) = search needs in
+    let p : SFits w64 (k .result) = search needs in
+    let r : SFits w64 (c .plus .result) = search needs in
+    let e = rw (toZ-ofZ d) at (k .ensures) in
+    rw (toZ-ofZ r, rw (toZ-ofZ p) at (c .plus .ensures))
+    (adding-next (l .loop .inv) (c .before .before .before .loop-test .taken) (k .result) (e .0) (e .1))
 
 returns : tie.Need-returns Inv-loop μ-loop
-returns c = weigh-end (c .before .loop .inv) (c .loop-test .left)
+returns c =
+    let s = c .before .before .before .before in
+    let h = c .before .loop .inv in
+    (adding-end h (c .loop-test .left), adding-small h (s .pre .2 .few))
 
 pub kept-amount-spec : {M : Type 1} → statement M
 kept-amount-spec =
@@ -82,11 +73,12 @@ kept-amount-spec =
     Inv-loop
     μ-loop
     loop-holds
-    mul-term
-    element-copy-out-term
-    added-to-requires
-    plus-product-requires
-    add-i
+    array-read-kept-part
+    mul-kept-part
+    array-copy-out-kept-part
+    kept-part-requires
+    plus-requires
+    add-e
     loop-less
     loop-again
     returns)
