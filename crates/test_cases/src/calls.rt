@@ -174,9 +174,9 @@ fn run_for_c(entry: u8, task: &[u8], second: &[u8], k: usize, lent: u32) {
 pub(crate) fn run(entry: u8, task: &[u8], second: &[u8], k: usize, lent: u32) {
     match entry {
         1..=4 => run_file(entry, task, k),
+        9..=11 | 14 => outputs::run(entry, task, second, lent),
         5..=8 => run_steps(entry, task, second, k),
         12..=13 => run_prices(entry, task, second, k),
-        15..=18 => run_for_c(entry, task, second, k, lent),
-        _ => outputs::run(entry, task, second, lent),
+        _ => run_for_c(entry, task, second, k, lent),
     }
 }
