@@ -17,7 +17,7 @@ use Rattle.model.specs.Listing.{stepLine}
 use Rattle.source_step.specs.Step.{state}
 use Rattle.source_step.proofs.Sound.{length-settled}
 use Rattle.source_step.specs.Row.{outcomesAt, valuesAfter, modesAfter}
-use Rattle.source_step.specs.Ready.{marksOf, numbersOf}
+use Rattle.source_step.specs.Ready.{marksOf, numbersOf, sumsOf}
 use Rattle.source_step.specs.Table.{Table, takesBy, priceBy, Usables}
 use Rattle.plan_strokes.specs.declared.Turn.{Turn}
 use Rattle.plan_strokes.specs.Made.{Turned}
@@ -70,45 +70,46 @@ module _ (T : Table) (p : List ℕ) (values : List ℤ) (modes : List ℕ) (i : 
         (lines-at-step ∙ rw off refl, cost-at-step ∙ rw off refl)
 
     module _ (l : k < T .count) {turn : Turn} {values′ : List ℤ} {modes′ : List ℕ}
-        (t : Turned (T .variables) (T .modes) (marksOf (T .marks) k) (numbersOf (T .numbers) k) values modes turn values′ modes′) where
-      not-applied : turn .applied ≡ false → Over
-      unfolding linesBy pricesBy
-      not-applied f =
-          let on = lt-ltb k (T .count) l in
-          let off : takesBy T x k ≡ false = sym (t .stepped .is) ∙ f in
-          (lines-at-step ∙ rw (on, off) refl, cost-at-step ∙ rw (on, off) refl)
+        (t : Turned (T .variables) (T .modes) (marksOf (T .marks) k) (numbersOf (T .numbers) k) (sumsOf (T .numbers)) values modes turn values′ modes′)
+      where
+        not-applied : turn .applied ≡ false → Over
+        unfolding linesBy pricesBy
+        not-applied f =
+            let on = lt-ltb k (T .count) l in
+            let off : takesBy T x k ≡ false = sym (t .stepped .is) ∙ f in
+            (lines-at-step ∙ rw (on, off) refl, cost-at-step ∙ rw (on, off) refl)
 
-      module _ (f : turn .applied ≡ true) where
-        on : takesBy T x k ≡ true
-        on = sym (t .stepped .is) ∙ f
+        module _ (f : turn .applied ≡ true) where
+          on : takesBy T x k ≡ true
+          on = sym (t .stepped .is) ∙ f
 
-        valuesAre : values′ ≡ valuesAfter (T .variables) (marksOf (T .marks) k) (numbersOf (T .numbers) k) values
-        valuesAre = t .stepped .valuesAre ∙ rw on refl
+          valuesAre : values′ ≡ valuesAfter (T .variables) (marksOf (T .marks) k) (numbersOf (T .numbers) k) values
+          valuesAre = t .stepped .valuesAre ∙ rw on refl
 
-        modesAre : modes′ ≡ modesAfter (T .modes) (marksOf (T .marks) k) modes
-        modesAre = t .stepped .modesAre ∙ rw on refl
+          modesAre : modes′ ≡ modesAfter (T .modes) (marksOf (T .marks) k) modes
+          modesAre = t .stepped .modesAre ∙ rw on refl
 
-        lines-next : leftBy T p i values modes ≡ lineOf i k (turn .price) (take (T .variables) values′) ++ leftBy T p (i + 1) values′ modes′
-        unfolding linesBy stepLine
-        lines-next =
-            let cost : priceBy T x k ≡ turn .price = sym (at-its-price t .price f) in
-            lines-at-step ∙ rw (lt-ltb k (T .count) l, on, cost, valuesAre, modesAre, add-one i) refl
+          lines-next : leftBy T p i values modes ≡ lineOf i k (turn .price) (take (T .variables) values′) ++ leftBy T p (i + 1) values′ modes′
+          unfolding linesBy stepLine
+          lines-next =
+              let cost : priceBy T x k ≡ turn .price = sym (at-its-price t .price f) in
+              lines-at-step ∙ rw (lt-ltb k (T .count) l, on, cost, valuesAre, modesAre, add-one i) refl
 
-        cost-next : costLeft T p i values modes ≡ turn .price + costLeft T p (i + 1) values′ modes′
-        unfolding pricesBy
-        cost-next =
-            let cost : priceBy T x k ≡ turn .price = sym (at-its-price t .price f) in
-            cost-at-step ∙ rw (lt-ltb k (T .count) l, on, cost, valuesAre, modesAre, add-one i) refl
+          cost-next : costLeft T p i values modes ≡ turn .price + costLeft T p (i + 1) values′ modes′
+          unfolding pricesBy
+          cost-next =
+              let cost : priceBy T x k ≡ turn .price = sym (at-its-price t .price f) in
+              cost-at-step ∙ rw (lt-ltb k (T .count) l, on, cost, valuesAre, modesAre, add-one i) refl
 
-        reached-next : Usables T → Reached p values modes i → Reached p values′ modes′ (i + 1)
-        reached-next u r = record {
-          bound = omega arith;
-          valuesLong =
-              ap length valuesAre
-              ∙ length-settled (T .variables) (outcomesAt (T .variables) (marksOf (T .marks) k) (numbersOf (T .numbers) k) values) values
-              ∙ r .valuesLong;
-          modesLong = ap length modesAre ∙ long-after (T .modes) (marksOf (T .marks) k) modes (u .modesFew) (r .modesLong);
-        }
+          reached-next : Usables T → Reached p values modes i → Reached p values′ modes′ (i + 1)
+          reached-next u r = record {
+            bound = omega arith;
+            valuesLong =
+                ap length valuesAre
+                ∙ length-settled (T .variables) (outcomesAt (T .variables) (marksOf (T .marks) k) (numbersOf (T .numbers) k) values) values
+                ∙ r .valuesLong;
+            modesLong = ap length modesAre ∙ long-after (T .modes) (marksOf (T .marks) k) modes (u .modesFew) (r .modesLong);
+          }
 
 -- ---- the loop that writes: the lines left until the last step asked for are still to be written, and behind them come those of all other steps;
 -- and so it is with what the steps cost
@@ -204,48 +205,50 @@ module _ {T : Table} {p : List ℕ} {from until before : ℕ} {values₀ : List 
         (no-action T q values modes i k part-is in-part l) (no-action T p values modes i k e in-plan l)
 
     module _ (l : k < T .count) {turn : Turn} {values′ : List ℤ} {modes′ : List ℕ}
-        (t : Turned (T .variables) (T .modes) (marksOf (T .marks) k) (numbersOf (T .numbers) k) values modes turn values′ modes′) where
-      pub writing-not-applied : turn .applied ≡ false → (next : ℕ) → next ≡ length p
-          → LinedTo T p from until before values₀ modes₀ old at out (record { place = place; spent = spent; next = next }) values′ modes′
-      writing-not-applied f next m =
-          let off : takesBy T (state values modes) k ≡ false = sym (t .stepped .is) ∙ f in
-          let same-values : values′ ≡ values = t .stepped .valuesAre ∙ rw off refl in
-          let same-modes : modes′ ≡ modes = t .stepped .modesAre ∙ rw off refl in
-          stopped next m
-          (ap length same-values ∙ g .reached .valuesLong)
-          (ap length same-modes ∙ g .reached .modesLong)
-          (not-applied T q values modes i k part-is in-part l t f) (not-applied T p values modes i k e in-plan l t f)
+        (t : Turned (T .variables) (T .modes) (marksOf (T .marks) k) (numbersOf (T .numbers) k) (sumsOf (T .numbers)) values modes turn values′ modes′)
+      where
+        pub writing-not-applied : turn .applied ≡ false → (next : ℕ) → next ≡ length p
+            → LinedTo T p from until before values₀ modes₀ old at out (record { place = place; spent = spent; next = next }) values′ modes′
+        writing-not-applied f next m =
+            let off : takesBy T (state values modes) k ≡ false = sym (t .stepped .is) ∙ f in
+            let same-values : values′ ≡ values = t .stepped .valuesAre ∙ rw off refl in
+            let same-modes : modes′ ≡ modes = t .stepped .modesAre ∙ rw off refl in
+            stopped next m
+            (ap length same-values ∙ g .reached .valuesLong)
+            (ap length same-modes ∙ g .reached .modesLong)
+            (not-applied T q values modes i k part-is in-part l t f) (not-applied T p values modes i k e in-plan l t f)
 
-      module _ (f : turn .applied ≡ true) where
-        abbrev line : List ℕ
-        line = lineOf i k (turn .price) (take (T .variables) values′)
+        module _ (f : turn .applied ≡ true) where
+          abbrev line : List ℕ
+          line = lineOf i k (turn .price) (take (T .variables) values′)
 
-        -- the line of the step comes next
-        parted : Left old at (linesTo T from until p (state values₀ modes₀)) out place (line ∷ leftBy T q (i + 1) values′ modes′ ∷ [])
-        parted =
-            let rest = leftBy T q (i + 1) values′ modes′ in
-            recast (ap (λ (z : List ℕ). z ++ []) (lines-next T q values modes i k part-is in-part l t f) ∙ append-assoc line rest []) (g .lines)
+          -- the line of the step comes next
+          parted : Left old at (linesTo T from until p (state values₀ modes₀)) out place (line ∷ leftBy T q (i + 1) values′ modes′ ∷ [])
+          parted =
+              let rest = leftBy T q (i + 1) values′ modes′ in
+              recast (ap (λ (z : List ℕ). z ++ []) (lines-next T q values modes i k part-is in-part l t f) ∙ append-assoc line rest []) (g .lines)
 
-        pub writing-reached : Reached (take until p) values′ modes′ (i + 1)
-        writing-reached = reached-next T q values modes i k part-is in-part l t f (L .usables) (g .reached)
+          pub writing-reached : Reached (take until p) values′ modes′ (i + 1)
+          writing-reached = reached-next T q values modes i k part-is in-part l t f (L .usables) (g .reached)
 
-        pub writing-room : RoomFor old at (LINE * (until - from)) (linesTo T from until p (state values₀ modes₀))
-            → RoomFor out place LINE (lineOf i k (turn .price) (take (T .variables) values′))
-        writing-room r = room-for-either (omega (arith, g .few, g .begun)) writing-long (λ w. room w parted) r
+          pub writing-room : RoomFor old at (LINE * (until - from)) (linesTo T from until p (state values₀ modes₀))
+              → RoomFor out place LINE (lineOf i k (turn .price) (take (T .variables) values′))
+          writing-room r = room-for-either (omega (arith, g .few, g .begun)) writing-long (λ w. room w parted) r
 
-        pub writing-next : {after : List ℕ} {next : ℕ} → Wrote out place (lineOf i k (turn .price) (take (T .variables) values′)) after next → next ≤ place + LINE
-            → Writing T p from until before (state values₀ modes₀) old at values′ modes′ (i + 1) after next (spent + turn .price)
-        writing-next w m = record {
-          reached = writing-reached;
-          begun = omega (arith, g .begun);
-          lines = step parted w;
-          few = omega (arith, g .few, g .begun, m);
-          left = λ z u. g .left z
-              (lines-next T p values modes i k e in-plan l t f
-              ∙ ap (λ (y : List ℕ). line ++ y) u
-              ∙ sym (append-assoc line (leftBy T q (i + 1) values′ modes′) z)
-              ∙ ap (λ (y : List ℕ). y ++ z) (sym (lines-next T q values modes i k part-is in-part l t f)));
-          sum = omega (arith, g .sum, cost-next T q values modes i k part-is in-part l t f);
-          total = omega (arith, g .total, cost-next T p values modes i k e in-plan l t f);
-          cheap = omega (arith, g .cheap, t .few);
-        }
+          pub writing-next : {after : List ℕ} {next : ℕ} → Wrote out place (lineOf i k (turn .price) (take (T .variables) values′)) after next
+              → next ≤ place + LINE
+              → Writing T p from until before (state values₀ modes₀) old at values′ modes′ (i + 1) after next (spent + turn .price)
+          writing-next w m = record {
+            reached = writing-reached;
+            begun = omega (arith, g .begun);
+            lines = step parted w;
+            few = omega (arith, g .few, g .begun, m);
+            left = λ z u. g .left z
+                (lines-next T p values modes i k e in-plan l t f
+                ∙ ap (λ (y : List ℕ). line ++ y) u
+                ∙ sym (append-assoc line (leftBy T q (i + 1) values′ modes′) z)
+                ∙ ap (λ (y : List ℕ). y ++ z) (sym (lines-next T q values modes i k part-is in-part l t f)));
+            sum = omega (arith, g .sum, cost-next T q values modes i k part-is in-part l t f);
+            total = omega (arith, g .total, cost-next T p values modes i k e in-plan l t f);
+            cheap = omega (arith, g .cheap, t .few);
+          }

@@ -8,8 +8,9 @@ use plan_strokes::STAGES;
 use source_step::MARKS;
 use source_step::MODES;
 use source_step::NUMBERS;
+use source_step::ROWS;
+use source_step::SUMS_ROW;
 use source_step::VARIABLES;
-use source_walk::ROWS;
 ghost use mathlib.Core.Path.{_≡_};
 ghost use Prim.Native.Nat.{_+_, _-_, _*_, _^_, _≤_, _<_};
 ghost use mathlib.Core.Bool.{false};
@@ -23,7 +24,8 @@ ghost use Rattle.lists.specs.Written.{Lent};
 ghost use Rattle.model.specs.Listing.{fieldsOf, goalLine, refusedLine, listing};
 ghost use Rattle.model.specs.Plans.{planNumbers};
 ghost use Rattle.source_step.specs.Step.{state};
-ghost use Rattle.source_step.specs.Table.{table, Usables, ROWS};
+ghost use Rattle.source_step.specs.Ready.{blankMarks, blankNumbers};
+ghost use Rattle.source_step.specs.Table.{table, Usables};
 ghost use Rattle.source_step.specs.Sizes.{VARIABLES, MODES};
 ghost use Rattle.source_walk.specs.Opening.{tableOf};
 ghost use Rattle.source_walk.specs.Walk.{judgeBy};
@@ -165,6 +167,7 @@ fn put_lines(
             m,
             &marks[k],
             &numbers[k],
+            &numbers[SUMS_ROW],
             &mut times,
         );
         if !turn.applied {
@@ -259,7 +262,7 @@ pub fn begin(
     values: &mut [i64; VARIABLES],
     modes: &mut [u16; MODES],
 ) -> Rest
-    requires { ⌜ (length (now marks) ≡ ROWS) × (length (now numbers) ≡ ROWS) × (now values ≡ replicate VARIABLES (pos 0)) × (now modes ≡ replicate MODES 0) ⌝ }
+    requires { ⌜ (now marks ≡ blankMarks) × (now numbers ≡ blankNumbers) × (now values ≡ replicate VARIABLES (pos 0)) × (now modes ≡ replicate MODES 0) ⌝ }
     ensures { λ r. ⌜ Begun (now (file .entry)) (now (plan .entry)) r (now (marks .exit)) (now (numbers .exit)) (now (values .exit)) (now (modes .exit)) ⌝ }
 {
     match source_walk::open(file, plan, marks, numbers, values, modes) {

@@ -11,8 +11,8 @@ use listing::Rest;
 use source_step::MARKS;
 use source_step::MODES;
 use source_step::NUMBERS;
+use source_step::ROWS;
 use source_step::VARIABLES;
-use source_walk::ROWS;
 ghost use mathlib.Core.Path.{_≡_};
 ghost use Prim.Native.Nat.{_≤_};
 ghost use lib.ListN.{length, take, replicate};
@@ -22,7 +22,7 @@ ghost use Rattle.model.specs.Systems.{provided};
 ghost use Rattle.model.specs.Plans.{planNumbers};
 ghost use Rattle.model.specs.Listing.{listingProgram};
 ghost use Rattle.source_step.specs.Sizes.{VARIABLES, MODES};
-ghost use Rattle.source_step.specs.Table.{ROWS};
+ghost use Rattle.source_step.specs.Ready.{blankMarks, blankNumbers};
 ghost use Rattle.listing.specs.Parts.{PART, Pending};
 ghost use Rattle.listing_program.specs.Printed.{OnlyLine, FirstPart};
 
@@ -56,7 +56,7 @@ fn first_part(
     modes: &mut [u16; MODES],
 ) -> Part
     requires { ⌜ PART ≤ length (now out) ⌝ }
-    requires { ⌜ (length (now marks) ≡ ROWS) × (length (now numbers) ≡ ROWS) × (now values ≡ replicate VARIABLES (pos 0)) × (now modes ≡ replicate MODES 0) ⌝ }
+    requires { ⌜ (now marks ≡ blankMarks) × (now numbers ≡ blankNumbers) × (now values ≡ replicate VARIABLES (pos 0)) × (now modes ≡ replicate MODES 0) ⌝ }
     ensures { λ r. ⌜ FirstPart (listingProgram (provided «has_task» (now (task .entry))) (provided «has_plan» (now (plan .entry))))
         (planNumbers (now (plan .entry))) (now (marks .exit)) (now (numbers .exit)) (now (values .exit)) (now (modes .exit)) (now (out .exit)) r ⌝ }
 {

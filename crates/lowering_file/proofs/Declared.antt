@@ -37,13 +37,14 @@ use Rattle.file_actions.proofs.Accepted.{source-edges, places-at, goal-row, sou
 use Rattle.file_declarations.specs.declared.Declared.{Declared}
 use Rattle.file_declarations.specs.Holding.{HoldsSource}
 use Rattle.source_step.specs.Sizes.{ACTIONS}
+use Rattle.source_step.specs.Row.{ValuesNear}
 use Rattle.source_step.specs.Accepted.{AcceptedWith}
 use Rattle.source_step.proofs.Judging.{accepted-task, counted-task}
-use Rattle.lowering_sums.specs.Views.{ValuesSmall}
+use Rattle.source_sums.specs.Found.{taskOf, PlacesOf}
 use Rattle.lowering_rows.specs.Macros.{Constant, Fit}
 use Rattle.lowering_rows.proofs.Kept.{opening-kept}
 use Rattle.lowering_file.specs.Parts.{modeAt, modesIn}
-use Rattle.lowering_file.specs.Held.{taskOf, measuring, PlacesOf, Declares, goalSum, goalOf, GoalOf}
+use Rattle.lowering_file.specs.Held.{measuring, Declares, goalSum, goalOf, GoalOf}
 
 -- ---- lists
 front-small : (xs ys : List ℤ) (i : ℕ) → All (λ (z : ℤ). natAbs z ≤ 10_000) (xs ++ ys) → natAbs (integerAt xs i) ≤ 10_000
@@ -96,7 +97,7 @@ module _ (file : List ℕ) (count : ℕ) (bytes : Bytes file) (accepted : Accept
       edges = source-edges file bytes (taskOf file) task-read ∙ ap suc (sym actions-counted)
 
   module _ (r : Declared) (lower upper start : List ℤ) (sizes values : List ℕ) (h : HoldsSource (taskOf file) r lower upper start sizes values) where
-    starts-small : ValuesSmall (r .variables) start
+    starts-small : ValuesNear (r .variables) start
     starts-small j =
         let e : take (r .variables) start ≡ sourceStart (taskOf file) .values = ap (λ (x : State). x .values) (h .startIs) in
         let small = front-small (sourceStart (taskOf file) .values) (restingHelpers (holdCount (taskOf file .actions))) j

@@ -35,13 +35,14 @@ use Rattle.file_parts.specs.Row.{rowIs}
 use Rattle.file_parts.specs.With.{withModeCondition}
 use Rattle.file_actions.proofs.Distinct.{few-distinct}
 use Rattle.model.specs.FourRelations.{inFour}
+use Rattle.source_sums.specs.Found.{taskOf}
 use Rattle.lowering_sums.specs.Views.{Fits, startBytes}
 use Rattle.lowering_rows.specs.Bytes.{modeConditionBytes, conditionBytes, modeEffectBytes, additionBytes, restrictedActionBytes, rowBytes}
 use Rattle.lowering_rows.proofs.Parts.{run-bytes, mode-conditions-bytes, conditions-bytes, actions-bytes}
 use Rattle.lowering_rows.proofs.Writing.{action-row}
 use Rattle.lowering_file.specs.declared.Declarations.{Declarations}
 use Rattle.lowering_file.specs.Parts.{modeBytes, modesIn, holdsOf, startsIn}
-use Rattle.lowering_file.specs.Held.{taskOf, Kept, sumsIs, KeptOf, Declares, GoalOf, Told, startsPart, modesPart, actionsPart, goalEnd}
+use Rattle.lowering_file.specs.Held.{Kept, sumsIs, KeptOf, Declares, GoalOf, Told, startsPart, modesPart, actionsPart, goalEnd}
 use Rattle.lowering_file.specs.Held.{inFileOrder, actionsFirst}
 use Rattle.lowering_file.proofs.Keeping.{starts-kept}
 use Rattle.lowering_file.proofs.Walk.{all-right}

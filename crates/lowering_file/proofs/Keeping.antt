@@ -1,4 +1,4 @@
--- R against the task that measures its sums: the actions one behind another, each with its own sums; the starts; that the sums of the table keep
+-- R against the task that measures its sums: the actions one behind another, each with its own sums; the starts; that the sums of the row keep
 -- what those of the file do, since they weigh alike; and that where there is no sum any number stands for the first kept variable.
 -- Assumes nothing.
 use mathlib.Core.Path.{_≡_, refl, sym, ap, ap₂, _∙_}
@@ -16,9 +16,10 @@ use Rattle.model.specs.Sums.{sumIn, sumsIn, sumsOfActions, sumsOf, sumsOfSource
 use Rattle.model.specs.Lowering.{numberedConditions, numberedAll, restingHelpers, lowerMeasuring, lowerTask}
 use Rattle.model.proofs.Arrays.{replicated}
 use Rattle.model.proofs.LoweredSums.{sums-in-file-order}
+use Rattle.source_sums.specs.Found.{taskOf}
 use Rattle.lowering_sums.proofs.Measuring.{kept-same, values-same}
-use Rattle.lowering_file.specs.Held.{taskOf, measuring, Kept, sumsIs, KeptOf, goalSum, GoalFrom}
-use Rattle.lowering_file.proofs.Sums.{none-of}
+use Rattle.lowering_file.specs.Held.{measuring, Kept, sumsIs, KeptOf, goalSum, GoalFrom}
+use Rattle.source_sums.proofs.Own.{none-of}
 
 -- ---- actions one behind another
 pub sums-behind : (xs ys : List RestrictedAction) → length (sumsOfActions (xs ++ ys)) ≡ length (sumsOfActions xs) + length (sumsOfActions ys)
@@ -99,21 +100,21 @@ module _ {file : List ℕ} {p : Kept} (h : KeptOf file p) where
   none : p .count ≡ 0 → length (sumsOf (measuring file)) ≡ 0
   none e = omega (arith, h .sums .counted, ap length (sums-in-file-order (taskOf file)))
 
-  -- the sums of the table are kept as those of the file are
-  table-keeps : (acts : List RestrictedAction) (j : ℕ) → keepingAll (p .first) (sumsIs p) j acts ≡ keepingAll (p .first) (sumsOfSource (taskOf file)) j acts
-  table-keeps [] j = refl
-  table-keeps (a ∷ acts) j = ap₂ (λ (es : List (ℕ × ℤ)) (z : List RestrictedAction). inFour (record {
+  -- the sums of the row are kept as those of the file are
+  row-keeps : (acts : List RestrictedAction) (j : ℕ) → keepingAll (p .first) (sumsIs p) j acts ≡ keepingAll (p .first) (sumsOfSource (taskOf file)) j acts
+  row-keeps [] j = refl
+  row-keeps (a ∷ acts) j = ap₂ (λ (es : List (ℕ × ℤ)) (z : List RestrictedAction). inFour (record {
     modeConditions = a .modeConditions;
     conditions = onKept j (a .conditions);
     modeEffects = a .modeEffects;
     additions = a .additions ++ es;
   }) ∷ z)
       (kept-same (p .first) (p .count) (sumsOfSource (taskOf file)) (p .weights) (a .additions) (h .sums .counted) (h .sums .weighs))
-      (table-keeps acts (j + length (sumsIn (a .conditions))))
+      (row-keeps acts (j + length (sumsIn (a .conditions))))
 
   pub actions-kept : keepingAll (p .first) (sumsIs p) (p .first) (measuring file .actions) ≡ lowerTask (taskOf file) .actions
   actions-kept =
-      table-keeps (measuring file .actions) (p .first)
+      row-keeps (measuring file .actions) (p .first)
       ∙ ap (λ (s : List (List (ℕ × ℤ))). keepingAll (p .first) s (p .first) (measuring file .actions)) (sym (sums-in-file-order (taskOf file)))
       ∙ by (p .count) refl
     where

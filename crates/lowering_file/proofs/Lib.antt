@@ -1,7 +1,6 @@
 pub mod Declared
 pub mod File
 pub mod Keeping
-pub mod NoSum
 pub mod Sums
 pub mod Walk
 pub mod WalkLoops

@@ -38,15 +38,16 @@ use Rattle.file_actions.specs.Within.{SourceWithin}
 use Rattle.file_actions.proofs.Accepted.{source-action-decoded, source-action-within}
 use Rattle.file_actions.proofs.Sums.{decoded-sums}
 use Rattle.source_step.specs.Accepted.{AcceptedWith}
+use Rattle.source_sums.specs.Found.{taskOf}
 use Rattle.lowering_stages.specs.declared.Shape.{Shape}
 use Rattle.lowering_stages.specs.Stages.{mostStages, stageNumbers, PlacesFew}
 use Rattle.lowering_stages.specs.Shapes.{lowerOf, upperOf, Bounded}
 use Rattle.lowering_rows.specs.Macros.{AllFit, withOwn, macroWith, Keeps, Lowerable, stagesIn, macroIn, Sound}
 use Rattle.lowering_rows.proofs.Macros.{macro-is, sound-fit}
 use Rattle.lowering_rows.proofs.Staging.{numbered-append, drop-get}
-use Rattle.lowering_file.specs.Held.{taskOf, measuring, Held, Kept, sumsIs, KeptOf, goalSum, measuredAt, restAt, stagesOfTask, Told}
+use Rattle.lowering_file.specs.Held.{measuring, Held, Kept, sumsIs, KeptOf, goalSum, measuredAt, restAt, stagesOfTask, Told}
 use Rattle.lowering_file.proofs.Declared.{kept-long}
-use Rattle.lowering_file.proofs.Sums.{own-counted, action-at, none-at}
+use Rattle.source_sums.proofs.Gathering.{own-counted, action-at, none-at}
 use Rattle.lowering_file.proofs.Keeping.{sums-behind, keeping-append, macro-measures, actions-kept}
 
 -- ---- lists

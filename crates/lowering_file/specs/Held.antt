@@ -4,38 +4,33 @@ use mathlib.Core.Path.{_≡_}
 use mathlib.Core.Bool.{Bool}
 use mathlib.Core.List.{List, [], _++_, map, flatMap}
 use Prim.Native.Nat.{ℕ, suc, _+_, _≤_, _<_}
-use lib.ListN.{length, take, drop, getD}
+use lib.ListN.{length, take, drop}
 use lib.IntN.{ℤ}
 use Rattle.integers.specs.Numbers.{Bytes}
 use Rattle.lists.specs.Answer.{given}
 use Rattle.commands.specs.Table.{letterG}
 use Rattle.commands.specs.Encoding.{encode}
 use Rattle.commands.specs.declared.Command.the-variants.{End}
-use Rattle.model.specs.Tasks.{NumericCondition, SourceVariable, SourceTask, RestrictedAction, RestrictedTask}
-use Rattle.model.specs.Limits.{sourceLimits}
-use Rattle.model.specs.Reading.{commandsOf}
-use Rattle.model.specs.ActionBytes.{edgeOf}
-use Rattle.model.specs.Decoding.{sourceTaskOf, readSource}
+use Rattle.model.specs.Tasks.{NumericCondition, SourceVariable, RestrictedAction, RestrictedTask}
+use Rattle.model.specs.Decoding.{readSource}
 use Rattle.model.specs.Steps.{lowerBounds, upperBounds, sourceStart}
 use Rattle.model.specs.Stages.{lowerActions, stageCount, holdCount}
 use Rattle.model.specs.FourRelations.{inFour}
-use Rattle.model.specs.Sums.{sumsOfActions, sumsOfSource, onKept, keepingAll}
+use Rattle.model.specs.Sums.{sumsOfActions, onKept, keepingAll}
 use Rattle.model.specs.Lowering.{numberedAll, lowerMeasuring, lowerTask}
 use Rattle.source_step.specs.Sizes.{VARIABLES}
+use Rattle.source_step.specs.Row.{ValuesNear}
+use Rattle.source_sums.specs.Found.{taskOf, SumsOf}
 use Rattle.file_parts.specs.Row.{rowIs, Says}
 use Rattle.file_parts.specs.With.{withConditions, withModeCondition}
 use Rattle.file_actions.specs.declared.SumConditions.{SumConditions}
 use Rattle.file_actions.specs.Views.{sumRoom, sumsIs as conditionsIs, SumsDecoded}
 use Rattle.lowering_stages.specs.declared.Shape.{Shape}
-use Rattle.lowering_sums.specs.Views.{sumsIn, Blank, Weighs, ValuesSmall, startBytes}
+use Rattle.lowering_sums.specs.Views.{sumsIn, startBytes}
 use Rattle.lowering_rows.specs.Bytes.{restrictedActionBytes, rowBytes, WroteRows}
 use Rattle.lowering_file.specs.Parts.{modeBytes, modesIn, holdsOf, GoalWritable}
 use Rattle.lowering_file.specs.declared.Declarations.{Declarations}
 use Rattle.lowering_file.specs.declared.Put.{Put}
-
--- the task of an accepted file
-abbrev pub taskOf : List ℕ → SourceTask
-taskOf file = sourceTaskOf (commandsOf sourceLimits file)
 
 -- R but for its sums, which it measures, and for relation 4
 abbrev pub measuring : List ℕ → RestrictedTask
@@ -51,26 +46,15 @@ pub record Held (file : List ℕ) (count : ℕ) (h : Shape) : Type 0 where
   pub lowersAre : take (h .variables) (h .lower) ≡ map (λ (b : SourceVariable). b .lower) (taskOf file .variables)
   pub uppersAre : take (h .variables) (h .upper) ≡ map (λ (b : SourceVariable). b .upper) (taskOf file .variables)
 
--- where its actions begin, and behind them its goal
-abbrev pub PlacesOf : List ℕ → ℕ → List ℕ → Type 0
-PlacesOf file count places = (k : ℕ) → k ≤ count → getD places k 0 ≡ edgeOf file k
-
 -- besides, the starts and the modes that it declares
 pub record Declares (file : List ℕ) (count : ℕ) (d : Declarations) : Type 0 where
   pub held : Held file count (d .shape)
   pub startsLong : length (d .starts) ≡ VARIABLES
-  pub startsSmall : ValuesSmall (d .shape .variables) (d .starts)
+  pub startsSmall : ValuesNear (d .shape .variables) (d .starts)
   pub startsAre : take (d .shape .variables) (d .starts) ≡ sourceStart (taskOf file) .values
   pub modesAre : modesIn (d .shape .modes) (d .shape .sizes) (d .values) ≡ taskOf file .modes
 
--- ---- its sums, those of the actions in order, then those of the goal: how many, and the table of their weights
-pub record SumsOf (file : List ℕ) (sums : ℕ) (weights : List ℤ) : Type 0 where
-  pub counted : sums ≡ length (sumsOfSource (taskOf file))
-  pub few : sums ≤ sumRoom
-  pub blank : Blank sums weights
-  pub weighs : Weighs 0 (sumsOfSource (taskOf file)) weights
-
--- and what R keeps of them: the variables behind its others, from the first on
+-- ---- what R keeps of its sums: the variables behind its others, from the first on
 pub record Kept : Type 0 where
   pub first : ℕ
   pub count : ℕ

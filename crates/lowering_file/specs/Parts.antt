@@ -2,9 +2,8 @@
 -- Assumes nothing.
 use mathlib.Core.Path.{_≡_}
 use Prim.Native.Nat.{ℕ}
-use mathlib.Core.Bool.{Bool, true, false, cond}
-use mathlib.Core.List.{List, [], _∷_, _++_}
-use lib.Dec.{eqb}
+use mathlib.Core.Bool.{Bool, cond}
+use mathlib.Core.List.{List, _++_}
 use lib.ListN.{length, take}
 use lib.IntN.{ℤ}
 use Rattle.lists.specs.Each.{tabulate}
@@ -16,11 +15,6 @@ use Rattle.model.specs.Lowering.{restingHelpers}
 use Rattle.file_parts.specs.Layout.{NUMBERS}
 use Rattle.file_parts.specs.Row.{rowIs, PartsFit}
 use Rattle.lowering_rows.specs.Macros.{Fit}
-
--- ---- whether a byte stands anywhere in bytes
-abbrev pub hasByte : ℕ → List ℕ → Bool
-hasByte b [] = false
-hasByte b (x ∷ xs) = cond (eqb x b) true (hasByte b xs)
 
 -- ---- the bytes of an M; for those of a U see lowering_sums, specs/Views
 abbrev pub modeBytes : ℕ × ℕ → List ℕ

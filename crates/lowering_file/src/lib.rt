@@ -3,14 +3,14 @@
 // A file that is refused has no lowered task. The writers run on output of length 0 first, where they only count, so that a refusal leaves the
 // output as it was; the actions come first there, since they say how large control is, whether there are holds, and where the sums of the goal begin.
 use file_actions::Effects;
-use file_actions::SumConditions;
 use file_parts::MARKS;
 use file_parts::NUMBERS;
 use lists::Written;
 use lowering_stages::Shape;
-use lowering_sums::WEIGHTS;
 use source_step::MODES;
+use source_step::NUMBERS as WEIGHTS;
 use source_step::VARIABLES;
+use source_sums::PLACES;
 ghost use mathlib.Core.Path.{_≡_};
 ghost use mathlib.Core.Bool.{true, cond};
 ghost use mathlib.Core.List.{[], _∷_, _++_, flatMap};
@@ -20,7 +20,7 @@ ghost use lib.IntN.{pos};
 ghost use Rattle.integers.specs.All.{All};
 ghost use Rattle.lists.specs.Writing.{Room, Wrote};
 ghost use Rattle.lists.specs.Written.{Lent};
-ghost use Rattle.commands.specs.Table.{letterG, letterK};
+ghost use Rattle.commands.specs.Table.{letterG};
 ghost use Rattle.commands.specs.Encoding.{encode};
 ghost use Rattle.commands.specs.declared.Command.the-variants.{End};
 ghost use Rattle.model.specs.Limits.{sourceLimits};
@@ -32,17 +32,18 @@ ghost use Rattle.model.specs.FourRelations.{inFour};
 ghost use Rattle.model.specs.Sums.{sumsOfSource, sumValues};
 ghost use Rattle.model.specs.Judging.{lowerBytes};
 ghost use Rattle.source_step.specs.Sizes.{VARIABLES, MODES, ACTIONS};
+ghost use Rattle.source_step.specs.Row.{ValuesNear, WeightsSmall};
 ghost use Rattle.source_step.specs.Accepted.{AcceptedWith};
+ghost use Rattle.source_sums.specs.Found.{taskOf, PlacesOf};
 ghost use Rattle.file_parts.specs.Layout.{MARKS, NUMBERS};
 ghost use Rattle.file_parts.specs.Row.{rowIs, PartsFit};
 ghost use Rattle.file_parts.specs.With.{withModeCondition};
-ghost use Rattle.file_actions.specs.Places.{goalFrom};
-ghost use Rattle.file_actions.specs.Views.{sumRoom, effectsIs, plainActionOf, SourceDecoded, SumsDecoded, fittingSource};
+ghost use Rattle.file_actions.specs.Views.{sumRoom, effectsIs, plainActionOf, SourceDecoded, fittingSource};
 ghost use Rattle.lowering_stages.specs.Stages.{PlacesFew};
-ghost use Rattle.lowering_sums.specs.Views.{WEIGHTS, sumsIn, startBytes, Fits, WeightsSmall, ValuesSmall};
+ghost use Rattle.lowering_sums.specs.Views.{sumsIn, startBytes, Fits};
 ghost use Rattle.lowering_rows.specs.Bytes.{rowBytes, WroteRows};
-ghost use Rattle.lowering_file.specs.Parts.{hasByte, modeBytes, modesIn, holdsOf, startsIn, GoalWritable};
-ghost use Rattle.lowering_file.specs.Held.{taskOf, Held, PlacesOf, SumsOf, kept, KeptOf, OwnPushed, Declares, GoalFrom, GoalOf, Told};
+ghost use Rattle.lowering_file.specs.Parts.{modeBytes, modesIn, holdsOf, startsIn, GoalWritable};
+ghost use Rattle.lowering_file.specs.Held.{Held, kept, KeptOf, OwnPushed, Declares, GoalFrom, GoalOf, Told};
 ghost use Rattle.lowering_file.specs.Held.{actionsPart, inFileOrder, actionsFirst, Acted};
 
 // What a file declares, by value.
@@ -51,9 +52,6 @@ struct Declarations {
     starts: [i64; VARIABLES],
     values: [u16; MODES],
 }
-
-// For the offsets of all actions of a source file, 32 at most, and of the goal behind them.
-const PLACES: usize = 33;
 
 // Where the actions of an accepted file with so many begin, and behind them its goal.
 fn find_places(file: &[u8], count: usize) -> [usize; PLACES]
@@ -85,66 +83,6 @@ fn decode_action(
     file_actions::decode_source(file_actions::part(file, start, end), marks, numbers)
 }
 
-// The K's of action k.
-fn action_sums(file: &[u8], places: &[usize; PLACES], count: usize, k: usize) -> SumConditions
-    requires { ⌜ PlacesOf (now file) count (now places) × (k < count) × (count ≤ ACTIONS) ⌝ }
-    ensures { λ r. ⌜ SumsDecoded (sumConditionsOf (decodeAction (actionPart (now (file .entry)) k))) r ⌝ }
-{
-    let start = places[k];
-    let next = k + 1;
-    let end = places[next];
-    file_actions::decode_sums(file_actions::part(file, start, end))
-}
-
-// The K's of the goal, which stands at this place.
-fn goal_sums(file: &[u8], place: usize) -> SumConditions
-    ensures { λ r. ⌜ SumsDecoded (sumConditionsOf (decodeAction (goalFrom (now (file .entry)) place))) r ⌝ }
-{
-    file_actions::decode_sums(file_actions::goal_from(file, place))
-}
-
-// Whether the byte of a K stands anywhere in a file. Where it does not, none of its commands is one.
-fn has_sum(file: &[u8]) -> bool
-    ensures { λ r. ⌜ r ≡ hasByte letterK (now (file .entry)) ⌝ }
-{
-    let mut seen = false;
-    let mut i: usize = 0;
-    while i < file.len() {
-        if file[i] == b'K' {
-            seen = true;
-        }
-        i += 1;
-    }
-    seen
-}
-
-// The sums of an accepted file with so many actions, those of the actions in order, then those of the goal: how many they are, and their weights
-// in a table of zeros. Where no byte of the file is a K's, there is none.
-fn find_sums(
-    file: &[u8],
-    places: &[usize; PLACES],
-    count: usize,
-    weights: &mut [i64; WEIGHTS],
-) -> usize
-    requires { ⌜ AcceptedWith (verdictOf sourceLimits (now file)) count × PlacesOf (now file) count (now places) × (now weights ≡ replicate WEIGHTS (pos 0)) ⌝ }
-    ensures { λ r. ⌜ SumsOf (now (file .entry)) r (now (weights .exit)) ⌝ }
-{
-    if !has_sum(file) {
-        return 0;
-    }
-    let mut sums: usize = 0;
-    let mut k: usize = 0;
-    while k < count {
-        let own = action_sums(file, places, count, k);
-        lowering_sums::put_weights(weights, sums, own);
-        sums += own.count;
-        k += 1;
-    }
-    let own = goal_sums(file, places[count]);
-    lowering_sums::put_weights(weights, sums, own);
-    sums + own.count
-}
-
 // To the rows of action k, in a task with so many K's in all, its own as C on the kept variables from `variable` on. How many they are.
 fn push_own(
     file: &[u8],
@@ -165,7 +103,7 @@ fn push_own(
     if sums == 0 {
         return 0;
     }
-    let own = action_sums(file, places, count, k);
+    let own = source_sums::action_sums(file, places, count, k);
     lowering_sums::push_sums(marks, numbers, variable, own);
     own.count as u8
 }
@@ -333,14 +271,14 @@ fn read_goal(
     if sums == 0 {
         return;
     }
-    let own = goal_sums(file, place);
+    let own = source_sums::goal_sums(file, place);
     lowering_sums::push_sums(marks, numbers, variable, own);
 }
 
 // The U of the first n of an array.
 fn put_declared_starts(out: &mut [u8], at: usize, n: usize, starts: &[i64; VARIABLES]) -> usize
     requires { ⌜ (n ≤ VARIABLES) × (length (now starts) ≡ VARIABLES) ⌝ }
-    requires { ⌜ ValuesSmall n (now starts) ⌝ }
+    requires { ⌜ ValuesNear n (now starts) ⌝ }
     requires { ⌜ Room (now out) at (flatMap startBytes (take n (now starts))) ⌝ }
     ensures { λ r. ⌜ Wrote (now (out .entry)) at (flatMap startBytes (take n (now (starts .entry)))) (now (out .exit)) r ⌝ }
 {
@@ -379,7 +317,7 @@ fn put_starts(
     weights: &[i64; WEIGHTS],
 ) -> usize
     requires { ⌜ (n ≤ VARIABLES) × (length (now starts) ≡ VARIABLES) ⌝ }
-    requires { ⌜ ValuesSmall n (now starts) × (sums ≤ sumRoom) × WeightsSmall (now weights) ⌝ }
+    requires { ⌜ ValuesNear n (now starts) × (sums ≤ sumRoom) × WeightsSmall (now weights) ⌝ }
     requires { ⌜ All Fits (sumValues (sumsIn sums (now weights)) (take n (now starts))) ⌝ }
     requires { ⌜ Room (now out) at (flatMap startBytes (startsIn n (now starts) several (sumsIn sums (now weights)))) ⌝ }
     ensures { λ r. ⌜ Wrote (now (out .entry)) at (flatMap startBytes (startsIn n (now (starts .entry)) several (sumsIn sums (now (weights .entry)))))
@@ -559,7 +497,7 @@ fn lower_accepted(file: &[u8], count: usize, out: &mut [u8]) -> Written
     let declared = read_declarations(file, count);
     let places = find_places(file, count);
     let mut weights = [0i64; WEIGHTS];
-    let sums = find_sums(file, &places, count, &mut weights);
+    let sums = source_sums::find_sums(file, &places, count, &mut weights);
     let shape = declared.shape;
     let first = first_kept(file, &places, count, shape.variables, sums);
     let mut marks = [0u16; MARKS];

@@ -24,7 +24,8 @@ use Rattle.lowering_stages.specs.declared.Shape.{Shape}
 use Rattle.lowering_stages.specs.Stages.{PlacesOk}
 use Rattle.lowering_stages.specs.Openings.{withOpening}
 use Rattle.lowering_stages.specs.Shapes.{lowerOf, upperOf, Bounded}
-use Rattle.lowering_sums.specs.Views.{mostAdded, WeightsSmall}
+use Rattle.source_step.specs.Row.{WeightsSmall}
+use Rattle.lowering_sums.specs.Views.{mostAdded}
 use Rattle.lowering_rows.specs.Bytes.{restrictedActionBytes, withKept}
 
 -- ---- constants and amounts fit the width of a file's

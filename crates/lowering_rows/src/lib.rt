@@ -19,7 +19,7 @@ use file_parts::NUMBERS;
 use lowering_stages::Shape;
 use lowering_stages::Stage;
 use lowering_sums::Added;
-use lowering_sums::WEIGHTS;
+use source_step::NUMBERS as WEIGHTS;
 ghost use mathlib.Core.Path.{_≡_};
 ghost use Prim.Native.Nat.{_≤_, _<_, _%_};
 ghost use mathlib.Core.Bool.{cond};

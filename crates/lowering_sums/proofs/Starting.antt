@@ -1,4 +1,4 @@
--- The U of each sum of the table, written sum by sum.
+-- The U of each sum of the row, written sum by sum.
 -- Assumes nothing.
 use mathlib.Core.Path.{_≡_, sym, ap, _∙_, subst}
 use mathlib.Core.List.{List, [], flatMap}
@@ -11,7 +11,8 @@ use Rattle.lists.proofs.Each.{flatMap-map, length-tabulate, getD-tabulate, take
 use Rattle.lists.proofs.Loops.{There, there-all}
 use Rattle.model.specs.Steps.{integerAt, weigh}
 use Rattle.model.specs.Sums.{sumValues}
-use Rattle.lowering_sums.specs.Views.{weightsIn, sumsIn, Fits, startBytes}
+use Rattle.source_step.specs.Row.{weightsIn}
+use Rattle.lowering_sums.specs.Views.{sumsIn, Fits, startBytes}
 use Rattle.lowering_sums.proofs.Own.{all-at}
 
 -- the U of one sum over values

@@ -1,12 +1,12 @@
-// The weighted sums that the conditions of a task measure, as a lent table of weights, and what R keeps of them, a variable for each: the U at
-// which it starts, the C on it that a K becomes, and how much a lowered action adds to it: weight × d for every d that the action adds.
+// What R keeps of the weighted sums that the conditions of a task measure, a variable for each: the U at which it starts, the C on it that a K
+// becomes, and how much a lowered action adds to it: weight × d for every d that the action adds. The weights are lent, in the row of the task's sums
+// (crate source_sums).
 //
 // It never reads a file and decodes no K. It knows no stage, and of a parts row only its C.
 use file_actions::SumConditions;
-use file_actions::TERMS;
-use file_actions::Term;
 use file_parts::MARKS;
 use file_parts::NUMBERS;
+use source_step::NUMBERS as WEIGHTS;
 use source_step::VARIABLES;
 ghost use mathlib.Core.Path.{_≡_};
 ghost use mathlib.Core.List.{flatMap};
@@ -15,18 +15,15 @@ ghost use lib.ListN.{length, take};
 ghost use lib.IntN.{natAbs, _+ℤ_, _*ℤ_};
 ghost use Rattle.integers.specs.All.{All};
 ghost use Rattle.lists.specs.Writing.{Room, Wrote};
-ghost use Rattle.model.specs.Steps.{integerAt, weigh};
+ghost use Rattle.model.specs.Steps.{weigh};
 ghost use Rattle.source_step.specs.Sizes.{VARIABLES};
+ghost use Rattle.source_step.specs.Row.{weightsIn, ValuesNear, WeightsSmall, mostWeight};
 ghost use Rattle.file_parts.specs.Layout.{NUMBERS};
 ghost use Rattle.file_parts.specs.Row.{rowIs, PartsFit, Says};
 ghost use Rattle.file_parts.specs.With.{withConditions};
-ghost use Rattle.file_actions.specs.Views.{sumRoom, termRoom, termsIs, sumTermsIs, sumsIs as conditionsIs};
+ghost use Rattle.file_actions.specs.Views.{sumRoom, sumsIs as conditionsIs};
 ghost use Rattle.model.specs.Sums.{onKept, amount, addedTo, sumValues};
-ghost use Rattle.lowering_sums.specs.Views.{weightsIn, sumsIn, Blank, TermSmall, OwnSmall, TermsPut, WeightsPut, ValuesSmall, WeightsSmall};
-ghost use Rattle.lowering_sums.specs.Views.{ADDED, addedIs, AddedSmall, mostAdded, mostWeight, mostPart, Fits, startBytes};
-
-// How long the table of weights is: of sum j the weight of variable v stands at VARIABLES × j + v, 0 where the sum has no such term.
-pub const WEIGHTS: usize = 32;
+ghost use Rattle.lowering_sums.specs.Views.{sumsIn, ADDED, addedIs, AddedSmall, mostAdded, mostPart, Fits, startBytes};
 
 // The most + that go with one another into the kept variables.
 pub const ADDED: usize = 4;
@@ -50,36 +47,6 @@ fn plus(z: i64, w: i64) -> i64
     ensures { λ r. ⌜ r ≡ z +ℤ w ⌝ }
 {
     z + w
-}
-
-// Into the table the weights of the first `count` terms, as sum j, of which it has none yet.
-fn put_terms(weights: &mut [i64; WEIGHTS], j: usize, count: usize, terms: [Term; TERMS])
-    requires { ⌜ (j < sumRoom) × («count» ≤ termRoom) × TermSmall «count» terms × Blank j (now weights) ⌝ }
-    ensures { λ _. ⌜ TermsPut j (termsIs «count» terms) (now (weights .entry)) (now (weights .exit)) ⌝ }
-{
-    let mut i: usize = 0;
-    while i < count {
-        let term = terms[i];
-        let weight = term.weight;
-        let at = VARIABLES * j + wide(term.variable);
-        weights[at] = plus(weights[at], weight);
-        i += 1;
-    }
-}
-
-// Into the table the weights of the K's of an action or of the goal, behind those of so many sums.
-pub fn put_weights(weights: &mut [i64; WEIGHTS], from: usize, own: SumConditions)
-    requires { ⌜ (from + own .count ≤ sumRoom) × OwnSmall own × Blank from (now weights) ⌝ }
-    ensures { λ _. ⌜ WeightsPut from (sumTermsIs own) (now (weights .entry)) (now (weights .exit)) ⌝ }
-{
-    let count = own.count;
-    let mut i: usize = 0;
-    while i < count {
-        let place = own.places[i];
-        let terms = place.terms;
-        put_terms(weights, from + i, place.term_count, terms);
-        i += 1;
-    }
 }
 
 // value × weight.
@@ -141,21 +108,6 @@ pub fn push_sums(
     }
 }
 
-// What sum j comes to over the values of n variables, where any other is 0.
-fn sum_of(values: &[i64; VARIABLES], n: usize, weights: &[i64; WEIGHTS], j: usize) -> i64
-    requires { ⌜ (n ≤ VARIABLES) × ValuesSmall n (now values) × (j < sumRoom) × WeightsSmall (now weights) ⌝ }
-    ensures { λ r. ⌜ (r ≡ weigh (weightsIn (now (weights .entry)) j) (integerAt (take n (now (values .entry))))) × (natAbs r ≤ VARIABLES * mostPart) ⌝ }
-{
-    let mut total: i64 = 0;
-    let mut v: usize = 0;
-    while v < n {
-        let part = product(values[v], weights[VARIABLES * j + v]);
-        total = plus(total, part);
-        v += 1;
-    }
-    total
-}
-
 // The U of so many sums, where n variables start at the first of these values.
 pub fn put_sum_starts(
     out: &mut [u8],
@@ -165,7 +117,7 @@ pub fn put_sum_starts(
     sums: usize,
     weights: &[i64; WEIGHTS],
 ) -> usize
-    requires { ⌜ (n ≤ VARIABLES) × ValuesSmall n (now starts) × (sums ≤ sumRoom) × WeightsSmall (now weights) ⌝ }
+    requires { ⌜ (n ≤ VARIABLES) × ValuesNear n (now starts) × (sums ≤ sumRoom) × WeightsSmall (now weights) ⌝ }
     requires { ⌜ All Fits (sumValues (sumsIn sums (now weights)) (take n (now starts))) ⌝ }
     requires { ⌜ Room (now out) at (flatMap startBytes (sumValues (sumsIn sums (now weights)) (take n (now starts)))) ⌝ }
     ensures { λ r. ⌜ Wrote (now (out .entry)) at (flatMap startBytes (sumValues (sumsIn sums (now (weights .entry))) (take n (now (starts .entry)))))
@@ -174,7 +126,7 @@ pub fn put_sum_starts(
     let mut place = at;
     let mut j: usize = 0;
     while j < sums {
-        let start = sum_of(starts, n, weights, j);
+        let start = source_step::sum_of(starts, n, weights, j);
         let bits = integers::bits(start);
         place = commands::put_start(out, place, bits);
         j += 1;

@@ -8,10 +8,10 @@ use plan_strokes::STAGES;
 use source_step::MARKS;
 use source_step::MODES;
 use source_step::NUMBERS;
+use source_step::ROWS;
 use source_step::VARIABLES;
 use source_walk::MOST_STEPS;
 use source_walk::Opened;
-use source_walk::ROWS;
 use source_walk::Verdict;
 ghost use mathlib.Core.Path.{_≡_};
 ghost use mathlib.Core.Bool.{true};
@@ -24,7 +24,7 @@ ghost use Rattle.model.specs.Judging.{expandBytes};
 ghost use Rattle.model.specs.Plans.{planBytes, planNumbers};
 ghost use Rattle.model.specs.Steps.{integerAt};
 ghost use Rattle.source_step.specs.Step.{state};
-ghost use Rattle.source_step.specs.Row.{effectsAt, held, Usable};
+ghost use Rattle.source_step.specs.Row.{effectsAt, KeepOrSet, Reads};
 ghost use Rattle.source_step.specs.Table.{table, Usables};
 ghost use Rattle.plan_strokes.specs.Strokes.{strokesOf, stepNumbers};
 ghost use Rattle.plan_expand.specs.Expanding.{lengthOf, openingIn, OpeningsFew, Named, TurnTaken, goesBy, expansionBy, Expandable, ExpandedTo};
@@ -59,9 +59,8 @@ fn put_turn(
     values: &mut [i64; VARIABLES],
     modes: &mut [u16; MODES],
 ) -> usize
-    requires { ⌜ (opening ≤ 65000) × (n ≤ VARIABLES) × (m ≤ MODES) × (length (now modes) ≡ MODES) × (length (now times) ≡ STAGES)
-        × Usable n (now marks) (now numbers) ⌝ }
-    requires { ⌜ held n m (now marks) (now numbers) (now values) (now modes) ≡ true ⌝ }
+    requires { ⌜ (opening ≤ 65000) × (n ≤ VARIABLES) × (m ≤ MODES) × (length (now modes) ≡ MODES) × (length (now times) ≡ STAGES) ⌝ }
+    requires { ⌜ KeepOrSet (now marks) × Reads n (now values) (now marks) (now numbers) ⌝ }
     requires { ⌜ Room (now out) at (planBytes (stepNumbers opening (strokesOf (effectsAt (now marks) (now numbers)) (integerAt (take n (now values)))))) ⌝ }
     ensures { λ r. ⌜ Wrote (now (out .entry)) at (planBytes (stepNumbers opening
         (strokesOf (effectsAt (now (marks .entry)) (now (numbers .entry))) (integerAt (take n (now (values .entry)))))))

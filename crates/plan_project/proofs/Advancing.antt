@@ -88,9 +88,9 @@ pub one-number : (opening : ℕ) → stepNumbers opening [] ≡ opening ∷ []
 unfolding macroSteps
 one-number opening = refl
 
-module _ (n m : ℕ) (marks : List ℕ) (numbers values : List ℤ) (modes : List ℕ) (total i : ℕ) (q : List ℕ) (opening : ℕ) where
+module _ (n m : ℕ) (marks : List ℕ) (numbers sums values : List ℤ) (modes : List ℕ) (total i : ℕ) (q : List ℕ) (opening : ℕ) where
   abbrev ns : List ℕ
-  ns = numbersAt n m marks numbers values modes opening
+  ns = numbersAt n m marks numbers sums values modes opening
 
   abbrev zs : List ℤ
   zs = strokesOf (effectsAt marks numbers) (integerAt (take n values))
@@ -100,13 +100,15 @@ module _ (n m : ℕ) (marks : List ℕ) (numbers values : List ℤ) (modes : Lis
   walked = strokesWalked (length zs) (effectCountAt marks) (firstOutside n marks numbers values)
 
   abbrev AdvancedTo : Next → List ℤ → List ℕ → Type 0
-  AdvancedTo r values′ modes′ = Advanced n m marks numbers values modes total i q opening r values′ modes′
+  AdvancedTo r values′ modes′ = Advanced n m marks numbers sums values modes total i q opening r values′ modes′
 
-  not-opened : opensAt n m marks numbers values modes ≡ false → Answers (Refused 12 i) q (turned n m marks numbers values modes total i q opening false)
+  not-opened : opensAt n m marks numbers sums values modes ≡ false
+      → Answers (Refused 12 i) q (turned n m marks numbers sums values modes total i q opening false)
   not-opened e onward = rw e refl
 
   -- an action that stays one: its number is its opening, which stands there
-  module _ (single : MacroIs marks false) {b : Bool} {values′ : List ℤ} {modes′ : List ℕ} (S : Stepped n m marks numbers values modes b values′ modes′) where
+  module _ (single : MacroIs marks false) {b : Bool} {values′ : List ℤ} {modes′ : List ℕ}
+      (S : Stepped n m marks numbers sums values modes b values′ modes′) where
     pub one-taken : opening ≡ getD q i 0 → i < length q → b ≡ true → AdvancedTo (At (i + 1)) values′ modes′
     one-taken is h e = record { applied = b; stepped = S; answers = λ onward. rw e (sym (passed onward)); further = (e, omega arith, omega arith) }
       where
@@ -126,14 +128,14 @@ module _ (n m : ℕ) (marks : List ℕ) (numbers values : List ℤ) (modes : Lis
 
   -- an action that becomes a macro: its rows' test fails
   module _ (several : MacroIs marks true) where
-    opens-so : opensAt n m marks numbers values modes ≡ held n m marks numbers values modes
+    opens-so : opensAt n m marks numbers sums values modes ≡ held n m marks numbers sums values modes
     opens-so = rw (several .is numbers) refl
 
-    pub macro-refused : held n m marks numbers values modes ≡ false → AdvancedTo (Refused 12 i) values modes
-    macro-refused e = record { applied = false; stepped = not-held e; answers = not-opened (opens-so ∙ e); further = tt }
+    pub macro-refused : held n m marks numbers sums values modes ≡ false → AdvancedTo (Refused 12 i) values modes
+    macro-refused e = record { applied = false; stepped = not-held sums e; answers = not-opened (opens-so ∙ e); further = tt }
 
     -- or it passes, and its numbers were compared with the plan
-    module _ (h : held n m marks numbers values modes ≡ true) {matched : ℕ}
+    module _ (h : held n m marks numbers sums values modes ≡ true) {matched : ℕ}
         (is : matched ≡ agreeing ns (drop i q)) {b : Bool} {values′ : List ℤ} {modes′ : List ℕ}
         (F : Finished n m marks numbers values modes b values′ modes′) where
       pub macro-past : {r : Next} {size : ℕ} → b ≡ true → size ≡ length ns → Answers r q (pastAt total i matched size q) → Further true i q r
@@ -141,7 +143,7 @@ module _ (n m : ℕ) (marks : List ℕ) (numbers values : List ℤ) (modes : Lis
       macro-past {r} {size} e sized a f =
           record {
             applied = b;
-            stepped = behind-the-test h F;
+            stepped = behind-the-test sums h F;
             answers = λ onward. a onward ∙ rw e (sym (same onward));
             further = subst (λ (d : Bool). Further d i q r) (sym e) f;
           }
@@ -159,7 +161,7 @@ module _ (n m : ℕ) (marks : List ℕ) (numbers values : List ℤ) (modes : Lis
       macro-into {r} {size} e sized a f =
           record {
             applied = b;
-            stepped = behind-the-test h F;
+            stepped = behind-the-test sums h F;
             answers = λ onward. a onward ∙ rw (e, opens-so, h) (sym same);
             further = subst (λ (d : Bool). Further d i q r) (sym e) f;
           }
@@ -170,7 +172,7 @@ module _ (n m : ℕ) (marks : List ℕ) (numbers values : List ℤ) (modes : Lis
           size₀ : ℕ
           size₀ = priceOfStrokes (take walked zs)
 
-          same : intoMacro total (deadEndAt n m marks numbers values modes opening) i (drop i q) ≡ intoAt total i matched size q
+          same : intoMacro total (deadEndAt n m marks numbers sums values modes opening) i (drop i q) ≡ intoAt total i matched size q
           same =
               ap (λ (d : ℕ). into d (drop d (drop i q))) (agreeing-with-some (size₀ - 1) ns (drop i q))
               ∙ ap (into (min (agreeing ns (drop i q)) (size₀ - 1))) (drop-drop (min (agreeing ns (drop i q)) (size₀ - 1)) i q)

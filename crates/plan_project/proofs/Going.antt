@@ -16,7 +16,7 @@ use Rattle.model.specs.Tasks.{State}
 use Rattle.source_step.specs.Step.{state}
 use Rattle.source_walk.proofs.Loop.{long-after}
 use Rattle.source_step.specs.Row.{modesAfter}
-use Rattle.source_step.specs.Ready.{marksOf, numbersOf}
+use Rattle.source_step.specs.Ready.{marksOf, numbersOf, sumsOf}
 use Rattle.source_step.specs.Table.{Table, takesBy, goalBy, Usables}
 use Rattle.plan_project.specs.declared.Next.{Next}
 use Rattle.plan_project.specs.declared.Next.the-variants.{At, Refused}
@@ -121,18 +121,20 @@ module _ {T : Table} {total : ℕ} {sources q : List ℕ} {x₀ : State} {values
       pub number-small : k ≤ 65000
       number-small = let f = fits in omega (arith, small-entry sources k (omega arith))
 
-      pub rows-here : (a < length (T .marks)) × (a < length (T .numbers))
-      rows-here = (omega (arith, fits, U .marksLong), omega (arith, fits, U .numbersLong))
+      pub rows-here : (a < length (T .marks)) × (a < length (T .numbers)) × (33 < length (T .numbers))
+      rows-here = (omega (arith, fits, U .marksLong), omega (arith, fits, U .numbersLong), omega (arith, U .numbersLong))
 
       opens-it : sourceIn sources k ≡ some a
       opens-it = its-source sources k e fits
 
       module _ {r : Next} {values′ : List ℤ} {modes′ : List ℕ}
-          (A : Advanced (T .variables) (T .modes) (marksOf (T .marks) a) (numbersOf (T .numbers) a) values modes total i q k r values′ modes′) where
+          (A : Advanced (T .variables) (T .modes) (marksOf (T .marks) a) (numbersOf (T .numbers) a) (sumsOf (T .numbers)) values modes
+          total i q k r values′ modes′) where
         abbrev after : (opening : ℕ → ℕ) → OpenedBy opening sources → ℕ → List ℕ → Answer (List ℕ)
         after opening O = Behind T total sources opening O q i k is h x a opens-it l (A .stepped)
 
-        turned : (opening : ℕ → ℕ) (O : OpenedBy opening sources) → projectBy T total sources opening (length q) i (drop i q) x ≡ goesOn r q (after opening O)
+        turned : (opening : ℕ → ℕ) (O : OpenedBy opening sources)
+            → projectBy T total sources opening (length q) i (drop i q) x ≡ goesOn r q (after opening O)
         turned opening O = turns T total sources opening O q i k is h x a opens-it l (A .stepped) ∙ sym (A .answers (after opening O))
 
         pub stopped : {number place : ℕ} → r ≡ Refused number place → PlanFollowed T total sources q x₀ (Stopped number place) (state values′ modes′) noted

@@ -18,7 +18,7 @@ use Rattle.model.specs.Following.{ifAny, strayed, pastMacro, intoMacro, project
 use Rattle.model.proofs.FollowingBound.{bounds-agree}
 use Rattle.source_step.specs.Step.{state}
 use Rattle.source_step.specs.Row.{Stepped}
-use Rattle.source_step.specs.Ready.{marksOf, numbersOf}
+use Rattle.source_step.specs.Ready.{marksOf, numbersOf, sumsOf}
 use Rattle.source_step.specs.Table.{Table, takesBy, afterBy, stepBy, goalBy}
 use Rattle.plan_project.specs.Sources.{entryAt, sourceIn, Below, OpenedBy}
 use Rattle.plan_project.specs.Following.{strayedAt, turned, stepIn, opensIn, numbersIn, deadEndIn, projectBy}
@@ -64,7 +64,8 @@ module _ (T : Table) (total : ℕ) (sources : List ℕ) (opening : ℕ → ℕ) 
   at-a-number most i k rest x = refl
 
   -- any bound will do that is no less than the length of the plan
-  pub bounds : (most more i : ℕ) (q : List ℕ) (x : State) → length q ≤ most → length q ≤ more → projectBy T total sources opening most i q x ≡ projectBy T total sources opening more i q x
+  pub bounds : (most more i : ℕ) (q : List ℕ) (x : State) → length q ≤ most → length q ≤ more
+      → projectBy T total sources opening most i q x ≡ projectBy T total sources opening more i q x
   bounds = bounds-agree total (stepIn T) (goalBy T) (sourceIn sources) (numbersIn T opening) (deadEndIn T opening) (opensIn T) (λ s a. omega arith)
 
   module _ (q : List ℕ) (i k : ℕ) (is : k ≡ getD q i 0) (h : i < length q) (x : State) where
@@ -82,7 +83,7 @@ module _ (T : Table) (total : ℕ) (sources : List ℕ) (opening : ℕ → ℕ) 
 
 -- ---- the source action at a place
 step-is : (T : Table) (x : State) (a : ℕ) {b : Bool} {values′ : List ℤ} {modes′ : List ℕ}
-    → Stepped (T .variables) (T .modes) (marksOf (T .marks) a) (numbersOf (T .numbers) a) (x .values) (x .modes) b values′ modes′
+    → Stepped (T .variables) (T .modes) (marksOf (T .marks) a) (numbersOf (T .numbers) a) (sumsOf (T .numbers)) (x .values) (x .modes) b values′ modes′
     → stepBy T x a ≡ provided b (state values′ modes′)
 step-is T x a S = rw (S .is, S .valuesAre, S .modesAre) (there (takesBy T x a))
   where
@@ -97,11 +98,13 @@ any-provided false y f z = refl
 module _ (T : Table) (total : ℕ) (sources : List ℕ) (opening : ℕ → ℕ) (O : OpenedBy opening sources) (q : List ℕ) (i k : ℕ) (is : k ≡ getD q i 0)
     (h : i < length q) (x : State)
     (a : ℕ) (e : sourceIn sources k ≡ some a) (l : a < T .count) {b : Bool} {values′ : List ℤ} {modes′ : List ℕ}
-    (S : Stepped (T .variables) (T .modes) (marksOf (T .marks) a) (numbersOf (T .numbers) a) (x .values) (x .modes) b values′ modes′) where
-  abbrev pub Behind : ℕ → List ℕ → Answer (List ℕ)
-  Behind j later = then (projectBy T total sources opening (length (drop (suc i) q)) j later (state values′ modes′)) (λ p. given (a ∷ p))
+    (S : Stepped (T .variables) (T .modes) (marksOf (T .marks) a) (numbersOf (T .numbers) a) (sumsOf (T .numbers)) (x .values) (x .modes) b values′ modes′)
+  where
+    abbrev pub Behind : ℕ → List ℕ → Answer (List ℕ)
+    Behind j later = then (projectBy T total sources opening (length (drop (suc i) q)) j later (state values′ modes′)) (λ p. given (a ∷ p))
 
-  -- it was tried, and its numbers are those of its strokes
-  pub turns : projectBy T total sources opening (length q) i (drop i q) x
-      ≡ turned (T .variables) (T .modes) (marksOf (T .marks) a) (numbersOf (T .numbers) a) (x .values) (x .modes) total i q k b Behind
-  turns = here T total sources opening q i k is h x ∙ rw (e, lt-ltb a (T .count) l, step-is T x a S, O k a e) (any-provided b (state values′ modes′) _ _)
+    -- it was tried, and its numbers are those of its strokes
+    pub turns : projectBy T total sources opening (length q) i (drop i q) x
+        ≡ turned (T .variables) (T .modes) (marksOf (T .marks) a) (numbersOf (T .numbers) a) (sumsOf (T .numbers)) (x .values) (x .modes)
+        total i q k b Behind
+    turns = here T total sources opening q i k is h x ∙ rw (e, lt-ltb a (T .count) l, step-is T x a S, O k a e) (any-provided b (state values′ modes′) _ _)

@@ -14,7 +14,7 @@ use Rattle.model.specs.Tasks.{State}
 use Rattle.model.specs.Steps.{integerAt}
 use Rattle.model.specs.Following.{strayed, makesMacro, pastMacro, intoMacro, projectOver}
 use Rattle.source_step.specs.Row.{effectCountAt, effectsAt, firstOutside, held, Stepped}
-use Rattle.source_step.specs.Ready.{marksOf, numbersOf}
+use Rattle.source_step.specs.Ready.{marksOf, numbersOf, sumsOf}
 use Rattle.source_step.specs.Table.{Table, heldBy, stepBy, goalBy, effectsBy, valuesBy}
 use Rattle.plan_strokes.specs.Strokes.{strokesOf, stepNumbers, priceOfStrokes}
 use Rattle.plan_project.specs.Sources.{sourceIn, OpenedBy}
@@ -60,10 +60,10 @@ abbrev pub deadEndWalk : ℕ → ℕ → ℕ → List ℤ → List ℕ
 deadEndWalk opening effects first zs = take (priceOfStrokes (take (strokesWalked (length zs) effects first) zs) - 1) (stepNumbers opening zs)
 
 -- ---- the action of two rows, in a state
-module _ (n m : ℕ) (marks : List ℕ) (numbers : List ℤ) (values : List ℤ) (modes : List ℕ) where
+module _ (n m : ℕ) (marks : List ℕ) (numbers sums values : List ℤ) (modes : List ℕ) where
   -- it becomes a macro, and its opening applies
   abbrev pub opensAt : Bool
-  opensAt = makesMacro (effectsAt marks numbers) && held n m marks numbers values modes
+  opensAt = makesMacro (effectsAt marks numbers) && held n m marks numbers sums values modes
 
   -- the numbers that it becomes, from that of its opening
   abbrev pub numbersAt : ℕ → List ℕ
@@ -83,7 +83,7 @@ module _ (n m : ℕ) (marks : List ℕ) (numbers : List ℤ) (values : List ℤ)
   -- it was taken there, and the plan compared with its numbers
   pub record Advanced (total i : ℕ) (q : List ℕ) (opening : ℕ) (r : Next) (values′ : List ℤ) (modes′ : List ℕ) : Type 0 where
     pub applied : Bool
-    pub stepped : Stepped n m marks numbers values modes applied values′ modes′
+    pub stepped : Stepped n m marks numbers sums values modes applied values′ modes′
     pub answers : Answers r q (turned total i q opening applied)
     pub further : Further applied i q r
 
@@ -101,7 +101,8 @@ module _ (T : Table) where
 
   -- and those up to where it hangs
   abbrev pub deadEndIn : (ℕ → ℕ) → State → ℕ → List ℕ
-  deadEndIn opening x k = deadEndAt (T .variables) (T .modes) (marksOf (T .marks) k) (numbersOf (T .numbers) k) (x .values) (x .modes) (opening k)
+  deadEndIn opening x k =
+      deadEndAt (T .variables) (T .modes) (marksOf (T .marks) k) (numbersOf (T .numbers) k) (sumsOf (T .numbers)) (x .values) (x .modes) (opening k)
 
   -- what a plan projects to by them from step i on, in state x; the restricted task has `total` actions
   abbrev pub projectBy : ℕ → List ℕ → (ℕ → ℕ) → ℕ → ℕ → List ℕ → State → Answer (List ℕ)

@@ -9,9 +9,10 @@ use plan_strokes::STAGES;
 use source_step::MARKS;
 use source_step::MODES;
 use source_step::NUMBERS;
+use source_step::ROWS;
+use source_step::SUMS_ROW;
 use source_step::VARIABLES;
 use source_walk::Opened;
-use source_walk::ROWS;
 ghost use mathlib.Core.Path.{_≡_};
 ghost use mathlib.Core.Bool.{true, false};
 ghost use Prim.Native.Nat.{_+_, _*_, _≤_, _<_};
@@ -151,17 +152,19 @@ fn advance_macro(
     m: usize,
     marks: &[u16; MARKS],
     numbers: &[i64; NUMBERS],
+    sums: &[i64; NUMBERS],
     values: &mut [i64; VARIABLES],
     modes: &mut [u16; MODES],
     times: &mut [i64; STAGES],
 ) -> Next
-    requires { ⌜ (n ≤ VARIABLES) × (m ≤ MODES) × (length (now modes) ≡ MODES) × (length (now times) ≡ STAGES) × Usable n (now marks) (now numbers) ⌝ }
+    requires { ⌜ (n ≤ VARIABLES) × (m ≤ MODES) × (length (now modes) ≡ MODES) × (length (now times) ≡ STAGES) ⌝ }
+    requires { ⌜ Usable n (now marks) (now numbers) (now sums) ⌝ }
     requires { ⌜ MacroIs (now marks) true × (steps ≡ length (planNumbers (now plan))) × (at < steps) × (opening ≤ 65000) ⌝ }
-    ensures { λ r. ⌜ Advanced n m (now (marks .entry)) (now (numbers .entry)) (now (values .entry)) (now (modes .entry))
+    ensures { λ r. ⌜ Advanced n m (now (marks .entry)) (now (numbers .entry)) (now (sums .entry)) (now (values .entry)) (now (modes .entry))
         total at (planNumbers (now (plan .entry))) opening r (now (values .exit)) (now (modes .exit)) ⌝ }
     ensures { λ r. ⌜ length (now (times .exit)) ≡ STAGES ⌝ }
 {
-    if !source_step::holds(values, modes, n, m, marks, numbers) {
+    if !source_step::holds(values, modes, n, m, marks, numbers, sums) {
         return Next::Refused(12, at as u64);
     }
     let mut results = [0i64; EFFECTS];
@@ -189,18 +192,20 @@ fn advance(
     m: usize,
     marks: &[u16; MARKS],
     numbers: &[i64; NUMBERS],
+    sums: &[i64; NUMBERS],
     values: &mut [i64; VARIABLES],
     modes: &mut [u16; MODES],
     times: &mut [i64; STAGES],
 ) -> Next
-    requires { ⌜ (n ≤ VARIABLES) × (m ≤ MODES) × (length (now modes) ≡ MODES) × (length (now times) ≡ STAGES) × Usable n (now marks) (now numbers) ⌝ }
+    requires { ⌜ (n ≤ VARIABLES) × (m ≤ MODES) × (length (now modes) ≡ MODES) × (length (now times) ≡ STAGES) ⌝ }
+    requires { ⌜ Usable n (now marks) (now numbers) (now sums) ⌝ }
     requires { ⌜ (steps ≡ length (planNumbers (now plan))) × (at < steps) × (opening ≤ 65000) × (opening ≡ getD (planNumbers (now plan)) at 0) ⌝ }
-    ensures { λ r. ⌜ Advanced n m (now (marks .entry)) (now (numbers .entry)) (now (values .entry)) (now (modes .entry))
+    ensures { λ r. ⌜ Advanced n m (now (marks .entry)) (now (numbers .entry)) (now (sums .entry)) (now (values .entry)) (now (modes .entry))
         total at (planNumbers (now (plan .entry))) opening r (now (values .exit)) (now (modes .exit)) ⌝ }
     ensures { λ r. ⌜ length (now (times .exit)) ≡ STAGES ⌝ }
 {
     if !plan_strokes::makes_macro(marks) {
-        if source_step::take_single(values, modes, n, m, marks, numbers) {
+        if source_step::take_single(values, modes, n, m, marks, numbers, sums) {
             return Next::At(at + 1);
         }
         return Next::Refused(12, at as u64);
@@ -215,6 +220,7 @@ fn advance(
         m,
         marks,
         numbers,
+        sums,
         values,
         modes,
         times,
@@ -278,6 +284,7 @@ fn follow(
             m,
             &marks[k],
             &numbers[k],
+            &numbers[SUMS_ROW],
             values,
             modes,
             &mut times,
@@ -333,7 +340,15 @@ fn follow_to_goal(
     match followed {
         Followed::Stopped(number, place) => Followed::Stopped(number, place),
         Followed::Ended(found) => {
-            if source_step::holds(values, modes, n, m, &marks[count], &numbers[count]) {
+            if source_step::holds(
+                values,
+                modes,
+                n,
+                m,
+                &marks[count],
+                &numbers[count],
+                &numbers[SUMS_ROW],
+            ) {
                 return Followed::Ended(found);
             }
             Followed::Stopped(13, steps as u64)

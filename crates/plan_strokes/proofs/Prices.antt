@@ -77,26 +77,30 @@ module _ {times : List ℤ} {count price i : ℕ} (g : Pricing times count price
   pricing-end h = let r = ap stepsOf (rest-none {i = i} (g .here) (g .bound) h) in omega (arith, r, g .same)
 
 -- ---- a step: it was not taken, or priced and finished
-module _ {n m : ℕ} {marks : List ℕ} {numbers : List ℤ} {values : List ℤ} {modes : List ℕ} where
-  pub turned-away : held n m marks numbers values modes ≡ false → Turned n m marks numbers values modes (record { applied = false; price = 0 }) values modes
-  turned-away e = record { stepped = not-held e; price = rw e refl; few = omega arith }
+module _ {n m : ℕ} {marks : List ℕ} {numbers sums values : List ℤ} {modes : List ℕ} where
+  pub turned-away : held n m marks numbers sums values modes ≡ false
+      → Turned n m marks numbers sums values modes (record { applied = false; price = 0 }) values modes
+  turned-away e = record { stepped = not-held sums e; price = rw e refl; few = omega arith }
 
-  pub turned-single : held n m marks numbers values modes ≡ true → MacroIs marks false → (r : Bool) {values′ : List ℤ} {modes′ : List ℕ}
-      → Finished n m marks numbers values modes r values′ modes′ → Turned n m marks numbers values modes (record { applied = r; price = 1 }) values′ modes′
+  pub turned-single : held n m marks numbers sums values modes ≡ true → MacroIs marks false → (r : Bool) {values′ : List ℤ} {modes′ : List ℕ}
+      → Finished n m marks numbers values modes r values′ modes′
+      → Turned n m marks numbers sums values modes (record { applied = r; price = 1 }) values′ modes′
   turned-single e s r F =
       let es = effectsAt marks numbers in
       let v = integerAt (take n values) in
       record {
-        stepped = behind-the-test e F;
+        stepped = behind-the-test sums e F;
         price = rw e (sym (price-is es v ∙ ap priceOfStrokes (no-strokes es v (s .is numbers))));
         few = omega arith;
       }
 
-  pub turned : held n m marks numbers values modes ≡ true → {times results : List ℤ} {count : ℕ} → StrokesMade n marks numbers values times results count
+  pub turned : held n m marks numbers sums values modes ≡ true → {times results : List ℤ} {count : ℕ}
+      → StrokesMade n marks numbers values times results count
       → (p : ℕ) → (p ≡ priceOfStrokes (take count times)) × (p ≤ 40000000000) → (r : Bool) {values′ : List ℤ} {modes′ : List ℕ}
-      → Finished n m marks numbers values modes r values′ modes′ → Turned n m marks numbers values modes (record { applied = r; price = p }) values′ modes′
+      → Finished n m marks numbers values modes r values′ modes′
+      → Turned n m marks numbers sums values modes (record { applied = r; price = p }) values′ modes′
   turned e s p q r F = record {
-    stepped = behind-the-test e F;
+    stepped = behind-the-test sums e F;
     price = rw e (q .0 ∙ ap priceOfStrokes (s .listed .is) ∙ sym (price-is _ _));
     few = q .1;
   }

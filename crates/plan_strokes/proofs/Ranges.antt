@@ -88,13 +88,13 @@ module _ {n : ℕ} {values : List ℤ} {marks : List ℕ} {numbers : List ℤ} (
     y = v (operandAt marks e)
 
     constant-near : natAbs c ≤ 10_000
-    constant-near = h .usable .constants e (omega arith)
+    constant-near = h .effects .constants e (omega arith)
 
     quotient-within : Within 1000000000 (quotientOf y c)
     quotient-within = record { within = omega (arith, quotient-small y c, h .near (operandAt marks e)) }
 
     residue-within : 2 ≤ kindAt marks e → Within 1000000000 (residueOf y c)
-    residue-within k = record { within = omega (arith, residue-small y c (h .usable .divides e l k), constant-near) }
+    residue-within k = record { within = omega (arith, residue-small y c (h .effects .divides e l k), constant-near) }
 
     divided-within : (z : ℤ) → Within 1000000000 z → EachWithin 1000000000 (y ∷ y ∷ floor y (unitLess c) ∷ z ∷ [])
     divided-within z w =
@@ -111,7 +111,7 @@ module _ {n : ℕ} {values : List ℤ} {marks : List ℕ} {numbers : List ℤ} (
             arith,
             constant-near,
             linear-within (termCountAt marks e) (λ i. (variableAt marks e i, weightAt numbers e i)) v c (h .near)
-                (λ i m. h .usable .weights e i (omega arith) (omega arith)),
+                (λ i m. h .effects .weights e i (omega arith) (omega arith)),
           );
         })
         (λ k. quotient-within)

@@ -63,8 +63,8 @@ pub record RunOf (first : ℕ) (z : ℤ) (r : Run) : Type 0 where
   pub many : r .count ≡ natAbs z
 
 -- a step by rows was taken, and priced where their test holds
-pub record Turned (n m : ℕ) (marks : List ℕ) (numbers : List ℤ) (values : List ℤ) (modes : List ℕ) (r : Turn) (values′ : List ℤ)
+pub record Turned (n m : ℕ) (marks : List ℕ) (numbers sums values : List ℤ) (modes : List ℕ) (r : Turn) (values′ : List ℤ)
     (modes′ : List ℕ) : Type 0 where
-  pub stepped : Stepped n m marks numbers values modes (r .applied) values′ modes′
-  pub price : r .price ≡ cond (held n m marks numbers values modes) (priceOfEffects (effectsAt marks numbers) (integerAt (take n values))) 0
+  pub stepped : Stepped n m marks numbers sums values modes (r .applied) values′ modes′
+  pub price : r .price ≡ cond (held n m marks numbers sums values modes) (priceOfEffects (effectsAt marks numbers) (integerAt (take n values))) 0
   pub few : r .price ≤ 40_000_000_000

@@ -299,14 +299,16 @@ pub fn take_priced(
     m: usize,
     marks: &[u16; MARKS],
     numbers: &[i64; NUMBERS],
+    sums: &[i64; NUMBERS],
     times: &mut [i64; STAGES],
 ) -> Turn
-    requires { ⌜ (n ≤ VARIABLES) × (m ≤ MODES) × (length (now modes) ≡ MODES) × (length (now times) ≡ STAGES) × Usable n (now marks) (now numbers) ⌝ }
-    ensures { λ r. ⌜ Turned n m (now (marks .entry)) (now (numbers .entry)) (now (values .entry)) (now (modes .entry)) r
+    requires { ⌜ (n ≤ VARIABLES) × (m ≤ MODES) × (length (now modes) ≡ MODES) × (length (now times) ≡ STAGES) ⌝ }
+    requires { ⌜ Usable n (now marks) (now numbers) (now sums) ⌝ }
+    ensures { λ r. ⌜ Turned n m (now (marks .entry)) (now (numbers .entry)) (now (sums .entry)) (now (values .entry)) (now (modes .entry)) r
         (now (values .exit)) (now (modes .exit)) ⌝ }
     ensures { λ r. ⌜ length (now (times .exit)) ≡ STAGES ⌝ }
 {
-    if !source_step::holds(values, modes, n, m, marks, numbers) {
+    if !source_step::holds(values, modes, n, m, marks, numbers, sums) {
         return Turn {
             applied: false,
             price: 0,

@@ -5,6 +5,7 @@ use Prim.Native.Nat.{ℕ, zero, suc, min, _+_, _*_, _≤_, _<_}
 use native.Mathlib.Omega.{arith}
 use native.Mathlib.Decide.{ℕ-discrete}
 use mathlib.Core.Bool.{Bool, true, false}
+use mathlib.Core.Logic.{_≢_}
 use mathlib.Core.List.{List, [], _∷_, map}
 use lib.Dec.{ltb}
 use lib.ListN.{length, length-map, length-set, getD, take, set, List·getD-map}
@@ -17,10 +18,10 @@ use Rattle.lists.proofs.Each.{length-tabulate, getD-tabulate}
 use Rattle.model.specs.Tasks.{Effect, addEffect}
 use Rattle.model.specs.Steps.{integerAt, naturalAt}
 use Rattle.source_step.specs.Sizes.{EFFECTS}
-use Rattle.source_step.specs.Layout.{BLOCK, MANY, KIND, TARGET, OPERAND, COUNT, TERM, CONSTANT, WEIGHT, LOWER, UPPER}
+use Rattle.source_step.specs.Layout.{BLOCK, MANY, KIND, TARGET, OPERAND, COUNT, TERM, sumFirst, CONSTANT, WEIGHT, LOWER, UPPER}
 use Rattle.source_step.specs.Row.{effectCountAt, kindAt, targetAt, operandAt, termCountAt, constantAt, variableAt, weightAt, termsAt, effectAt, effectsAt}
 use Rattle.source_step.proofs.Sound.{tabulate-same}
-use Rattle.source_ready.specs.Made.{BlankFrom, Bounded, BlockIs, EffectPut, EffectsAre, EffectsPut}
+use Rattle.source_ready.specs.Made.{BlankFrom, Bounded, BlockIs, EffectPut, EffectsPut}
 
 abbrev effectOf : List Effect → ℕ → Effect
 effectOf fs e = getD fs e (addEffect 0 (pos 0))
@@ -44,13 +45,13 @@ module _ {A B : Type 0} (says : A → B) (d : A) (count : ℕ) (places : List A)
   said-of P h i l = subst P (said-at i l) (all-number P (map says (take count places)) h i (says d) (omega (arith, said-counted)))
 
 -- ---- rows that have the same numbers in block e
-pub record SameBlock (e : ℕ) (marks : List ℕ) (numbers : List ℤ) (marks′ : List ℕ) (numbers′ : List ℤ) : Type 0 where
+record SameBlock (e : ℕ) (marks : List ℕ) (numbers : List ℤ) (marks′ : List ℕ) (numbers′ : List ℤ) : Type 0 where
   pub sameMarks : (j : ℕ) → KIND + BLOCK * e ≤ j → j < KIND + BLOCK * (e + 1) → naturalAt marks′ j ≡ naturalAt marks j
   pub sameNumbers : (j : ℕ) → CONSTANT + BLOCK * e ≤ j → j < CONSTANT + BLOCK * (e + 1) → integerAt numbers′ j ≡ integerAt numbers j
 
 -- the block is what it was
 module _ {e : ℕ} {marks : List ℕ} {numbers : List ℤ} {marks′ : List ℕ} {numbers′ : List ℤ} (S : SameBlock e marks numbers marks′ numbers′) where
-  pub kind-same : kindAt marks′ e ≡ kindAt marks e
+  kind-same : kindAt marks′ e ≡ kindAt marks e
   kind-same = S .sameMarks (KIND + BLOCK * e) (omega arith) (omega arith)
 
   target-same : targetAt marks′ e ≡ targetAt marks e
@@ -62,19 +63,19 @@ module _ {e : ℕ} {marks : List ℕ} {numbers : List ℤ} {marks′ : List ℕ}
   count-same : termCountAt marks′ e ≡ termCountAt marks e
   count-same = ap (min 4) (S .sameMarks (COUNT + BLOCK * e) (omega arith) (omega arith))
 
-  pub constant-same : constantAt numbers′ e ≡ constantAt numbers e
+  constant-same : constantAt numbers′ e ≡ constantAt numbers e
   constant-same = S .sameNumbers (CONSTANT + BLOCK * e) (omega arith) (omega arith)
 
-  pub weight-same : (i : ℕ) → i < 4 → weightAt numbers′ e i ≡ weightAt numbers e i
+  weight-same : (i : ℕ) → i < 4 → weightAt numbers′ e i ≡ weightAt numbers e i
   weight-same i l = S .sameNumbers (WEIGHT + BLOCK * e + i) (omega arith) (omega arith)
 
-  pub terms-same : termsAt marks′ numbers′ e ≡ termsAt marks numbers e
+  terms-same : termsAt marks′ numbers′ e ≡ termsAt marks numbers e
   terms-same =
       ap (λ (k : ℕ). tabulate k (λ i. (variableAt marks′ e i, weightAt numbers′ e i))) count-same
       ∙ tabulate-same (termCountAt marks e) _ _
       (λ i l. ap₂ (λ (x : ℕ) (y : ℤ). (x, y)) (S .sameMarks (TERM + BLOCK * e + i) (omega arith) (omega arith)) (weight-same i (omega arith)))
 
-  pub lower-same : integerAt numbers′ (LOWER + BLOCK * e) ≡ integerAt numbers (LOWER + BLOCK * e)
+  lower-same : integerAt numbers′ (LOWER + BLOCK * e) ≡ integerAt numbers (LOWER + BLOCK * e)
   lower-same = S .sameNumbers (LOWER + BLOCK * e) (omega arith) (omega arith)
 
   upper-same : integerAt numbers′ (UPPER + BLOCK * e) ≡ integerAt numbers (UPPER + BLOCK * e)
@@ -100,11 +101,12 @@ module _ {e : ℕ} {marks : List ℕ} {numbers : List ℤ} {marks′ : List ℕ}
   }
 
 -- one that is 0
-blank-bounded : {k : ℕ} {marks : List ℕ} {numbers : List ℤ} → BlankFrom k marks numbers → (e : ℕ) → k ≤ e → Bounded e marks numbers
-blank-bounded b e h = record {
+blank-bounded : {k : ℕ} {marks : List ℕ} {numbers : List ℤ} → BlankFrom k marks numbers → (e : ℕ) → k ≤ e → e < EFFECTS
+    → Bounded e marks numbers
+blank-bounded b e h room = record {
   constant = rw (b .numbersBlank (CONSTANT + BLOCK * e) (omega arith)) (omega arith);
   weights = λ i l. rw (b .numbersBlank (WEIGHT + BLOCK * e + i) (omega arith)) (omega arith);
-  divides = λ l. absurd (omega (arith, b .marksBlank (KIND + BLOCK * e) (omega arith)));
+  divides = λ l. absurd (omega (arith, b .marksBlank (KIND + BLOCK * e) (omega arith) (omega arith)));
 }
 
 -- ---- e of the effects are written
@@ -116,6 +118,7 @@ pub record SoFar (n : ℕ) (lower upper : List ℤ) (fs : List Effect) (marks₀
   pub blocks : (j : ℕ) → j < e → BlockIs j n lower upper (effectOf fs j) marks numbers
   pub blank : BlankFrom e marks numbers
   pub marksKept : (j : ℕ) → j < MANY → naturalAt marks j ≡ naturalAt marks₀ j
+  pub named : (j : ℕ) → sumFirst ≤ j → naturalAt marks j ≡ naturalAt marks₀ j
   pub numbersKept : (j : ℕ) → j < CONSTANT → integerAt numbers j ≡ integerAt numbers₀ j
 
 module _ {n : ℕ} {lower upper : List ℤ} {fs : List Effect} {marks₀ : List ℕ} {numbers₀ : List ℤ} where
@@ -129,10 +132,11 @@ module _ {n : ℕ} {lower upper : List ℤ} {fs : List Effect} {marks₀ : List 
     blank = record {
       marksLong = length-set marks₀ MANY count ∙ b .marksLong;
       numbersLong = b .numbersLong;
-      marksBlank = λ j l. getD-set-other marks₀ MANY j count 0 (λ q. omega arith) ∙ b .marksBlank j l;
+      marksBlank = λ j l m. getD-set-other marks₀ MANY j count 0 (λ q. omega arith) ∙ b .marksBlank j l m;
       numbersBlank = b .numbersBlank;
     };
     marksKept = λ j l. refl;
+    named = λ j l. refl;
     numbersKept = λ j l. refl;
   }
 
@@ -146,6 +150,7 @@ module _ {n : ℕ} {lower upper : List ℤ} {fs : List Effect} {marks₀ : List 
       blocks = λ j m. go j m (ℕ-discrete j e);
       blank = p .blank;
       marksKept = λ j m. p .marksKept j (omega arith) ∙ S .marksKept j m;
+      named = λ j m. p .named j m ∙ S .named j m;
       numbersKept = λ j m. p .numbersKept j (omega arith) ∙ S .numbersKept j m;
     }
       where
@@ -163,18 +168,13 @@ module _ {n : ℕ} {lower upper : List ℤ} {fs : List Effect} {marks₀ : List 
             ext-getD (addEffect 0 (pos 0)) (effectsAt marks numbers) fs (length-tabulate _ _ ∙ counted)
             (λ j l. let m : j < effectCountAt marks = omega (arith, length-tabulate (effectCountAt marks) (effectAt marks numbers)) in
             getD-tabulate (effectCountAt marks) (effectAt marks numbers) j (addEffect 0 (pos 0)) m ∙ S .blocks j (within j m) .effect);
-        bounded = λ j l. bounded j (ltb j e) refl;
+        bounded = λ j l. bounded j l (ltb j e) refl;
         targetDeclared = λ j l. S .blocks j (within j l) .targetDeclared;
         lowerAt = λ j l. S .blocks j (within j l) .lowerAt;
         upperAt = λ j l. S .blocks j (within j l) .upperAt;
       };
-      blank = record {
-        marksLong = S .blank .marksLong;
-        numbersLong = S .blank .numbersLong;
-        marksBlank = λ j l. S .blank .marksBlank j (omega (arith, S .bound, S .few));
-        numbersBlank = λ j l. S .blank .numbersBlank j (omega (arith, S .bound, S .few));
-      };
-      marksKept = λ j l. S .marksKept j l ∙ ap (λ (z : List ℕ). naturalAt z j) is ∙ getD-set-other before MANY j count 0 (λ q. omega arith);
+      marksKept = λ j l. S .marksKept j l ∙ before-at j (λ q. omega arith);
+      named = λ j l. S .named j l ∙ before-at j (λ q. omega arith);
       numbersKept = S .numbersKept;
     }
       where
@@ -184,34 +184,9 @@ module _ {n : ℕ} {lower upper : List ℤ} {fs : List Effect} {marks₀ : List 
         within : (j : ℕ) → j < effectCountAt marks → j < e
         within j l = omega (arith, counted)
 
-        bounded : (j : ℕ) (b : Bool) → ltb j e ≡ b → Bounded j marks numbers
-        bounded j true q = S .blocks j (ltb-true j e q) .bounded
-        bounded j false q = blank-bounded (S .blank) j (ltb-false j e q)
+        bounded : (j : ℕ) → j < EFFECTS → (b : Bool) → ltb j e ≡ b → Bounded j marks numbers
+        bounded j l true q = S .blocks j (ltb-true j e q) .bounded
+        bounded j l false q = blank-bounded (S .blank) j (ltb-false j e q) l
 
--- ---- effects stay while their blocks do
-module _ {n : ℕ} {lower upper : List ℤ} {fs : List Effect} {marks : List ℕ} {numbers : List ℤ} (E : EffectsAre n lower upper fs marks numbers)
-    (marks′ : List ℕ) (numbers′ : List ℤ) (sameMarks : (j : ℕ) → j < KIND + BLOCK * EFFECTS → naturalAt marks′ j ≡ naturalAt marks j)
-    (sameNumbers : (j : ℕ) → j < CONSTANT + BLOCK * EFFECTS → integerAt numbers′ j ≡ integerAt numbers j) where
-  same : (e : ℕ) → e < EFFECTS → SameBlock e marks numbers marks′ numbers′
-  same e l = record { sameMarks = λ j h g. sameMarks j (omega arith); sameNumbers = λ j h g. sameNumbers j (omega arith) }
-
-  count-stays : effectCountAt marks′ ≡ effectCountAt marks
-  count-stays = ap (min EFFECTS) (sameMarks MANY (omega arith))
-
-  same-of : (e : ℕ) → e < effectCountAt marks → SameBlock e marks numbers marks′ numbers′
-  same-of e l = same e (omega arith)
-
-  before : (e : ℕ) → e < effectCountAt marks′ → e < effectCountAt marks
-  before e l = omega (arith, count-stays)
-
-  pub effects-stay : EffectsAre n lower upper fs marks′ numbers′
-  effects-stay = record {
-    effects =
-        ap (λ (k : ℕ). tabulate k (effectAt marks′ numbers′)) count-stays
-        ∙ tabulate-same (effectCountAt marks) (effectAt marks′ numbers′) (effectAt marks numbers) (λ e l. effect-same (same-of e l))
-        ∙ E .effects;
-    bounded = λ e l. bounded-stays (same e l) (E .bounded e l);
-    targetDeclared = λ e l. let S = same-of e (before e l) in rw (target-same S) (E .targetDeclared e (before e l));
-    lowerAt = λ e l. let S = same-of e (before e l) in rw (target-same S) (lower-same S ∙ E .lowerAt e (before e l));
-    upperAt = λ e l. let S = same-of e (before e l) in rw (target-same S) (upper-same S ∙ E .upperAt e (before e l));
-  }
+        before-at : (j : ℕ) → j ≢ MANY → naturalAt marks₀ j ≡ naturalAt before j
+        before-at j q = ap (λ (z : List ℕ). naturalAt z j) is ∙ getD-set-other before MANY j count 0 q

@@ -32,13 +32,13 @@ row-is {A} {xs} {k} {f} d r =
     ext-getD d (tabulate k f) xs (length-tabulate k f ∙ sym (r .size))
     (λ i l. let m : i < k = omega (arith, length-tabulate k f, l) in getD-tabulate k f i d m ∙ sym (r .at i d m))
 
-pub all-at : {A : Type 0} (P : A → Type 0) (n : ℕ) (f : ℕ → A) → All P (tabulate n f) → (i : ℕ) → i < n → P (f i)
+all-at : {A : Type 0} (P : A → Type 0) (n : ℕ) (f : ℕ → A) → All P (tabulate n f) → (i : ℕ) → i < n → P (f i)
 unfolding tabulate
 all-at P zero f h i l = absurd (omega arith)
 all-at P (suc n) f (h, hs) zero l = h
 all-at P (suc n) f (h, hs) (suc i) l = all-at P n (λ k. f (suc k)) hs i (omega arith)
 
-pub listed : (count : ℕ) (terms : List Term) (k : ℕ) → length terms ≡ 4 → k ≡ min 4 count → length (termsIs count terms) ≤ 4
+listed : (count : ℕ) (terms : List Term) (k : ℕ) → length terms ≡ 4 → k ≡ min 4 count → length (termsIs count terms) ≤ 4
     → tabulate k (termAt terms) ≡ termsIs count terms
 listed count terms k long few l = row-is (0, pos 0) (row-terms termRoom count k terms (record { variable = 0; weight = pos 0 }) long few)
     ∙ take-all termRoom (termsIs count terms) l

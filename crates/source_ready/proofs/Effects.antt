@@ -156,12 +156,14 @@ module _ {e : ℕ} (room : e < EFFECTS) {n : ℕ} {lower upper : List ℤ} {head
   weight-kept : (i : ℕ) → i < 4 → weightAt numbers′ e i ≡ weightAt numbers₁ e i
   weight-kept i l = numbers-other (WEIGHT + BLOCK * e + i) (λ q. omega arith) (λ q. omega arith) (λ q. omega arith)
 
+  behind : (j : ℕ) → KIND + BLOCK * (e + 1) ≤ j → naturalAt marks′ j ≡ naturalAt marks j
+  behind j l = marks-other j (λ q. omega arith) (λ q. omega arith) (λ q. omega arith) (λ q. omega arith) ∙ t .marksBehind j (omega arith)
+
   blank-behind : BlankFrom (e + 1) marks′ numbers′
   blank-behind = record {
     marksLong = rw (h .marksAre) (head-marks-long e room kind target operand count marks₁ (t .marksLong));
     numbersLong = rw (h .numbersAre) (head-numbers-long e room c least most numbers₁ (t .numbersLong));
-    marksBlank = λ j l. marks-other j (λ q. omega arith) (λ q. omega arith) (λ q. omega arith) (λ q. omega arith) ∙ t .marksBehind j (omega arith)
-        ∙ b .marksBlank j (omega arith);
+    marksBlank = λ j l m. behind j l ∙ b .marksBlank j (omega arith) m;
     numbersBlank = λ j l. numbers-other j (λ q. omega arith) (λ q. omega arith) (λ q. omega arith) ∙ t .numbersBehind j (omega arith)
         ∙ b .numbersBlank j (omega arith);
   }
@@ -185,5 +187,6 @@ module _ {e : ℕ} (room : e < EFFECTS) {n : ℕ} {lower upper : List ℤ} {head
       };
       marksKept = λ j l. marks-other j (λ q. omega arith) (λ q. omega arith) (λ q. omega arith) (λ q. omega arith) ∙ t .marksKept j (omega arith);
       numbersKept = λ j l. numbers-other j (λ q. omega arith) (λ q. omega arith) (λ q. omega arith) ∙ t .numbersKept j (omega arith);
+      named = λ j l. behind j (omega arith);
       blank = blank-behind;
     }

@@ -3,8 +3,8 @@ pub mod Decoded
 pub mod Effects
 pub mod Making
 pub mod Modes
+pub mod Naming
 pub mod Preparing
-pub mod Sums
 pub mod Terms
 pub mod Tests
 pub mod Values

@@ -22,7 +22,7 @@ use Rattle.source_step.specs.Layout.{MARKS}
 use Rattle.source_step.specs.Parts.{modesBelow}
 use Rattle.source_step.proofs.Sound.{tabulate-same}
 use Rattle.source_step.specs.Row.{modesIn}
-use Rattle.source_ready.specs.Narrowed.{cappedMark, raisedMark, held, heldAll, marked, markedAll, SizesFit, SizesPut, ModesPut}
+use Rattle.source_ready.specs.Narrowed.{cappedMark, raisedMark, held, heldAll, marked, markedAll, SizesFit, SizesPut, NoModes, ModesPut}
 use Rattle.source_ready.proofs.Tests.{and-pairs, and-right-first, every-narrowed, tabulate-set, length-setIf, setIf-at, setIf-other}
 
 -- ---- the lesser and the greater of two bounds
@@ -228,18 +228,23 @@ below-size x most size e = ap (λ (b : Bool). b && leb x most) (le-leb 0 x (omeg
     go true f = le-leb x most (omega (arith, ltb-true x size f))
     go false f = lt-leb x most (omega (arith, ltb-false x size f))
 
-module _ (m : ℕ) (sizes marks₀ marks : List ℕ) (fit : SizesFit m sizes) (zero₀ : (j : ℕ) → naturalAt marks₀ j ≡ 0) (put : SizesPut m sizes marks₀ marks) where
+module _ (m : ℕ) (sizes marks₀ marks : List ℕ) (fit : SizesFit m sizes) (zero₀ : NoModes marks₀) (put : SizesPut m sizes marks₀ marks) where
   sizes-row : (x : List ℕ) → modesIn m marks x ≡ modesBelow m sizes x
   sizes-row x =
       ap (every (λ b. b)) (tabulate-same m (λ i. asks marks i (naturalAt x i)) (λ i. ltb (naturalAt x i) (naturalAt sizes i))
-      (λ i l. let f = fit .few in ap (λ (a : ℕ). leb a (naturalAt x i) && leb (naturalAt x i) (naturalAt marks (4 + i))) (put .leasts i (omega arith) ∙ zero₀ i)
+      (λ i l. let f = fit .few in
+      ap (λ (a : ℕ). leb a (naturalAt x i) && leb (naturalAt x i) (naturalAt marks (4 + i))) (put .leasts i (omega arith) ∙ zero₀ i (omega arith))
       ∙ below-size (naturalAt x i) (naturalAt marks (4 + i)) (naturalAt sizes i) (put .mosts i l)))
 
   sizes-make : (i y : ℕ) → i < m → makes marks i y ≡ y
-  sizes-make i y l = ap₂ (λ (a b : ℕ). y * a + b) (put .stay i l) (put .rest (12 + i) (omega arith) ∙ zero₀ (12 + i)) ∙ omega (arith, mul-one y)
+  sizes-make i y l =
+      let f = fit .few in
+      ap₂ (λ (a b : ℕ). y * a + b) (put .stay i l) (put .rest (12 + i) (omega arith) ∙ zero₀ (12 + i) (omega arith)) ∙ omega (arith, mul-one y)
 
   sizes-beyond : (i y : ℕ) → m ≤ i → i < 4 → makes marks i y ≡ 0
-  sizes-beyond i y l h = ap₂ (λ (a b : ℕ). y * a + b) (put .others i l h ∙ zero₀ (8 + i)) (put .rest (12 + i) (omega arith) ∙ zero₀ (12 + i)) ∙ omega (arith, mul-zero y)
+  sizes-beyond i y l h =
+      ap₂ (λ (a b : ℕ). y * a + b) (put .others i l h ∙ zero₀ (8 + i) (omega arith)) (put .rest (12 + i) (omega arith) ∙ zero₀ (12 + i) (omega arith))
+      ∙ omega (arith, mul-zero y)
 
 -- the first m of a list, by number
 front : (m : ℕ) (x : List ℕ) → m ≤ length x → tabulate m (λ j. naturalAt x j) ≡ take m x
@@ -282,10 +287,10 @@ modes-put m sizes marks₀ marks ps es fit rp re put = record {
     same : (i y : ℕ) → makes (heldAll ps marks) i y ≡ makes marks i y
     same i y = ap₂ (λ (a b : ℕ). y * a + b) (all-held-other ps rp marks (8 + i) (omega arith)) (all-held-other ps rp marks (12 + i) (omega arith))
 
-    made : ((j : ℕ) → naturalAt marks₀ j ≡ 0) → (i y : ℕ) → i < m → makes (heldAll ps marks) i y ≡ y
+    made : NoModes marks₀ → (i y : ℕ) → i < m → makes (heldAll ps marks) i y ≡ y
     made z i y l = same i y ∙ sizes-make m sizes marks₀ marks fit z put i y l
 
-    within : ((j : ℕ) → naturalAt marks₀ j ≡ 0) → (i : ℕ) → i < 4 → (y : ℕ) → y < 65536 → makes (heldAll ps marks) i y < 65536
+    within : NoModes marks₀ → (i : ℕ) → i < 4 → (y : ℕ) → y < 65536 → makes (heldAll ps marks) i y < 65536
     within z i l y r = go (ltb i m) refl
       where
         go : (p : Bool) → ltb i m ≡ p → makes (heldAll ps marks) i y < 65536

@@ -1,4 +1,4 @@
--- The terms of a block, one after the other: those of an L, or of a condition on a sum.
+-- The terms of an effect, an L, one after the other.
 -- Assumes nothing.
 use mathlib.Core.Path.{_≡_, refl, ap, ap₂, _∙_}
 use Prim.Native.Nat.{ℕ, min, _+_, _*_, _≤_, _<_}
@@ -13,7 +13,8 @@ use borrow.Author.Tests.{ltb-true, ltb-false}
 use Rattle.lists.specs.Each.{tabulate}
 use Rattle.model.specs.Steps.{naturalAt}
 use Rattle.source_step.proofs.Sound.{tabulate-same}
-use Rattle.source_step.specs.Layout.{MARKS, NUMBERS, BLOCK, BLOCKS, COUNT, TERM, WEIGHT}
+use Rattle.source_step.specs.Sizes.{EFFECTS}
+use Rattle.source_step.specs.Layout.{MARKS, NUMBERS, BLOCK, COUNT, TERM, WEIGHT}
 use Rattle.source_step.specs.Row.{termCountAt, variableAt, weightAt, termsAt}
 use Rattle.source_ready.specs.Made.{TermsPut}
 
@@ -30,7 +31,7 @@ terms-begin e f marks numbers h g = record {
   numbersBehind = λ j l. refl;
 }
 
-module _ (e : ℕ) (room : e < BLOCKS) (k : ℕ) (f : ℕ → ℕ × ℤ) (marks₀ : List ℕ) (numbers₀ : List ℤ) (marks : List ℕ) (numbers : List ℤ)
+module _ (e : ℕ) (room : e < EFFECTS) (k : ℕ) (f : ℕ → ℕ × ℤ) (marks₀ : List ℕ) (numbers₀ : List ℤ) (marks : List ℕ) (numbers : List ℤ)
     (h : TermsPut e k f marks₀ numbers₀ marks numbers) (few : k < 4) (v : ℕ) (w : ℤ) (isVariable : v ≡ f k .0) (isWeight : w ≡ f k .1) where
   abbrev p : ℕ
   p = TERM + BLOCK * e + k

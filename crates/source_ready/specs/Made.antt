@@ -3,15 +3,15 @@
 use mathlib.Core.Path.{_≡_}
 use Prim.Native.Nat.{ℕ, min, _+_, _*_, _≤_, _<_}
 use mathlib.Core.Bool.{cond}
-use mathlib.Core.List.{List}
+use mathlib.Core.List.{List, []}
 use lib.Dec.{eqb}
-use lib.ListN.{length, getD, take, set}
+use lib.ListN.{length, getD, take, replicate, set}
 use lib.IntN.{ℤ, pos, natAbs}
 use Rattle.lists.specs.Answer.{given}
 use Rattle.integers.specs.All.{All}
-use Rattle.model.specs.Tasks.{Measured, variable, weightedSum, NumericCondition, Effect, SourceTask}
+use Rattle.model.specs.Tasks.{NumericCondition, Effect, SourceAction, SourceTask}
 use Rattle.model.specs.Limits.{sourceLimits}
-use Rattle.model.specs.TaskOk.{SourceActionOk}
+use Rattle.model.specs.TaskOk.{ValuesIn, EffectOk}
 use Rattle.model.specs.Steps.{integerAt, naturalAt}
 use Rattle.model.specs.Decoding.{readSource}
 use Rattle.model.specs.ActionBytes.{edgeOf}
@@ -19,16 +19,20 @@ use Rattle.file_actions.specs.declared.Term.{Term}
 use Rattle.file_actions.specs.declared.Effect.{Effect as DecodedEffect}
 use Rattle.file_actions.specs.declared.Effects.{Effects}
 use Rattle.file_actions.specs.declared.SumConditions.{SumConditions}
-use Rattle.file_actions.specs.Views.{termIs, effectIs, sourceActionIs}
-use Rattle.file_actions.specs.Within.{SourceWithin}
+use Rattle.file_parts.specs.Row.{modeConditionsIn, modeEffectsIn}
+use Rattle.file_actions.specs.Views.{termIs, effectIs, effectsIs, withSumConditions, SumsDecoded}
+use Rattle.file_actions.specs.Within.{RowWithin}
 use Rattle.file_declarations.specs.Holding.{HoldsSource}
 use Rattle.source_ready.specs.declared.Head.{Head}
 use Rattle.source_ready.specs.Narrowed.{SizesFit}
-use Rattle.source_step.specs.Sizes.{VARIABLES, EFFECTS, SUMS}
+use Rattle.source_step.specs.Sizes.{VARIABLES, EFFECTS, SUMS, ROWS, sumsRow}
 use Rattle.source_step.specs.Layout.{BLOCK, MANY, KIND, TARGET, OPERAND, COUNT, TERM, CONSTANT, WEIGHT, LOWER, UPPER, LINEAR, QUOTIENT, MARKS, NUMBERS}
-use Rattle.source_step.specs.Ready.{RowAt}
-use Rattle.source_step.specs.Table.{ROWS}
-use Rattle.source_step.specs.Row.{effectCountAt, kindAt, targetAt, constantAt, variableAt, weightAt, effectOfKind, effectAt, effectsAt, sumAt, sumsAt}
+use Rattle.source_step.specs.Layout.{sumFirst}
+use Rattle.source_step.specs.Ready.{marksOf, numbersOf, sumsOf, RowAt}
+use Rattle.source_step.specs.Row.{effectCountAt, kindAt, targetAt, constantAt, variableAt, weightAt, effectOfKind, effectAt, effectsAt}
+use Rattle.source_step.specs.Row.{sumFirstAt, sumCountAt, RowOf}
+use Rattle.source_sums.specs.Asked.{Asked}
+use Rattle.source_sums.specs.Found.{firstSum, SumsOf, SumsAsk}
 
 -- ---- the terms of block e
 abbrev pub termAt : List Term → ℕ → ℕ × ℤ
@@ -65,11 +69,11 @@ pub record HeadPut (e n : ℕ) (lower upper : List ℤ) (h : Head) (count : ℕ)
   pub marksAre : marks′ ≡ headMarks e (h .kind) (h .target) (h .operand) count marks
   pub numbersAre : numbers′ ≡ headNumbers e (h .constant) (integerAt (take n lower) (h .target)) (integerAt (take n upper) (h .target)) numbers
 
--- ---- rows that are 0 from the block of effect e on
+-- ---- rows that are 0 from the block of effect e on, but for the marks that name conditions on sums
 pub record BlankFrom (e : ℕ) (marks : List ℕ) (numbers : List ℤ) : Type 0 where
   pub marksLong : length marks ≡ MARKS
   pub numbersLong : length numbers ≡ NUMBERS
-  pub marksBlank : (j : ℕ) → KIND + BLOCK * e ≤ j → naturalAt marks j ≡ 0
+  pub marksBlank : (j : ℕ) → KIND + BLOCK * e ≤ j → j < sumFirst → naturalAt marks j ≡ 0
   pub numbersBlank : (j : ℕ) → CONSTANT + BLOCK * e ≤ j → integerAt numbers j ≡ pos 0
 
 -- ---- effect e of rows: it makes no sum, product or quotient that leaves its range
@@ -91,6 +95,7 @@ pub record EffectPut (e n : ℕ) (lower upper : List ℤ) (f : Effect) (marks : 
   pub block : BlockIs e n lower upper f marks′ numbers′
   pub marksKept : (j : ℕ) → j < KIND + BLOCK * e → naturalAt marks′ j ≡ naturalAt marks j
   pub numbersKept : (j : ℕ) → j < CONSTANT + BLOCK * e → integerAt numbers′ j ≡ integerAt numbers j
+  pub named : (j : ℕ) → sumFirst ≤ j → naturalAt marks′ j ≡ naturalAt marks j
   pub blank : BlankFrom (e + 1) marks′ numbers′
 
 -- the effects of rows are these
@@ -101,60 +106,49 @@ pub record EffectsAre (n : ℕ) (lower upper : List ℤ) (fs : List Effect) (mar
   pub lowerAt : (e : ℕ) → e < effectCountAt marks → integerAt numbers (LOWER + BLOCK * e) ≡ integerAt (take n lower) (targetAt marks e)
   pub upperAt : (e : ℕ) → e < effectCountAt marks → integerAt numbers (UPPER + BLOCK * e) ≡ integerAt (take n upper) (targetAt marks e)
 
--- all were written, and behind their blocks the rows are 0
+-- all were written; the marks that name conditions on sums are as before
 pub record EffectsPut (n : ℕ) (lower upper : List ℤ) (fs : List Effect) (marks : List ℕ) (numbers : List ℤ) (marks′ : List ℕ) (numbers′ : List ℤ) : Type 0 where
   pub are : EffectsAre n lower upper fs marks′ numbers′
-  pub blank : BlankFrom EFFECTS marks′ numbers′
   pub marksKept : (j : ℕ) → j < MANY → naturalAt marks′ j ≡ naturalAt marks j
+  pub named : (j : ℕ) → sumFirst ≤ j → naturalAt marks′ j ≡ naturalAt marks j
   pub numbersKept : (j : ℕ) → j < CONSTANT → integerAt numbers′ j ≡ integerAt numbers j
 
--- ---- the conditions on sums
--- one has few terms, and each a weight of a source file
-abbrev pub MeasureFits : Measured ℕ → Type 0
-MeasureFits (variable i) = ⊥
-MeasureFits (weightedSum ts) = (length ts ≤ 4) × All (λ (t : ℕ × ℤ). natAbs (t .1) ≤ 10000) ts
+-- ---- the conditions on sums of an action, or of the goal: marks that are 0 but for those that name them
+pub record Named (marks : List ℕ) : Type 0 where
+  pub long : length marks ≡ MARKS
+  pub blank : (j : ℕ) → j < sumFirst → naturalAt marks j ≡ 0
 
-abbrev pub SumFits : NumericCondition ℕ → Type 0
-SumFits k = MeasureFits (k .measured)
+-- these K's, in a task with so many in all, come behind so many
+pub record OwnBehind (ks : List (NumericCondition ℕ)) (total first : ℕ) : Type 0 where
+  pub none : total ≡ 0 → ks ≡ []
+  pub start : total ≡ 0 → first ≡ 0
+  pub room : (own : SumConditions) → SumsDecoded ks own → first + own .count ≤ SUMS
 
--- numbers that are 0 from block e on
-pub record NumbersBlankFrom (e : ℕ) (numbers : List ℤ) : Type 0 where
-  pub long : length numbers ≡ NUMBERS
-  pub blank : (j : ℕ) → CONSTANT + BLOCK * e ≤ j → integerAt numbers j ≡ pos 0
+-- they are named, so many from `first` on
+pub record OwnNamed (ks : List (NumericCondition ℕ)) (first : ℕ) (marks : List ℕ) (r : ℕ) : Type 0 where
+  pub own : SumConditions
+  pub decoded : SumsDecoded ks own
+  pub counted : r ≡ own .count
+  pub named : Named marks
+  pub firstIs : sumFirstAt marks ≡ first
+  pub countIs : sumCountAt marks ≡ own .count
 
--- condition j of rows is k; its sum begins at 0, and no product of it leaves its range
-pub record SumIs (j : ℕ) (k : NumericCondition ℕ) (marks : List ℕ) (numbers : List ℤ) : Type 0 where
-  pub is : sumAt marks numbers j ≡ k
-  pub fromZero : constantAt numbers (EFFECTS + j) ≡ pos 0
-  pub weights : (i : ℕ) → i < 4 → natAbs (weightAt numbers (EFFECTS + j) i) ≤ 10000
-
--- it was written into numbers that were 0 from its block on; outside its block the rows are as before
-pub record SumPut (j : ℕ) (k : NumericCondition ℕ) (marks : List ℕ) (numbers : List ℤ) (marks′ : List ℕ) (numbers′ : List ℤ) : Type 0 where
-  pub block : SumIs j k marks′ numbers′
-  pub marksLong : length marks′ ≡ MARKS
-  pub marksKept : (i : ℕ) → i < KIND + BLOCK * (EFFECTS + j) → naturalAt marks′ i ≡ naturalAt marks i
-  pub marksBehind : (i : ℕ) → KIND + BLOCK * (EFFECTS + j + 1) ≤ i → naturalAt marks′ i ≡ naturalAt marks i
-  pub numbersKept : (i : ℕ) → i < CONSTANT + BLOCK * (EFFECTS + j) → integerAt numbers′ i ≡ integerAt numbers i
-  pub blank : NumbersBlankFrom (EFFECTS + j + 1) numbers′
-
--- all were written, behind the blocks of the effects
-pub record SumsPut (ks : List (NumericCondition ℕ)) (marks : List ℕ) (numbers : List ℤ) (marks′ : List ℕ) (numbers′ : List ℤ) : Type 0 where
-  pub are : sumsAt marks′ numbers′ ≡ ks
-  pub fromZero : (j : ℕ) → j < SUMS → constantAt numbers′ (EFFECTS + j) ≡ pos 0
-  pub weights : (j i : ℕ) → j < SUMS → i < 4 → natAbs (weightAt numbers′ (EFFECTS + j) i) ≤ 10000
-  pub marksKept : (i : ℕ) → i < KIND + BLOCK * EFFECTS → naturalAt marks′ i ≡ naturalAt marks i
-  pub numbersKept : (i : ℕ) → i < CONSTANT + BLOCK * EFFECTS → integerAt numbers′ i ≡ integerAt numbers i
-
--- ---- an action that keeps to the rules, in a task with these bounds and sizes: its parts row, its effects and its conditions on sums
-pub record RowFits (n m : ℕ) (lower upper : List ℤ) (sizes : List ℕ) (parts : List ℕ) (constants : List ℤ) (effects : Effects)
-    (sums : SumConditions) : Type 0 where
+-- ---- an action but for its K that keeps to the rules, in a task with these bounds and sizes: its parts row and its effects
+pub record RowFits (n m : ℕ) (lower upper : List ℤ) (sizes : List ℕ) (parts : List ℕ) (constants : List ℤ) (effects : Effects) : Type 0 where
   pub few : n ≤ VARIABLES
-  pub ok : SourceActionOk sourceLimits n (take m sizes) (sourceActionIs parts constants effects sums)
-  pub within : SourceWithin sourceLimits n (take m sizes) parts constants effects sums
-  pub sumsFew : sums .count ≤ SUMS
+  pub row : RowWithin sourceLimits n (take m sizes) parts constants
+  pub asksModes : ValuesIn (take m sizes) (modeConditionsIn parts)
+  pub setsModes : ValuesIn (take m sizes) (modeEffectsIn parts)
+  pub effectsFew : effects .count ≤ EFFECTS
+  pub effectsOk : All (EffectOk sourceLimits n) (effectsIs effects)
   pub sizesFit : SizesFit m sizes
   pub lowersNear : (i : ℕ) → i < n → natAbs (integerAt lower i) ≤ 10000
   pub uppersNear : (i : ℕ) → i < n → natAbs (integerAt upper i) ≤ 10000
+
+-- its rows are made, whatever K's it has besides: those that the marks before named
+pub record RowMade (n m : ℕ) (lower upper : List ℤ) (sizes : List ℕ) (marks marks′ : List ℕ) (numbers′ : List ℤ) (a : SourceAction) : Type 0 where
+  pub row : (ks : List (NumericCondition ℕ)) (sums : List ℤ) → Asked marks ks sums
+      → RowOf n m lower upper sizes marks′ numbers′ sums (withSumConditions a ks)
 
 -- ---- a file
 -- action k of it stands between these places
@@ -172,10 +166,20 @@ pub record Declares (file : List ℕ) (n : ℕ) (lower upper : List ℤ) (m : �
   pub modes : List ℕ
   pub holds : (t : SourceTask) → readSource file ≡ given t → HoldsSource t (record { variables = n; modes = m }) lower upper starts sizes modes
 
--- the first k of its `count` actions have their rows, in tables with a row for each action and one more
-pub record RowsMade (file : List ℕ) (count n : ℕ) (lower upper : List ℤ) (m : ℕ) (sizes : List ℕ) (k : ℕ) (marks : List (List ℕ))
-    (numbers : List (List ℤ)) : Type 0 where
-  pub bound : k ≤ count
+-- tables without the row of an action or of the goal from number k on
+pub record BlankRows (k : ℕ) (marks : List (List ℕ)) (numbers : List (List ℤ)) : Type 0 where
   pub marksLong : length marks ≡ ROWS
   pub numbersLong : length numbers ≡ ROWS
+  pub marksBlank : (j : ℕ) → k ≤ j → j < sumsRow → marksOf marks j ≡ replicate MARKS 0
+  pub numbersBlank : (j : ℕ) → k ≤ j → j < sumsRow → numbersOf numbers j ≡ replicate NUMBERS (pos 0)
+
+-- the first k of its `count` actions have their rows, in tables with a row for each action, one for the goal and one for the sums, which has all
+-- conditions on sums, so many; those of the next begin at `first`
+pub record RowsMade (file : List ℕ) (count n : ℕ) (lower upper : List ℤ) (m : ℕ) (sizes : List ℕ) (total k first : ℕ) (marks : List (List ℕ))
+    (numbers : List (List ℤ)) : Type 0 where
+  pub bound : k ≤ count
+  pub blank : BlankRows k marks numbers
+  pub sums : SumsOf file total (sumsOf numbers)
+  pub ask : SumsAsk file count total (sumsOf numbers)
+  pub firstIs : first ≡ firstSum file k
   pub rows : (t : SourceTask) → readSource file ≡ given t → (j : ℕ) → j < k → RowAt (t .actions) n m lower upper sizes marks numbers j

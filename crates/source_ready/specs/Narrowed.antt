@@ -117,15 +117,19 @@ pub record SizesPut (k : ℕ) (sizes : List ℕ) (marks marks′ : List ℕ) : T
   pub others : (i : ℕ) → k ≤ i → i < MODES → naturalAt marks′ (KEEP + i) ≡ naturalAt marks (KEEP + i)
   pub rest : (j : ℕ) → PUT ≤ j → naturalAt marks′ j ≡ naturalAt marks j
 
--- A row that was 0 asks that the modes of a state are below their sizes and that the conditions hold, and sets them as the effects do
+-- marks that are 0 as far as they are about modes
+abbrev pub NoModes : List ℕ → Type 0
+NoModes marks = (j : ℕ) → j < MANY → naturalAt marks j ≡ 0
+
+-- marks that were such ask that the modes of a state are below their sizes and that the conditions hold, and set them as the effects do
 pub record ModesPut (m : ℕ) (sizes : List ℕ) (ps es : List (ℕ × ℕ)) (marks marks′ : List ℕ) : Type 0 where
   pub long : length marks′ ≡ MARKS
   pub rest : (j : ℕ) → MANY ≤ j → naturalAt marks′ j ≡ naturalAt marks j
-  pub modes : ((j : ℕ) → naturalAt marks j ≡ 0) → ValuesIn (take m sizes) ps → (x : List ℕ)
+  pub modes : NoModes marks → ValuesIn (take m sizes) ps → (x : List ℕ)
       → modesIn m marks′ x ≡ (modesBelow m sizes x && modesHold ps (naturalAt (take m x)))
-  pub sets : ((j : ℕ) → naturalAt marks j ≡ 0) → ValuesIn (take m sizes) es → (x : List ℕ) → m ≤ length x
+  pub sets : NoModes marks → ValuesIn (take m sizes) es → (x : List ℕ) → m ≤ length x
       → modesAfter m marks′ x ≡ setAll es (take m x) ++ drop m x
-  pub stays : ((j : ℕ) → naturalAt marks j ≡ 0) → ValuesIn (take m sizes) es → (i : ℕ) → i < m → (y : ℕ) → y < naturalAt sizes i
+  pub stays : NoModes marks → ValuesIn (take m sizes) es → (i : ℕ) → i < m → (y : ℕ) → y < naturalAt sizes i
       → y * naturalAt marks′ (KEEP + i) + naturalAt marks′ (PUT + i) < naturalAt sizes i
-  pub keeps : ((j : ℕ) → naturalAt marks j ≡ 0) → ValuesIn (take m sizes) es → (i : ℕ) → i < MODES
+  pub keeps : NoModes marks → ValuesIn (take m sizes) es → (i : ℕ) → i < MODES
       → naturalAt marks′ (KEEP + i) * 65535 + naturalAt marks′ (PUT + i) ≤ 65535

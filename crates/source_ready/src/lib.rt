@@ -1,16 +1,14 @@
 // The rows of all actions of an accepted source file, made ready for many steps.
 //
 // The file is walked once, and each action is decoded once: its conditions on variables and modes and its mode effects become ranges and marks
-// (narrowing.rt), its numeric effects stand behind them, in a block each, and behind these its conditions on sums likewise. What rows mean is
-// said in crate source_step, specs/Row.antt. It never takes a step.
+// (narrowing.rt), its numeric effects stand behind them, in a block each. The conditions on sums of all of them stand in a row of their own (crate
+// source_sums), and an action's marks name its own. What rows mean is said in crate source_step, specs/Row.antt. It never takes a step.
 mod narrowing;
 
 use file_actions::EFFECTS;
 use file_actions::Effect;
 use file_actions::Effects;
 use file_actions::NumericEffect;
-use file_actions::SumCondition;
-use file_actions::SumConditions;
 use file_actions::TERMS;
 use file_actions::Term;
 use file_parts::MARKS as PART_MARKS;
@@ -29,12 +27,13 @@ use source_step::NUMBERS;
 use source_step::OPERAND;
 use source_step::QUOTIENT;
 use source_step::RESIDUE;
-use source_step::SUM_COUNT;
+use source_step::SUMS_ROW;
 use source_step::TARGET;
 use source_step::TERM;
 use source_step::UPPER;
 use source_step::VARIABLES;
 use source_step::WEIGHT;
+use source_sums::PLACES;
 ghost use mathlib.Core.Path.{_≡_};
 ghost use Prim.Native.Nat.{_+_, _<_, _≤_};
 ghost use lib.ListN.{length, replicate};
@@ -48,18 +47,14 @@ ghost use Rattle.model.specs.TaskOk.{EffectOk};
 ghost use Rattle.model.specs.Steps.{naturalAt};
 ghost use Rattle.file_parts.specs.Layout as layout;
 ghost use Rattle.file_actions.specs.Places.{goalPart};
-ghost use Rattle.file_actions.specs.Views.{sourceActionIs, plainActionOf, SourceDecoded, SumsDecoded, fittingSource, numericIs, effectsIs, sumIs, sumsIs};
-ghost use Rattle.source_step.specs.Sizes.{VARIABLES, ACTIONS, EFFECTS, SUMS};
+ghost use Rattle.file_actions.specs.Views.{plainIs, plainActionOf, SourceDecoded, fittingSource, numericIs, effectsIs};
+ghost use Rattle.source_step.specs.Sizes.{VARIABLES, ACTIONS, EFFECTS};
 ghost use Rattle.source_step.specs.Accepted.{AcceptedWith};
-ghost use Rattle.source_step.specs.Row.{RowOf};
-ghost use Rattle.source_step.specs.Ready.{Prepared};
-ghost use Rattle.source_step.specs.Table.{ROWS};
-ghost use Rattle.source_step.specs.Layout.{BLOCKS, MARKS, NUMBERS};
+ghost use Rattle.source_step.specs.Ready.{sumsOf, blankMarks, blankNumbers, Prepared};
+ghost use Rattle.source_step.specs.Layout.{MARKS, NUMBERS};
+ghost use Rattle.source_sums.specs.Found.{SumsOf, SumsAsk};
 ghost use Rattle.source_ready.specs.Made.{termAt, TermsPut, HeadOf, HeadPut, termsOfKind, BlankFrom, EffectPut, EffectsPut};
-ghost use Rattle.source_ready.specs.Made.{NumbersBlankFrom, SumFits, SumPut, SumsPut, RowFits, PlacedAt, ActionsPlaced, Declares, RowsMade};
-
-// The places of the actions of a file, and that of its goal.
-const PLACES: usize = 33;
+ghost use Rattle.source_ready.specs.Made.{Named, OwnBehind, OwnNamed, RowFits, RowMade, PlacedAt, ActionsPlaced, Declares, BlankRows, RowsMade};
 
 fn wide(x: u8) -> u16
     ensures { λ r. ⌜ r ≡ x ⌝ }
@@ -67,7 +62,7 @@ fn wide(x: u8) -> u16
     x as u16
 }
 
-// The variables and the weights of the first k terms of block e: of an L, or of a condition on a sum.
+// The variables and the weights of the first k terms of effect e, an L.
 fn put_terms(
     marks: &mut [u16; MARKS],
     numbers: &mut [i64; NUMBERS],
@@ -75,7 +70,7 @@ fn put_terms(
     k: usize,
     terms: [Term; TERMS],
 )
-    requires { ⌜ (e < BLOCKS) × (k ≤ 4) × (length (now marks) ≡ MARKS) × (length (now numbers) ≡ NUMBERS) ⌝ }
+    requires { ⌜ (e < EFFECTS) × (k ≤ 4) × (length (now marks) ≡ MARKS) × (length (now numbers) ≡ NUMBERS) ⌝ }
     ensures { λ _. ⌜ TermsPut e k (termAt terms) (now (marks .entry)) (now (numbers .entry)) (now (marks .exit)) (now (numbers .exit)) ⌝ }
 {
     let mut i: usize = 0;
@@ -217,42 +212,7 @@ fn put_effects(
     }
 }
 
-// Condition j on a sum: its relation, its terms, and the constant that the sum is compared with.
-fn put_sum(marks: &mut [u16; MARKS], numbers: &mut [i64; NUMBERS], j: usize, place: SumCondition)
-    requires { ⌜ (j < SUMS) × (length (now marks) ≡ MARKS) × NumbersBlankFrom (EFFECTS + j) (now numbers) × SumFits (sumIs place) ⌝ }
-    ensures { λ _. ⌜ SumPut j (sumIs place) (now (marks .entry)) (now (numbers .entry)) (now (marks .exit)) (now (numbers .exit)) ⌝ }
-{
-    let e = EFFECTS + j;
-    let relation = place.relation;
-    let constant = place.constant;
-    let terms = place.terms;
-    let count = source_step::lesser(TERMS, place.term_count);
-    put_terms(marks, numbers, e, count, terms);
-    marks[KIND + BLOCK * e] = wide(relation);
-    marks[COUNT + BLOCK * e] = count as u16;
-    numbers[LOWER + BLOCK * e] = constant;
-}
-
-// The conditions on sums of an action, and how many they are.
-fn put_sums(marks: &mut [u16; MARKS], numbers: &mut [i64; NUMBERS], sums: SumConditions)
-    requires { ⌜ BlankFrom EFFECTS (now marks) (now numbers) × (sums .count ≤ SUMS) × All SumFits (sumsIs sums) ⌝ }
-    ensures { λ _. ⌜ SumsPut (sumsIs sums) (now (marks .entry)) (now (numbers .entry)) (now (marks .exit)) (now (numbers .exit)) ⌝ }
-{
-    let count = sums.count;
-    if count == 0 {
-        return;
-    }
-    let places = sums.places;
-    marks[SUM_COUNT] = count as u16;
-    let mut j: usize = 0;
-    while j < count {
-        let place = places[j];
-        put_sum(marks, numbers, j, place);
-        j += 1;
-    }
-}
-
-// The rows of an action, in the place of zeros: of its parts row, its effects and its conditions on sums.
+// The rows of an action but for the marks that name its conditions on sums, in the place of zeros: of its parts row and its effects.
 pub fn put_row<'a>(
     marks: &mut [u16; MARKS],
     numbers: &mut [i64; NUMBERS],
@@ -264,17 +224,15 @@ pub fn put_row<'a>(
     parts: &'a [u16; PART_MARKS],
     constants: &'a [i64; PART_NUMBERS],
     effects: Effects,
-    sums: SumConditions,
 )
-    requires { ⌜ (now marks ≡ replicate MARKS 0) × (now numbers ≡ replicate NUMBERS (pos 0))
-        × RowFits n m (now lower) (now upper) (now sizes) (now parts) (now constants) effects sums ⌝ }
-    ensures { λ _. ⌜ RowOf n m (now (lower .entry)) (now (upper .entry)) (now (sizes .entry)) (now (marks .exit)) (now (numbers .exit))
-        (sourceActionIs (now (parts .entry)) (now (constants .entry)) effects sums) ⌝ }
+    requires { ⌜ Named (now marks) × (now numbers ≡ replicate NUMBERS (pos 0))
+        × RowFits n m (now lower) (now upper) (now sizes) (now parts) (now constants) effects ⌝ }
+    ensures { λ _. ⌜ RowMade n m (now (lower .entry)) (now (upper .entry)) (now (sizes .entry)) (now (marks .entry)) (now (marks .exit))
+        (now (numbers .exit)) (plainIs (now (parts .entry)) (now (constants .entry)) effects) ⌝ }
 {
     narrowing::put_ranges(numbers, lower, upper, parts, constants);
     narrowing::put_modes(marks, m, sizes, parts);
     put_effects(marks, numbers, n, lower, upper, effects);
-    put_sums(marks, numbers, sums);
 }
 
 // Action k of a file but for its K, by the places of its actions.
@@ -294,14 +252,6 @@ fn decode_placed(
         parts,
         constants,
     )
-}
-
-// Its K.
-fn decode_placed_sums(file: &[u8], places: &[usize; PLACES], k: usize) -> SumConditions
-    requires { ⌜ (k < ACTIONS) × PlacedAt (now file) (now places) k ⌝ }
-    ensures { λ r. ⌜ SumsDecoded (sumConditionsOf (decodeAction (actionPart (now (file .entry)) k))) r ⌝ }
-{
-    file_actions::decode_sums(file_actions::part(file, places[k], places[k + 1]))
 }
 
 // The goal of an accepted file with so many actions but for its K, as an action: it has no effects.
@@ -324,15 +274,22 @@ fn decode_goal(
     )
 }
 
-// Its K.
-fn decode_goal_sums(file: &[u8], places: &[usize; PLACES], count: usize) -> SumConditions
-    requires { ⌜ (count ≤ ACTIONS) × (naturalAt (now places) count ≡ edgeOf (now file) count) ⌝ }
-    ensures { λ r. ⌜ SumsDecoded (sumConditionsOf (decodeAction (goalPart (now (file .entry)) count))) r ⌝ }
+// Into marks of zeros the conditions on sums of an action or of the goal, which has these bytes, in a task with so many: those from `first` on. How
+// many they are.
+fn name_own(marks: &mut [u16; MARKS], part: &[u8], total: usize, first: usize) -> usize
+    requires { ⌜ (now marks ≡ replicate MARKS 0) × OwnBehind (sumConditionsOf (decodeAction (now part))) total first ⌝ }
+    ensures { λ r. ⌜ OwnNamed (sumConditionsOf (decodeAction (now (part .entry)))) first (now (marks .exit)) r ⌝ }
 {
-    file_actions::decode_sums(file_actions::goal_from(file, places[count]))
+    if total == 0 {
+        return 0;
+    }
+    let own = file_actions::decode_sums(part);
+    source_sums::name_sums(marks, first, own.count);
+    own.count
 }
 
-// The rows of the actions of an accepted file, of which there are `count`, by what it declares and by the places of its actions.
+// The rows of the actions of an accepted file, of which there are `count`, by what it declares and by the places of its actions, with so many
+// conditions on sums in all, whose row is made. The number of the goal's first.
 fn prepare_actions(
     file: &[u8],
     places: &[usize; PLACES],
@@ -342,25 +299,27 @@ fn prepare_actions(
     upper: &[i64; VARIABLES],
     m: usize,
     sizes: &[u16; MODES],
+    total: usize,
     marks: &mut [[u16; MARKS]],
     numbers: &mut [[i64; NUMBERS]],
-)
+) -> usize
     requires { ⌜ AcceptedWith (verdictOf sourceLimits (now file)) count × Declares (now file) n (now lower) (now upper) m (now sizes)
-        × ActionsPlaced (now file) (now places) count × (length (now marks) ≡ ROWS) × (length (now numbers) ≡ ROWS) ⌝ }
-    ensures { λ _. ⌜ RowsMade (now (file .entry)) count n (now (lower .entry)) (now (upper .entry)) m (now (sizes .entry)) count
+        × ActionsPlaced (now file) (now places) count × BlankRows 0 (now marks) (now numbers)
+        × SumsOf (now file) total (sumsOf (now numbers)) × SumsAsk (now file) count total (sumsOf (now numbers)) ⌝ }
+    ensures { λ r. ⌜ RowsMade (now (file .entry)) count n (now (lower .entry)) (now (upper .entry)) m (now (sizes .entry)) total count r
         (now (marks .exit)) (now (numbers .exit)) ⌝ }
 {
     let mut parts = [0u16; PART_MARKS];
     let mut constants = [0i64; PART_NUMBERS];
+    let mut first: usize = 0;
     let mut k: usize = 0;
     while k < count {
         let effects = decode_placed(file, places, k, &mut parts, &mut constants);
-        let sums = decode_placed_sums(file, places, k);
-        let mut row = [0u16; MARKS];
-        let mut line = [0i64; NUMBERS];
+        let part = file_actions::part(file, places[k], places[k + 1]);
+        let own = name_own(&mut marks[k], part, total, first);
         put_row(
-            &mut row,
-            &mut line,
+            &mut marks[k],
+            &mut numbers[k],
             n,
             lower,
             upper,
@@ -369,15 +328,15 @@ fn prepare_actions(
             &parts,
             &constants,
             effects,
-            sums,
         );
-        marks[k] = row;
-        numbers[k] = line;
+        first += own;
         k += 1;
     }
+    first
 }
 
-// The rows of the actions of an accepted file, of which there are `count`, by what it declares; behind them that of its goal.
+// The rows of the actions of an accepted file, of which there are `count`, by what it declares; behind them that of its goal, and last that of
+// its sums. The tables are zeros before: each row is written where it stays.
 pub fn prepare(
     file: &[u8],
     count: usize,
@@ -390,13 +349,14 @@ pub fn prepare(
     numbers: &mut [[i64; NUMBERS]],
 )
     requires { ⌜ AcceptedWith (verdictOf sourceLimits (now file)) count × Declares (now file) n (now lower) (now upper) m (now sizes)
-        × (length (now marks) ≡ ROWS) × (length (now numbers) ≡ ROWS) ⌝ }
+        × (now marks ≡ blankMarks) × (now numbers ≡ blankNumbers) ⌝ }
     ensures { λ _. ⌜ Prepared (now (file .entry)) count n (now (lower .entry)) (now (upper .entry)) m (now (sizes .entry)) (now (marks .exit))
         (now (numbers .exit)) ⌝ }
 {
     let mut places = [0usize; PLACES];
     file_actions::action_places(file, &mut places);
-    prepare_actions(
+    let total = source_sums::find_sums(file, &places, count, &mut numbers[SUMS_ROW]);
+    let first = prepare_actions(
         file,
         &places,
         count,
@@ -405,18 +365,22 @@ pub fn prepare(
         upper,
         m,
         sizes,
+        total,
         marks,
         numbers,
     );
     let mut parts = [0u16; PART_MARKS];
     let mut constants = [0i64; PART_NUMBERS];
     let goal = decode_goal(file, &places, count, &mut parts, &mut constants);
-    let goal_sums = decode_goal_sums(file, &places, count);
-    let mut last = [0u16; MARKS];
-    let mut most = [0i64; NUMBERS];
+    name_own(
+        &mut marks[count],
+        file_actions::goal_from(file, places[count]),
+        total,
+        first,
+    );
     put_row(
-        &mut last,
-        &mut most,
+        &mut marks[count],
+        &mut numbers[count],
         n,
         lower,
         upper,
@@ -425,8 +389,5 @@ pub fn prepare(
         &parts,
         &constants,
         goal,
-        goal_sums,
     );
-    marks[count] = last;
-    numbers[count] = most;
 }

@@ -36,7 +36,8 @@ found-below [] k a e = absurd (none-not-some refl e)
 found-below (x ∷ l) zero a e = omega arith
 found-below (x ∷ l) (suc k) a e = let h = found-below l k a e in omega arith
 
-answered : (n m : ℕ) (x z : State) (b : Bool) (o : Option State) → (b, z) ≡ handedBack n m x o → (verdictOver (stepVerdict b) z, z) ≡ returned x (ifApplies o 0 (λ y. given (withRest n m x y)))
+answered : (n m : ℕ) (x z : State) (b : Bool) (o : Option State) → (b, z) ≡ handedBack n m x o
+    → (verdictOver (stepVerdict b) z, z) ≡ returned x (ifApplies o 0 (λ y. given (withRest n m x y)))
 answered n m x z b none e = ap (λ (p : Bool × State). (verdictOver (stepVerdict (p .0)) (p .1), p .1)) e
 answered n m x z b (some y) e = ap (λ (p : Bool × State). (verdictOver (stepVerdict (p .0)) (p .1), p .1)) e
 
@@ -45,11 +46,13 @@ abbrev taskStep : SourceTask → State → ℕ → Answer State
 taskStep t x k = stepAlone (length (t .variables)) (length (t .modes)) (length (t .actions)) (stepSource t) x k
 
 -- the answer and the whole arrays after a row
-pub stepped-whole : {n m : ℕ} {marks : List ℕ} {numbers : List ℤ} {values : List ℤ} {modes : List ℕ} {r : Bool} {values′ : List ℤ} {modes′ : List ℕ} → Stepped n m marks numbers values modes r values′ modes′ → (r, state values′ modes′) ≡ steppedBy n m marks numbers (state values modes)
-stepped-whole T = rw (T .is, T .valuesAre, T .modesAre) refl
+pub stepped-whole : {n m : ℕ} {marks : List ℕ} {numbers : List ℤ} (sums : List ℤ) {values : List ℤ} {modes : List ℕ} {r : Bool} {values′ : List ℤ}
+    {modes′ : List ℕ} → Stepped n m marks numbers sums values modes r values′ modes′
+    → (r, state values′ modes′) ≡ steppedBy n m marks numbers sums (state values modes)
+stepped-whole sums T = rw (T .is, T .valuesAre, T .modesAre) refl
 
 -- a step by itself of the action that has these bytes
-module _ {file bytes marks : List ℕ} {numbers : List ℤ} {r : Declared} (R : RowRead file bytes marks numbers r) (k : ℕ)
+module _ {file bytes marks : List ℕ} {numbers sums : List ℤ} {r : Declared} (R : RowRead file bytes marks numbers sums r) (k : ℕ)
     (of : BytesOfAction sourceLimits file k bytes)
     (values : List ℤ) (modes : List ℕ) (valuesLong : length values ≡ 8) (modesLong : length modes ≡ 4) where
   abbrev t : SourceTask
@@ -58,7 +61,7 @@ module _ {file bytes marks : List ℕ} {numbers : List ℤ} {r : Declared} (R : 
   abbrev x : State
   x = state values modes
 
-  tried-so : {b : Bool} {values′ : List ℤ} {modes′ : List ℕ} → (b, state values′ modes′) ≡ steppedBy (r .variables) (r .modes) marks numbers x
+  tried-so : {b : Bool} {values′ : List ℤ} {modes′ : List ℕ} → (b, state values′ modes′) ≡ steppedBy (r .variables) (r .modes) marks numbers sums x
       → Tried (r .variables) (r .modes) (R .lower) (R .upper) (R .sizes) values modes (R .action) b values′ modes′
   tried-so e = tried
       (record {
@@ -82,7 +85,7 @@ module _ {file bytes marks : List ℕ} {numbers : List ℤ} {r : Declared} (R : 
   abbrev ofTask : ℕ → ℕ → Answer State
   ofTask n m = ifApplies (stepSource t (declaredPart n m x) k) 0 (λ y. given (withRest n m x y))
 
-  pub step-taken : (b : Bool) (values′ : List ℤ) (modes′ : List ℕ) → (b, state values′ modes′) ≡ steppedBy (r .variables) (r .modes) marks numbers x
+  pub step-taken : (b : Bool) (values′ : List ℤ) (modes′ : List ℕ) → (b, state values′ modes′) ≡ steppedBy (r .variables) (r .modes) marks numbers sums x
       → (verdictOver (stepVerdict b) (state values′ modes′), state values′ modes′) ≡ returned x (stepSourceAlone file x k)
   step-taken b values′ modes′ q =
       let is = task-by file k of in

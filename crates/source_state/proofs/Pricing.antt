@@ -97,17 +97,17 @@ module _ (n : ℕ) (l : List ℤ) where
   same-prices (e ∷ []) (o, os) = same-price e o
   same-prices (e ∷ f ∷ es) o = ap (λ (p : ℕ). 1 + p) (same-held (e ∷ f ∷ es) o)
 
-module _ {file bytes marks : List ℕ} {numbers : List ℤ} {r : Declared} (R : RowRead file bytes marks numbers r)
+module _ {file bytes marks : List ℕ} {numbers sums : List ℤ} {r : Declared} (R : RowRead file bytes marks numbers sums r)
     (values : List ℤ) (modes : List ℕ) where
   -- a state in which the row is taken can be priced
-  pub readable : takes (r .variables) (r .modes) marks numbers values modes ≡ true → Reads (r .variables) values marks numbers
+  pub readable : takes (r .variables) (r .modes) marks numbers sums values modes ≡ true → Reads (r .variables) values marks numbers
   readable e =
-      let passed = and-left (held (r .variables) (r .modes) marks numbers values modes) (staysIn (r .variables) marks numbers values) e in
+      let passed = and-left (held (r .variables) (r .modes) marks numbers sums values modes) (staysIn (r .variables) marks numbers values) e in
       read-when-held (r .modes) values modes (R .few .0) (R .row .usable) passed
 
   -- ---- a step of action k, in a state that is handed in
   module _ (k : ℕ) (of : BytesOfAction sourceLimits file k bytes) (valuesLong : length values ≡ 8) (modesLong : length modes ≡ 4)
-      {b : Bool} (applies : b ≡ takes (r .variables) (r .modes) marks numbers values modes) where
+      {b : Bool} (applies : b ≡ takes (r .variables) (r .modes) marks numbers sums values modes) where
     abbrev t : SourceTask
     t = task-of file 0
 
@@ -118,7 +118,7 @@ module _ {file bytes marks : List ℕ} {numbers : List ℤ} {r : Declared} (R : 
     priced o = then o (λ y. given (priceFrom (t .actions) x k))
 
     abbrev after : State
-    after = steppedBy (r .variables) (r .modes) marks numbers x .1
+    after = steppedBy (r .variables) (r .modes) marks numbers sums x .1
 
     alone : priced (verdictOver (stepVerdict b) after) ≡ priceStep file x k
     alone =

@@ -45,15 +45,15 @@ returned x a = (a, stateBack x a)
 pub record StepTaken (file bytes : List ℕ) (x : State) (r : StepAnswer) : Type 0 where
   pub meets : (k : ℕ) → BytesOfAction sourceLimits file k bytes → stepAnswerIs r ≡ returned x (stepSourceAlone file x k)
 
--- the row of the action that has these bytes, of an accepted file, was made
-pub record RowRead (file bytes : List ℕ) (marks : List ℕ) (numbers : List ℤ) (r : Declared) : Type 0 where
+-- the rows of the action that has these bytes, of an accepted file, and of its own conditions on sums were made
+pub record RowRead (file bytes : List ℕ) (marks : List ℕ) (numbers sums : List ℤ) (r : Declared) : Type 0 where
   pub lower : List ℤ
   pub upper : List ℤ
   pub start : List ℤ
   pub sizes : List ℕ
   pub first : List ℕ
   pub action : SourceAction
-  pub row : RowOf (r .variables) (r .modes) lower upper sizes marks numbers action
+  pub row : RowOf (r .variables) (r .modes) lower upper sizes marks numbers sums action
   pub few : (r .variables ≤ VARIABLES) × (r .modes ≤ MODES)
   pub holds : (t : SourceTask) → readSource file ≡ given t → HoldsSource t r lower upper start sizes first
   pub found : (t : SourceTask) → readSource file ≡ given t → (k : ℕ) → BytesOfAction sourceLimits file k bytes → getElem? (t .actions) k ≡ some action

@@ -18,9 +18,9 @@ abbrev pub steppedIs : Stepped → Bool × State
 steppedIs r = (r .applied, wholeIs (r .state))
 
 -- whether a row is taken, and the state after; where it isn't, the state before
-abbrev pub steppedBy : ℕ → ℕ → List ℕ → List ℤ → State → Bool × State
-steppedBy n m marks numbers x = (
-  takes n m marks numbers (x .values) (x .modes),
-  state (cond (takes n m marks numbers (x .values) (x .modes)) (valuesAfter n marks numbers (x .values)) (x .values))
-      (cond (takes n m marks numbers (x .values) (x .modes)) (modesAfter m marks (x .modes)) (x .modes)),
+abbrev pub steppedBy : ℕ → ℕ → List ℕ → List ℤ → List ℤ → State → Bool × State
+steppedBy n m marks numbers sums x = (
+  takes n m marks numbers sums (x .values) (x .modes),
+  state (cond (takes n m marks numbers sums (x .values) (x .modes)) (valuesAfter n marks numbers (x .values)) (x .values))
+      (cond (takes n m marks numbers sums (x .values) (x .modes)) (modesAfter m marks (x .modes)) (x .modes)),
 )

@@ -39,46 +39,70 @@ pub struct Stepped {
 
 impl State {
     // Whether the action of a row applies, in a task of n variables and m modes.
-    pub fn applies(self, n: usize, m: usize, marks: &[u16; MARKS], numbers: &[i64; NUMBERS]) -> bool
-        requires { ⌜ (n ≤ VARIABLES) × (m ≤ MODES) × Usable n (now marks) (now numbers) ⌝ }
-        ensures { λ r. ⌜ r ≡ takes n m (now (marks .entry)) (now (numbers .entry)) (self .values) (self .modes) ⌝ }
+    pub fn applies(
+        self,
+        n: usize,
+        m: usize,
+        marks: &[u16; MARKS],
+        numbers: &[i64; NUMBERS],
+        sums: &[i64; NUMBERS],
+    ) -> bool
+        requires { ⌜ (n ≤ VARIABLES) × (m ≤ MODES) × Usable n (now marks) (now numbers) (now sums) ⌝ }
+        ensures { λ r. ⌜ r ≡ takes n m (now (marks .entry)) (now (numbers .entry)) (now (sums .entry)) (self .values) (self .modes) ⌝ }
     {
         let mut values = self.values;
         let mut modes = self.modes;
-        source_step::take(&mut values, &mut modes, n, m, marks, numbers)
+        source_step::take(&mut values, &mut modes, n, m, marks, numbers, sums)
     }
 
     // The state after it; where it does not apply, the state before.
-    pub fn next(self, n: usize, m: usize, marks: &[u16; MARKS], numbers: &[i64; NUMBERS]) -> State
-        requires { ⌜ (n ≤ VARIABLES) × (m ≤ MODES) × Usable n (now marks) (now numbers) ⌝ }
-        ensures { λ r. ⌜ wholeIs r ≡ steppedBy n m (now (marks .entry)) (now (numbers .entry)) (wholeIs self) .1 ⌝ }
+    pub fn next(
+        self,
+        n: usize,
+        m: usize,
+        marks: &[u16; MARKS],
+        numbers: &[i64; NUMBERS],
+        sums: &[i64; NUMBERS],
+    ) -> State
+        requires { ⌜ (n ≤ VARIABLES) × (m ≤ MODES) × Usable n (now marks) (now numbers) (now sums) ⌝ }
+        ensures { λ r. ⌜ wholeIs r ≡ steppedBy n m (now (marks .entry)) (now (numbers .entry)) (now (sums .entry)) (wholeIs self) .1 ⌝ }
     {
         let mut values = self.values;
         let mut modes = self.modes;
-        source_step::take(&mut values, &mut modes, n, m, marks, numbers);
+        source_step::take(&mut values, &mut modes, n, m, marks, numbers, sums);
         State { values, modes }
     }
 
     // Both.
-    pub fn step(self, n: usize, m: usize, marks: &[u16; MARKS], numbers: &[i64; NUMBERS]) -> Stepped
-        requires { ⌜ (n ≤ VARIABLES) × (m ≤ MODES) × Usable n (now marks) (now numbers) ⌝ }
-        ensures { λ r. ⌜ steppedIs r ≡ steppedBy n m (now (marks .entry)) (now (numbers .entry)) (wholeIs self) ⌝ }
+    pub fn step(
+        self,
+        n: usize,
+        m: usize,
+        marks: &[u16; MARKS],
+        numbers: &[i64; NUMBERS],
+        sums: &[i64; NUMBERS],
+    ) -> Stepped
+        requires { ⌜ (n ≤ VARIABLES) × (m ≤ MODES) × Usable n (now marks) (now numbers) (now sums) ⌝ }
+        ensures { λ r. ⌜ steppedIs r ≡ steppedBy n m (now (marks .entry)) (now (numbers .entry)) (now (sums .entry)) (wholeIs self) ⌝ }
     {
-        let applied = self.applies(n, m, marks, numbers);
-        let state = self.next(n, m, marks, numbers);
+        let applied = self.applies(n, m, marks, numbers, sums);
+        let state = self.next(n, m, marks, numbers, sums);
         Stepped { applied, state }
     }
 }
 
-// The row of the action of an accepted file that has these bytes, in the place of zeros; how many variables and modes the file declares.
+// The rows of the action of an accepted file that has these bytes, and that of its own conditions on sums, in the place of zeros; how many
+// variables and modes the file declares.
 fn read_row(
     file: &[u8],
     bytes: &[u8],
     marks: &mut [u16; MARKS],
     numbers: &mut [i64; NUMBERS],
+    sums: &mut [i64; NUMBERS],
 ) -> Declared
-    requires { ⌜ BytesOfSome sourceLimits (now file) (now bytes) × (now marks ≡ replicate MARKS 0) × (now numbers ≡ replicate NUMBERS (pos 0)) ⌝ }
-    ensures { λ r. ⌜ RowRead (now (file .entry)) (now (bytes .entry)) (now (marks .exit)) (now (numbers .exit)) r ⌝ }
+    requires { ⌜ BytesOfSome sourceLimits (now file) (now bytes) × (now marks ≡ replicate MARKS 0) ⌝ }
+    requires { ⌜ (now numbers ≡ replicate NUMBERS (pos 0)) × (now sums ≡ replicate NUMBERS (pos 0)) ⌝ }
+    ensures { λ r. ⌜ RowRead (now (file .entry)) (now (bytes .entry)) (now (marks .exit)) (now (numbers .exit)) (now (sums .exit)) r ⌝ }
 {
     let mut lower = [0i64; VARIABLES];
     let mut upper = [0i64; VARIABLES];
@@ -98,7 +122,9 @@ fn read_row(
     let mut parts = [0u16; PART_MARKS];
     let mut constants = [0i64; PART_NUMBERS];
     let effects = file_actions::decode_source(bytes, &mut parts, &mut constants);
-    let sums = file_actions::decode_sums(bytes);
+    let own = file_actions::decode_sums(bytes);
+    source_sums::put_sums(sums, 0, own);
+    source_sums::name_sums(marks, 0, own.count);
     source_ready::put_row(
         marks,
         numbers,
@@ -110,7 +136,6 @@ fn read_row(
         &parts,
         &constants,
         effects,
-        sums,
     );
     declared
 }
@@ -143,8 +168,9 @@ fn step_accepted(file: &[u8], bytes: &[u8], state: State) -> StepAnswer
 {
     let mut marks = [0u16; MARKS];
     let mut numbers = [0i64; NUMBERS];
-    let declared = read_row(file, bytes, &mut marks, &mut numbers);
-    let stepped = state.step(declared.variables, declared.modes, &marks, &numbers);
+    let mut sums = [0i64; NUMBERS];
+    let declared = read_row(file, bytes, &mut marks, &mut numbers, &mut sums);
+    let stepped = state.step(declared.variables, declared.modes, &marks, &numbers, &sums);
     let after = stepped.state;
     StepAnswer {
         verdict: step_verdict(stepped.applied),
@@ -181,10 +207,11 @@ fn price_accepted(file: &[u8], bytes: &[u8], state: State) -> Priced
 {
     let mut marks = [0u16; MARKS];
     let mut numbers = [0i64; NUMBERS];
-    let declared = read_row(file, bytes, &mut marks, &mut numbers);
+    let mut sums = [0i64; NUMBERS];
+    let declared = read_row(file, bytes, &mut marks, &mut numbers, &mut sums);
     let n = declared.variables;
     let m = declared.modes;
-    if !state.applies(n, m, &marks, &numbers) {
+    if !state.applies(n, m, &marks, &numbers, &sums) {
         return Priced::Refused(12, 0);
     }
     let values = state.values;

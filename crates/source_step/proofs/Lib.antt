@@ -13,3 +13,4 @@ pub mod Sums
 pub mod Tables
 pub mod Taking
 pub mod Trying
+pub mod Weighing

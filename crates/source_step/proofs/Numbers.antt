@@ -84,7 +84,7 @@ module _ {n : ℕ} {values : List ℤ} {marks : List ℕ} {numbers : List ℤ} (
   operand-value = integerAt (take n values) (operandAt marks e)
 
   pub constant-near : natAbs (constantAt numbers e) ≤ 10_000
-  constant-near = R .usable .constants e (omega arith)
+  constant-near = R .effects .constants e l
 
   abbrev Gives : ℤ → Type 0
   Gives z = (z ≡ resultAt n marks numbers values e) × Within 1_000_000_000 z
@@ -102,4 +102,7 @@ module _ {n : ℕ} {values : List ℤ} {marks : List ℕ} {numbers : List ℤ} (
 
   pub gives-residue : 3 ≤ kindAt marks e → {z : ℤ} → z ≡ residueOf operand-value (constantAt numbers e) → Gives z
   gives-residue h q =
-      (q ∙ sym (result-residue marks numbers e n values h), rw q (residue-within operand-value (constantAt numbers e) (R .near (operandAt marks e)) constant-near (R .usable .divides e l (omega arith))))
+      let divides = R .effects .divides e l (omega arith) in (
+        q ∙ sym (result-residue marks numbers e n values h),
+        rw q (residue-within operand-value (constantAt numbers e) (R .near (operandAt marks e)) constant-near divides),
+      )

@@ -21,7 +21,7 @@ use Rattle.source_step.proofs.Steps.{values-near, step-of-task}
 use Rattle.source_step.proofs.Trying.{tried-keeps}
 use Rattle.source_step.specs.Row.{effectsAt, staysIn, held, Usable, Reads, Stepped}
 use Rattle.source_step.proofs.Taking as taking
-use Rattle.source_step.specs.Ready.{marksOf, numbersOf, Ready, Standing}
+use Rattle.source_step.specs.Ready.{marksOf, numbersOf, sumsOf, Ready, Standing}
 
 -- what a step leaves passes the test that it makes last
 last-passed : {A : Type 0} (f s : Bool) (o : Option A) (ok : A → Bool) (y : A) → cond f (bind o (λ z. cond s (cond (ok z) (some z) none) none)) none ≡ some y → ok y ≡ true
@@ -58,11 +58,11 @@ module _ {count : ℕ} {marks : List (List ℕ)} {numbers : List (List ℤ)} {n 
     near = let r = S .ready in values-near (S .task) (r .ok) (declaredPart n m (state values modes)) (rw (r .lowersAre, r .uppersAre, r .sizesAre) at (S .sound))
 
     module _ {k : ℕ} (l : k < count) where
-      pub usable : Usable n (marksOf marks k) (numbersOf numbers k)
+      pub usable : Usable n (marksOf marks k) (numbersOf numbers k) (sumsOf numbers)
       usable = S .ready .rowsAre k l .row .usable
 
       pub reads : Reads n values (marksOf marks k) (numbersOf numbers k)
-      reads = record { variablesFew = S .shaped .variablesFew; near = near; usable = usable }
+      reads = record { variablesFew = S .shaped .variablesFew; near = near; effects = usable .effects }
 
       pub fits : effectsFit (effectsAt (marksOf marks k) (numbersOf numbers k)) (integerAt (take n values)) ≡ true
       fits =
@@ -71,7 +71,7 @@ module _ {count : ℕ} {marks : List (List ℕ)} {numbers : List (List ℤ)} {n 
 
       -- the rows ask just the conditions
       pub opens : let a = S .ready .rowsAre k l .action in
-          held n m (marksOf marks k) (numbersOf numbers k) values modes
+          held n m (marksOf marks k) (numbersOf numbers k) (sumsOf numbers) values modes
           ≡ (modesHold (a .modeConditions) (naturalAt (take m modes)) && conditionsHold (a .conditions) (integerAt (take n values)))
       opens =
           let R = S .ready .rowsAre k l .row in
@@ -81,7 +81,8 @@ module _ {count : ℕ} {marks : List (List ℕ)} {numbers : List (List ℤ)} {n 
           (R .values values ∙ ap (λ (b : Bool). b && conditionsHold (a .conditions) (integerAt (take n values))) values-within)
 
     -- the goal is met
-    pub goal-met : held n m (marksOf marks count) (numbersOf numbers count) values modes ≡ sourceGoalHolds (S .task) (declaredPart n m (state values modes))
+    pub goal-met : held n m (marksOf marks count) (numbersOf numbers count) (sumsOf numbers) values modes
+        ≡ sourceGoalHolds (S .task) (declaredPart n m (state values modes))
     goal-met =
         let R = S .ready .goalRow in
         ap₂ (λ (p q : Bool). p && q)
@@ -89,7 +90,8 @@ module _ {count : ℕ} {marks : List (List ℕ)} {numbers : List (List ℤ)} {n 
         (R .values values ∙ ap (λ (b : Bool). b && conditionsHold (S .task .goalConditions) (integerAt (take n values))) values-within)
 
   -- ---- a step
-  module _ {k : ℕ} (l : k < count) {values : List ℤ} {modes : List ℕ} (shaped : Shaped n m values modes sizes) {r : Bool} {values′ : List ℤ} {modes′ : List ℕ} (T : Stepped n m (marksOf marks k) (numbersOf numbers k) values modes r values′ modes′) where
+  module _ {k : ℕ} (l : k < count) {values : List ℤ} {modes : List ℕ} (shaped : Shaped n m values modes sizes) {r : Bool} {values′ : List ℤ} {modes′ : List ℕ}
+      (T : Stepped n m (marksOf marks k) (numbersOf numbers k) (sumsOf numbers) values modes r values′ modes′) where
     module _ (t : SourceTask) (ready : Ready t count marks numbers n lower upper m sizes) where
       abbrev action : SourceAction
       action = ready .rowsAre k l .action
@@ -103,7 +105,7 @@ module _ {count : ℕ} {marks : List (List ℕ)} {numbers : List (List ℤ)} {n 
           ∙ rw (← ready .lowersAre, ← ready .uppersAre, ← ready .sizesAre) (tried .declares)
 
       -- an action whose conditions hold and that does not apply has a result out of bounds
-      pub turned-back : held n m (marksOf marks k) (numbersOf numbers k) values modes ≡ true → r ≡ false
+      pub turned-back : held n m (marksOf marks k) (numbersOf numbers k) (sumsOf numbers) values modes ≡ true → r ≡ false
           → withinBounds (lowerBounds t) (upperBounds t) (results (action .effects) (integerAt (take n values))) ≡ false
       turned-back h e =
           rw (← ready .lowersAre, ← ready .uppersAre) (
@@ -132,7 +134,8 @@ module _ {count : ℕ} {marks : List (List ℕ)} {numbers : List (List ℤ)} {n 
           go false e = ap (λ (x : State). soundSource (integerAt (take n lower)) (integerAt (take n upper)) (take m sizes) (declaredPart n m x)) (unchanged e) ∙ s
 
   pub stands : {values : List ℤ} {modes : List ℕ} (S : Standing count marks numbers n lower upper m sizes values modes) {k : ℕ} → k < count → {r : Bool} {values′ : List ℤ} {modes′ : List ℕ}
-      → Stepped n m (marksOf marks k) (numbersOf numbers k) values modes r values′ modes′ → Standing count marks numbers n lower upper m sizes values′ modes′
+      → Stepped n m (marksOf marks k) (numbersOf numbers k) (sumsOf numbers) values modes r values′ modes′
+      → Standing count marks numbers n lower upper m sizes values′ modes′
   stands S l T = record {
     task = S .task;
     ready = S .ready;

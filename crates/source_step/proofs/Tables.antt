@@ -15,7 +15,7 @@ use Rattle.model.specs.Steps.{naturalAt, integerAt, modesHold, conditionsHold, 
 use Rattle.model.specs.Expansion.{priceOfEffects, priceFrom}
 use Rattle.source_step.specs.Step.{state, Kept}
 use Rattle.source_step.specs.Row.{Usable, Stepped}
-use Rattle.source_step.specs.Ready.{marksOf, numbersOf, Standing, RowAt}
+use Rattle.source_step.specs.Ready.{marksOf, numbersOf, sumsOf, Standing, RowAt}
 use Rattle.source_step.specs.Table.{Table, declaredBy, heldBy, takesBy, afterBy, goalBy, priceBy, Usables, RowsOf, Inside}
 use Rattle.source_step.proofs.Standing as standing
 
@@ -33,7 +33,7 @@ module _ {t : SourceTask} {T : Table} (R : RowsOf t T) where
     usable = λ k l. go k l (ℕ-discrete k (T .count));
   }
     where
-      go : (k : ℕ) → k ≤ T .count → Dec (k ≡ T .count) → Usable (T .variables) (marksOf (T .marks) k) (numbersOf (T .numbers) k)
+      go : (k : ℕ) → k ≤ T .count → Dec (k ≡ T .count) → Usable (T .variables) (marksOf (T .marks) k) (numbersOf (T .numbers) k) (sumsOf (T .numbers))
       go k l (yes e) = rw e (R .ready .goalRow .usable)
       go k l (no e) = rowAt k (omega arith) .row .usable
 
@@ -58,7 +58,8 @@ module _ {t : SourceTask} {T : Table} (R : RowsOf t T) where
       abbrev b : Bool
       b = takesBy T x k
 
-      stepped : Stepped (T .variables) (T .modes) (marksOf (T .marks) k) (numbersOf (T .numbers) k) (x .values) (x .modes) b (cond b (after .values) (x .values)) (cond b (after .modes) (x .modes))
+      stepped : Stepped (T .variables) (T .modes) (marksOf (T .marks) k) (numbersOf (T .numbers) k) (sumsOf (T .numbers)) (x .values) (x .modes)
+          b (cond b (after .values) (x .values)) (cond b (after .modes) (x .modes))
       stepped = record { is = refl; valuesAre = refl; modesAre = refl }
 
       pub step-agrees : stepSource t (declaredBy T x) k ≡ provided (takesBy T x k) (declaredBy T (afterBy T x k))
@@ -69,7 +70,8 @@ module _ {t : SourceTask} {T : Table} (R : RowsOf t T) where
           there false = refl
 
       module _ (h : takesBy T x k ≡ true) where
-        taken : Stepped (T .variables) (T .modes) (marksOf (T .marks) k) (numbersOf (T .numbers) k) (x .values) (x .modes) true (after .values) (after .modes)
+        taken : Stepped (T .variables) (T .modes) (marksOf (T .marks) k) (numbersOf (T .numbers) k) (sumsOf (T .numbers)) (x .values) (x .modes)
+            true (after .values) (after .modes)
         taken = record { is = sym h; valuesAre = rw h refl; modesAre = rw h refl }
 
         pub inside-after : Inside R (afterBy T x k)

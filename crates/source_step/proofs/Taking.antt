@@ -34,41 +34,47 @@ four-fail true false p c rest y e = refl
 four-fail false m p c rest y e = refl
 
 -- a state that passes the test of the rows has values of a source file
-pub read-when-held : {n : ℕ} (m : ℕ) {marks : List ℕ} {numbers : List ℤ} (values : List ℤ) (modes : List ℕ) → n ≤ VARIABLES → Usable n marks numbers
-    → held n m marks numbers values modes ≡ true → Reads n values marks numbers
-read-when-held {n} m {marks} {numbers} values modes l u h =
-    let inside = and-right (modesIn m marks modes) (valuesIn n numbers values && sumsHold n marks numbers values) h in
-    record { variablesFew = l; near = u .near values (and-left (valuesIn n numbers values) (sumsHold n marks numbers values) inside); usable = u }
+pub read-when-held : {n : ℕ} (m : ℕ) {marks : List ℕ} {numbers sums : List ℤ} (values : List ℤ) (modes : List ℕ) → n ≤ VARIABLES
+    → Usable n marks numbers sums → held n m marks numbers sums values modes ≡ true → Reads n values marks numbers
+read-when-held {n} m {marks} {numbers} {sums} values modes l u h =
+    let inside = and-right (modesIn m marks modes) (valuesIn n numbers values && sumsHold n marks sums values) h in
+    record { variablesFew = l; near = u .near values (and-left (valuesIn n numbers values) (sumsHold n marks sums values) inside); effects = u .effects }
 
 -- the test of the rows asks the ranges first, then the conditions on sums
 and-assoc : (a b c : Bool) → (a && (b && c)) ≡ ((a && b) && c)
 and-assoc true b c = refl
 and-assoc false b c = refl
 
-pub out-of-range : (n m : ℕ) (marks : List ℕ) (numbers values : List ℤ) (modes : List ℕ) → (modesIn m marks modes && valuesIn n numbers values) ≡ false
-    → held n m marks numbers values modes ≡ false
-out-of-range n m marks numbers values modes e =
-    let sums = sumsHold n marks numbers values in
-    and-assoc (modesIn m marks modes) (valuesIn n numbers values) sums ∙ ap (λ (b : Bool). b && sums) e
+ranges-first : (n m : ℕ) (marks : List ℕ) (numbers sums values : List ℤ) (modes : List ℕ) {b : Bool} → (modesIn m marks modes && valuesIn n numbers values) ≡ b
+    → held n m marks numbers sums values modes ≡ (b && sumsHold n marks sums values)
+ranges-first n m marks numbers sums values modes e =
+    let rest = sumsHold n marks sums values in
+    and-assoc (modesIn m marks modes) (valuesIn n numbers values) rest ∙ ap (λ (b : Bool). b && rest) e
+
+pub out-of-range : (n m : ℕ) (marks : List ℕ) (numbers sums values : List ℤ) (modes : List ℕ)
+    → (modesIn m marks modes && valuesIn n numbers values) ≡ false → held n m marks numbers sums values modes ≡ false
+out-of-range n m marks numbers sums values modes e = ranges-first n m marks numbers sums values modes e
 
 -- every mode and value lies between what the rows say
 pub record RangesHold (n m : ℕ) (marks : List ℕ) (numbers values : List ℤ) (modes : List ℕ) : Type 0 where
   pub passes : (modesIn m marks modes && valuesIn n numbers values) ≡ true
 
 module _ {n m : ℕ} {marks : List ℕ} {numbers : List ℤ} {values : List ℤ} {modes : List ℕ} (h : RangesHold n m marks numbers values modes) where
-  pub sums-decide : held n m marks numbers values modes ≡ sumsHold n marks numbers values
-  sums-decide =
-      let sums = sumsHold n marks numbers values in
-      and-assoc (modesIn m marks modes) (valuesIn n numbers values) sums ∙ ap (λ (b : Bool). b && sums) (h .passes)
+  pub sums-decide : (sums : List ℤ) → held n m marks numbers sums values modes ≡ sumsHold n marks sums values
+  sums-decide sums = ranges-first n m marks numbers sums values modes (h .passes)
 
-  pub read-in-range : n ≤ VARIABLES → Usable n marks numbers → Reads n values marks numbers
+  pub read-in-range : n ≤ VARIABLES → {sums : List ℤ} → Usable n marks numbers sums → Reads n values marks numbers
   read-in-range l u =
-      record { variablesFew = l; near = u .near values (and-right (modesIn m marks modes) (valuesIn n numbers values) (h .passes)); usable = u }
+      record {
+        variablesFew = l;
+        near = u .near values (and-right (modesIn m marks modes) (valuesIn n numbers values) (h .passes));
+        effects = u .effects;
+      }
 
 -- ---- what the ways through a step come to
 module _ {n m : ℕ} {marks : List ℕ} {numbers : List ℤ} {values : List ℤ} {modes : List ℕ} where
-  pub not-held : held n m marks numbers values modes ≡ false → Stepped n m marks numbers values modes false values modes
-  not-held e = record { is = rw e refl; valuesAre = rw e refl; modesAre = rw e refl }
+  pub not-held : (sums : List ℤ) → held n m marks numbers sums values modes ≡ false → Stepped n m marks numbers sums values modes false values modes
+  not-held sums e = record { is = rw e refl; valuesAre = rw e refl; modesAre = rw e refl }
 
   pub stays : {values′ : List ℤ} → staysIn n marks numbers values ≡ false → values′ ≡ values → Finished n m marks numbers values modes false values′ modes
   stays f s = record { is = rw f refl; valuesAre = rw f s; modesAre = rw f refl }
@@ -78,12 +84,13 @@ module _ {n m : ℕ} {marks : List ℕ} {numbers : List ℤ} {values : List ℤ}
   goes f s t = record { is = rw f refl; valuesAre = rw f s; modesAre = rw f t }
 
   -- the test passed, and the rest was taken: the whole step
-  pub behind-the-test : held n m marks numbers values modes ≡ true → {r : Bool} {values′ : List ℤ} {modes′ : List ℕ}
-      → Finished n m marks numbers values modes r values′ modes′ → Stepped n m marks numbers values modes r values′ modes′
-  behind-the-test e F = record { is = rw e (F .is); valuesAre = rw e (F .valuesAre); modesAre = rw e (F .modesAre) }
+  pub behind-the-test : (sums : List ℤ) → held n m marks numbers sums values modes ≡ true → {r : Bool} {values′ : List ℤ} {modes′ : List ℕ}
+      → Finished n m marks numbers values modes r values′ modes′ → Stepped n m marks numbers sums values modes r values′ modes′
+  behind-the-test sums e F = record { is = rw e (F .is); valuesAre = rw e (F .valuesAre); modesAre = rw e (F .modesAre) }
 
 module _ {n m : ℕ} {marks : List ℕ} {numbers : List ℤ} {values : List ℤ} {modes : List ℕ} where
-  module _ {lower upper : List ℤ} {sizes : List ℕ} {a : SourceAction} (S : Shaped n m values modes sizes) (R : RowOf n m lower upper sizes marks numbers a) where
+  module _ {lower upper : List ℤ} {sizes : List ℕ} {sums : List ℤ} {a : SourceAction} (S : Shaped n m values modes sizes)
+      (R : RowOf n m lower upper sizes marks numbers sums a) where
     -- the bounds in the row are those of the target
     pub bounds-are : staysIn n marks numbers values ≡ withinBounds (integerAt (take n lower)) (integerAt (take n upper)) (results (a .effects) (integerAt (take n values)))
     bounds-are =
@@ -126,7 +133,7 @@ module _ {n m : ℕ} {marks : List ℕ} {numbers : List ℤ} {values : List ℤ}
         step-asks (take n lower) (take n upper) (take m sizes) (declaredPart n m (state values modes)) a
         ∙ rw (values-sound n lower upper values (omega (arith, S .valuesLong, S .variablesFew)), modes-sound m sizes modes (omega (arith, S .sizesLong, S .modesFew)) (omega (arith, S .modesLong, S .modesFew)), below-after, bounds-are) refl
 
-    rows-are : held n m marks numbers values modes
+    rows-are : held n m marks numbers sums values modes
         ≡ ((modesBelow m sizes modes && modesHold (a .modeConditions) (naturalAt (take m modes)))
         && (valuesBetween n lower upper values && conditionsHold (a .conditions) (integerAt (take n values))))
     rows-are = ap₂ (λ (p q : Bool). p && q) (R .modes modes) (R .values values)
@@ -135,13 +142,13 @@ module _ {n m : ℕ} {marks : List ℕ} {numbers : List ℤ} {values : List ℤ}
     refusal p s t e =
         rw (p, s, t) (record { meets = ap (handedBack n m (state values modes)) (sym (step-made ∙ e)); declares = step-made ∙ e; valuesLong = S .valuesLong; modesLong = S .modesLong })
 
-    fails-before : held n m marks numbers values modes ≡ false → asked made (after (declaredPart n m (state values modes)) a) ≡ none
+    fails-before : held n m marks numbers sums values modes ≡ false → asked made (after (declaredPart n m (state values modes)) a) ≡ none
     fails-before e =
         (four-fail (valuesBetween n lower upper values) (modesBelow m sizes modes) (modesHold (a .modeConditions) (naturalAt (take m modes))) (conditionsHold (a .conditions) (integerAt (take n values)))
         (effectsFit (a .effects) (integerAt (take n values)) ∷ modesBelow m sizes (modesAfter m marks modes) ∷ staysIn n marks numbers values ∷ [])
         (after (declaredPart n m (state values modes)) a) (sym rows-are ∙ e))
 
-    module _ (h : held n m marks numbers values modes ≡ true) where
+    module _ (h : held n m marks numbers sums values modes ≡ true) where
       before : All (λ (b : Bool). b ≡ true) (valuesBetween n lower upper values ∷ modesBelow m sizes modes ∷ modesHold (a .modeConditions) (naturalAt (take m modes)) ∷ conditionsHold (a .conditions) (integerAt (take n values)) ∷ [])
       before =
           let mb = modesBelow m sizes modes in
@@ -158,8 +165,9 @@ module _ {n m : ℕ} {marks : List ℕ} {numbers : List ℤ} {values : List ℤ}
           let b = before in
           all-pass made _ (b .0, (b .1 .0, (b .1 .1 .0, (b .1 .1 .1 .0, (R .fits values (b .0), (R .setsBelow modes (omega (arith, S .modesLong, S .modesFew)) (b .1 .0), (w, tt)))))))
 
-    passes : {r : Bool} {values′ : List ℤ} {modes′ : List ℕ} → r ≡ true → held n m marks numbers values modes ≡ true → staysIn n marks numbers values ≡ true
-        → values′ ≡ settled n (outcomesAt n marks numbers values) values → modes′ ≡ modesAfter m marks modes → Tried n m lower upper sizes values modes a r values′ modes′
+    passes : {r : Bool} {values′ : List ℤ} {modes′ : List ℕ} → r ≡ true → held n m marks numbers sums values modes ≡ true
+        → staysIn n marks numbers values ≡ true → values′ ≡ settled n (outcomesAt n marks numbers values) values → modes′ ≡ modesAfter m marks modes
+        → Tried n m lower upper sizes values modes a r values′ modes′
     passes {r} {values′} {modes′} p h w s t =
         let o = results (a .effects) (integerAt (take n values)) in
         let u : values′ ≡ settled n o values = s ∙ ap (λ (es : List Effect). settled n (results es (integerAt (take n values))) values) (R .effects) in
@@ -177,10 +185,12 @@ module _ {n m : ℕ} {marks : List ℕ} {numbers : List ℤ} {values : List ℤ}
         front-values ps = length-setAll ps (take n values) ∙ length-take-le n values (omega (arith, S .valuesLong, S .variablesFew))
 
     -- THE LAW, in every state
-    pub tried : {r : Bool} {values′ : List ℤ} {modes′ : List ℕ} → Stepped n m marks numbers values modes r values′ modes′ → Tried n m lower upper sizes values modes a r values′ modes′
-    tried {r} {values′} {modes′} T = go (held n m marks numbers values modes) (staysIn n marks numbers values) refl refl (T .is) (T .valuesAre) (T .modesAre)
+    pub tried : {r : Bool} {values′ : List ℤ} {modes′ : List ℕ} → Stepped n m marks numbers sums values modes r values′ modes′
+        → Tried n m lower upper sizes values modes a r values′ modes′
+    tried {r} {values′} {modes′} T =
+        go (held n m marks numbers sums values modes) (staysIn n marks numbers values) refl refl (T .is) (T .valuesAre) (T .modesAre)
       where
-        go : (h w : Bool) → held n m marks numbers values modes ≡ h → staysIn n marks numbers values ≡ w
+        go : (h w : Bool) → held n m marks numbers sums values modes ≡ h → staysIn n marks numbers values ≡ w
             → r ≡ (h && w) → values′ ≡ cond (h && w) (valuesAfter n marks numbers values) values → modes′ ≡ cond (h && w) (modesAfter m marks modes) modes → Tried n m lower upper sizes values modes a r values′ modes′
         go true true e f p s t = passes p e f s t
         go true false e f p s t = refusal p s t (one-fails made 6 _ f)

@@ -1,30 +1,26 @@
--- Where the numbers of an action's two rows stand. The names are those of the code; sumCount is its SUM_COUNT.
+-- Where the numbers of an action's two rows stand, and those of the row of a task's sums. The names are those of the code; sumFirst is its
+-- SUM_FIRST, and so with the others.
 --     marks     of mode i: its least value at i, its most at TOP + i, 1 at KEEP + i where it stays and 0 where it is set, at PUT + i
 --               what it is set to (0 where it stays); at MANY how many effects it has; of effect e, each BLOCK further on than of the one
---               before: its kind, its target, its operand, the count of its terms, their variables; at sumCount how many conditions on sums
---               it has
+--               before: its kind, its target, its operand, the count of its terms, their variables; at sumFirst the number of its first
+--               condition on a sum among those of the task, at sumCount how many it has
 --     numbers   of variable i: its least value at i, its most at MOST + i; of effect e, each BLOCK further on: its constant, the weights of its
 --               terms (0 where there is none), the bounds of its target
--- Condition j on a sum has block EFFECTS + j, behind those of the effects: its relation's number in the place of the kind, its terms as an L has
--- them, 0 in the place of the constant, and in that of the lower bound the constant that the sum is compared with.
+--     sums      of condition j on a sum, of the task: the weight of variable v at VARIABLES × j + v (0 where it has no such term), the least sum
+--               of which it holds at sumLeast + j, the most at sumMost + j
 -- Assumes nothing.
-use Prim.Native.Nat.{ℕ, _+_}
-use Rattle.source_step.specs.Sizes.{EFFECTS, SUMS}
+use Prim.Native.Nat.{ℕ}
 
 -- ---- how long the two rows are
 abbrev pub MARKS : ℕ
-MARKS = 74
+MARKS = 43
 
 abbrev pub NUMBERS : ℕ
-NUMBERS = 72
+NUMBERS = 40
 
 -- how far the numbers of an effect stand behind those of the effect before, in either row
 abbrev pub BLOCK : ℕ
 BLOCK = 8
-
--- for how many effects and conditions on sums there is room
-abbrev pub BLOCKS : ℕ
-BLOCKS = EFFECTS + SUMS
 
 -- ---- in the marks
 abbrev pub TOP : ℕ
@@ -54,8 +50,11 @@ COUNT = 20
 abbrev pub TERM : ℕ
 TERM = 21
 
+abbrev pub sumFirst : ℕ
+sumFirst = 41
+
 abbrev pub sumCount : ℕ
-sumCount = 73
+sumCount = 42
 
 -- ---- in the numbers
 abbrev pub MOST : ℕ
@@ -72,6 +71,13 @@ LOWER = 21
 
 abbrev pub UPPER : ℕ
 UPPER = 22
+
+-- ---- in the sums
+abbrev pub sumLeast : ℕ
+sumLeast = 32
+
+abbrev pub sumMost : ℕ
+sumMost = 36
 
 -- ---- the kinds of effect; any number past these is a residue
 abbrev pub ADD : ℕ

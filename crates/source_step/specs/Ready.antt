@@ -5,14 +5,16 @@ use Prim.Native.Nat.{ℕ, _<_}
 use mathlib.Core.Bool.{true}
 use mathlib.Core.Option.{some}
 use mathlib.Core.List.{List, [], map}
-use lib.ListN.{length, getD, take, getElem?}
-use lib.IntN.{ℤ}
+use lib.ListN.{length, getD, take, replicate, getElem?}
+use lib.IntN.{ℤ, pos}
 use Rattle.lists.specs.Answer.{given}
 use Rattle.model.specs.Tasks.{SourceTask, SourceVariable, SourceAction}
 use Rattle.model.specs.TaskOk.{SourceTaskOk}
 use Rattle.model.specs.Steps.{integerAt, sizesOf, soundSource}
 use Rattle.model.specs.Decoding.{readSource}
 use Rattle.model.specs.Judging.{declaredPart}
+use Rattle.source_step.specs.Sizes.{ROWS, sumsRow}
+use Rattle.source_step.specs.Layout.{MARKS, NUMBERS}
 use Rattle.source_step.specs.Step.{state, Shaped}
 use Rattle.source_step.specs.Row.{RowOf}
 
@@ -22,12 +24,23 @@ marksOf marks k = getD marks k []
 abbrev pub numbersOf : List (List ℤ) → ℕ → List ℤ
 numbersOf numbers k = getD numbers k []
 
+-- the row of the task's sums, behind those of its actions and of its goal
+abbrev pub sumsOf : List (List ℤ) → List ℤ
+sumsOf numbers = numbersOf numbers sumsRow
+
+-- tables in which no row is made yet
+abbrev pub blankMarks : List (List ℕ)
+blankMarks = replicate ROWS (replicate MARKS 0)
+
+abbrev pub blankNumbers : List (List ℤ)
+blankNumbers = replicate ROWS (replicate NUMBERS (pos 0))
+
 -- the rows at k are those of action k
 pub record RowAt (acts : List SourceAction) (n m : ℕ) (lower upper : List ℤ) (sizes : List ℕ) (marks : List (List ℕ))
     (numbers : List (List ℤ)) (k : ℕ) : Type 0 where
   pub action : SourceAction
   pub found : getElem? acts k ≡ some action
-  pub row : RowOf n m lower upper sizes (marksOf marks k) (numbersOf numbers k) action
+  pub row : RowOf n m lower upper sizes (marksOf marks k) (numbersOf numbers k) (sumsOf numbers) action
 
 -- the goal as an action without effects
 abbrev pub goalAction : SourceTask → SourceAction
@@ -42,9 +55,9 @@ pub record Ready (t : SourceTask) (count : ℕ) (marks : List (List ℕ)) (numbe
   pub lowersAre : take n lower ≡ map (λ (b : SourceVariable). b .lower) (t .variables)
   pub uppersAre : take n upper ≡ map (λ (b : SourceVariable). b .upper) (t .variables)
   pub sizesAre : take m sizes ≡ sizesOf (t .modes)
-  pub goalRow : RowOf n m lower upper sizes (marksOf marks count) (numbersOf numbers count) (goalAction t)
-  pub marksLong : length marks ≡ 33
-  pub numbersLong : length numbers ≡ 33
+  pub goalRow : RowOf n m lower upper sizes (marksOf marks count) (numbersOf numbers count) (sumsOf numbers) (goalAction t)
+  pub marksLong : length marks ≡ ROWS
+  pub numbersLong : length numbers ≡ ROWS
 
 -- they are those of some task, and its state lies within its bounds
 pub record Standing (count : ℕ) (marks : List (List ℕ)) (numbers : List (List ℤ)) (n : ℕ) (lower upper : List ℤ) (m : ℕ) (sizes : List ℕ) (values : List ℤ)

@@ -1,5 +1,5 @@
--- An action of an accepted source task made ready for many steps: two rows of numbers, in the place of lists of conditions and effects; and
--- what a step by them does, in every state. Where each number stands is said in Layout.
+-- An action of an accepted source task made ready for many steps: two rows of numbers, in the place of lists of conditions and effects, and a
+-- row of the task's sums beside them; and what a step by them does, in every state. Where each number stands is said in Layout.
 -- Assumes nothing.
 use mathlib.Core.Path.{_≡_}
 use Prim.Native.Nat.{ℕ, zero, suc, min, _+_, _*_, _≤_, _<_}
@@ -7,17 +7,17 @@ use mathlib.Core.Bool.{Bool, true, cond, _&&_}
 use mathlib.Core.List.{List, _++_}
 use lib.Dec.{eqb, leb}
 use lib.ListN.{length, take, drop}
-use lib.IntN.{ℤ, pos, natAbs}
-use Rattle.integers.specs.Relation.{relationOf, related, between}
+use lib.IntN.{ℤ, natAbs}
+use Rattle.integers.specs.Relation.{between}
 use Rattle.lists.specs.Each.{tabulate}
 use Rattle.lists.specs.Loops.{every}
-use Rattle.model.specs.Tasks.{weightedSum, NumericCondition, Effect, addEffect, linearEffect, quotientEffect, residueEffect, SourceAction}
+use Rattle.model.specs.Tasks.{Effect, addEffect, linearEffect, quotientEffect, residueEffect, SourceAction}
 use Rattle.model.specs.Steps.{integerAt, naturalAt, modesHold, weigh, conditionsHold, setAll, result, results}
 use Rattle.source_step.specs.Parts.{valuesBetween, modesBelow, effectsFit}
 use Rattle.source_step.specs.Sizes.{VARIABLES, MODES, EFFECTS, SUMS}
 use Rattle.source_step.specs.Step.{settled}
-use Rattle.source_step.specs.Layout.{BLOCK, BLOCKS, TOP, KEEP, PUT, MANY, KIND, TARGET, OPERAND, COUNT, TERM, sumCount}
-use Rattle.source_step.specs.Layout.{MOST, CONSTANT, WEIGHT, LOWER, UPPER, ADD, LINEAR, QUOTIENT}
+use Rattle.source_step.specs.Layout.{BLOCK, TOP, KEEP, PUT, MANY, KIND, TARGET, OPERAND, COUNT, TERM, sumFirst, sumCount}
+use Rattle.source_step.specs.Layout.{MOST, CONSTANT, WEIGHT, LOWER, UPPER, sumLeast, sumMost, ADD, LINEAR, QUOTIENT}
 
 -- ---- what the rows ask of a state with n variables and m modes
 abbrev pub valuesIn : ℕ → List ℤ → List ℤ → Bool
@@ -105,52 +105,69 @@ firstOutside n marks numbers values = leading (staysAt n marks numbers values) (
 abbrev pub staysIn : ℕ → List ℕ → List ℤ → List ℤ → Bool
 staysIn n marks numbers values = every (λ b. b) (tabulate (effectCountAt marks) (staysAt n marks numbers values))
 
--- ---- the conditions on sums: how many, and condition j of them
+-- ---- the sums of the task, in a row of their own: sum j, with a term for each variable, and what it comes to
+abbrev pub weightsIn : List ℤ → ℕ → List (ℕ × ℤ)
+weightsIn sums j = tabulate VARIABLES (λ v. (v, integerAt sums (VARIABLES * j + v)))
+
+abbrev pub sumAt : ℕ → List ℤ → List ℤ → ℕ → ℤ
+sumAt n sums values j = weigh (weightsIn sums j) (integerAt (take n values))
+
+-- whether the condition on it holds
+abbrev pub sumHolds : ℕ → List ℤ → List ℤ → ℕ → Bool
+sumHolds n sums values j = between (integerAt sums (sumLeast + j)) (integerAt sums (sumMost + j)) (sumAt n sums values j)
+
+-- those of an action: which is the first, and how many they are; whether all hold
+abbrev pub sumFirstAt : List ℕ → ℕ
+sumFirstAt marks = naturalAt marks sumFirst
+
 abbrev pub sumCountAt : List ℕ → ℕ
-sumCountAt marks = min SUMS (naturalAt marks sumCount)
+sumCountAt marks = naturalAt marks sumCount
 
-abbrev pub sumAt : List ℕ → List ℤ → ℕ → NumericCondition ℕ
-sumAt marks numbers j = record {
-  measured = weightedSum (termsAt marks numbers (EFFECTS + j));
-  relation = relationOf (kindAt marks (EFFECTS + j));
-  constant = integerAt numbers (LOWER + BLOCK * (EFFECTS + j));
-}
-
-abbrev pub sumsAt : List ℕ → List ℤ → List (NumericCondition ℕ)
-sumsAt marks numbers = tabulate (sumCountAt marks) (sumAt marks numbers)
-
--- whether condition j holds, and whether all do
-abbrev pub sumHolds : ℕ → List ℕ → List ℤ → List ℤ → ℕ → Bool
-sumHolds n marks numbers values j =
-    related (relationOf (kindAt marks (EFFECTS + j))) (weigh (termsAt marks numbers (EFFECTS + j)) (integerAt (take n values)))
-    (integerAt numbers (LOWER + BLOCK * (EFFECTS + j)))
+abbrev pub sumsHoldFrom : ℕ → List ℤ → List ℤ → ℕ → ℕ → Bool
+sumsHoldFrom n sums values first count = every (λ b. b) (tabulate count (λ i. sumHolds n sums values (first + i)))
 
 abbrev pub sumsHold : ℕ → List ℕ → List ℤ → List ℤ → Bool
-sumsHold n marks numbers values = conditionsHold (sumsAt marks numbers) (integerAt (take n values))
+sumsHold n marks sums values = sumsHoldFrom n sums values (sumFirstAt marks) (sumCountAt marks)
 
 -- ---- a mode stays as it is or is set, and remains a number of 16 bits
 abbrev pub KeepOrSet : List ℕ → Type 0
 KeepOrSet marks = (i : ℕ) → i < MODES → naturalAt marks (KEEP + i) * 65535 + naturalAt marks (PUT + i) ≤ 65535
 
--- ---- rows with which no sum, product or quotient leaves its range: in a state that passes their test each value is that of a source file
-pub record Usable (n : ℕ) (marks : List ℕ) (numbers : List ℤ) : Type 0 where
-  pub near : (x : List ℤ) → valuesIn n numbers x ≡ true → (i : ℕ) → natAbs (integerAt (take n x) i) ≤ 10000
-  pub keeps : KeepOrSet marks
-  pub constants : (e : ℕ) → e < BLOCKS → natAbs (constantAt numbers e) ≤ 10000
-  pub weights : (e i : ℕ) → e < BLOCKS → i < 4 → natAbs (weightAt numbers e i) ≤ 10000
-  pub divides : (e : ℕ) → e < EFFECTS → QUOTIENT ≤ kindAt marks e → 1 ≤ natAbs (constantAt numbers e)
-  pub sumsFromZero : (j : ℕ) → j < SUMS → constantAt numbers (EFFECTS + j) ≡ pos 0
+-- ---- the first n values are those of a source file
+abbrev pub ValuesNear : ℕ → List ℤ → Type 0
+ValuesNear n values = (i : ℕ) → natAbs (integerAt (take n values) i) ≤ 10000
 
--- n values with which they do not
+-- effects of which no sum, product or quotient leaves its range in such a state
+pub record EffectsSmall (marks : List ℕ) (numbers : List ℤ) : Type 0 where
+  pub constants : (e : ℕ) → e < EFFECTS → natAbs (constantAt numbers e) ≤ 10000
+  pub weights : (e i : ℕ) → e < EFFECTS → i < 4 → natAbs (weightAt numbers e i) ≤ 10000
+  pub divides : (e : ℕ) → e < EFFECTS → QUOTIENT ≤ kindAt marks e → 1 ≤ natAbs (constantAt numbers e)
+
+-- sums likewise: four terms on one variable make no more than this
+abbrev pub mostWeight : ℕ
+mostWeight = 40_000
+
+abbrev pub WeightsSmall : List ℤ → Type 0
+WeightsSmall sums = (j v : ℕ) → j < SUMS → v < VARIABLES → natAbs (integerAt sums (VARIABLES * j + v)) ≤ mostWeight
+
+-- ---- rows by which a step can be taken from any state: one that passes their test has the values of a source file
+pub record Usable (n : ℕ) (marks : List ℕ) (numbers sums : List ℤ) : Type 0 where
+  pub near : (x : List ℤ) → valuesIn n numbers x ≡ true → ValuesNear n x
+  pub keeps : KeepOrSet marks
+  pub effects : EffectsSmall marks numbers
+  pub sumsThere : sumFirstAt marks + sumCountAt marks ≤ SUMS
+  pub sumsSmall : WeightsSmall sums
+
+-- n values that effects can be worked out from
 pub record Reads (n : ℕ) (values : List ℤ) (marks : List ℕ) (numbers : List ℤ) : Type 0 where
   pub variablesFew : n ≤ VARIABLES
-  pub near : (i : ℕ) → natAbs (integerAt (take n values) i) ≤ 10000
-  pub usable : Usable n marks numbers
+  pub near : ValuesNear n values
+  pub effects : EffectsSmall marks numbers
 
 -- ---- the rows of an action in a task with these bounds and sizes
-pub record RowOf (n m : ℕ) (lower upper : List ℤ) (sizes : List ℕ) (marks : List ℕ) (numbers : List ℤ) (a : SourceAction) : Type 0 where
-  pub usable : Usable n marks numbers
-  pub values : (x : List ℤ) → (valuesIn n numbers x && sumsHold n marks numbers x)
+pub record RowOf (n m : ℕ) (lower upper : List ℤ) (sizes : List ℕ) (marks : List ℕ) (numbers sums : List ℤ) (a : SourceAction) : Type 0 where
+  pub usable : Usable n marks numbers sums
+  pub values : (x : List ℤ) → (valuesIn n numbers x && sumsHold n marks sums x)
       ≡ (valuesBetween n lower upper x && conditionsHold (a .conditions) (integerAt (take n x)))
   pub modes : (x : List ℕ) → modesIn m marks x ≡ (modesBelow m sizes x && modesHold (a .modeConditions) (naturalAt (take m x)))
   pub sets : (x : List ℕ) → m ≤ length x → modesAfter m marks x ≡ setAll (a .modeEffects) (take m x) ++ drop m x
@@ -162,12 +179,12 @@ pub record RowOf (n m : ℕ) (lower upper : List ℤ) (sizes : List ℕ) (marks 
   pub upperAt : (e : ℕ) → e < effectCountAt marks → integerAt numbers (UPPER + BLOCK * e) ≡ integerAt (take n upper) (targetAt marks e)
 
 -- ---- a step by rows, in every state: the test of the rows
-abbrev pub held : ℕ → ℕ → List ℕ → List ℤ → List ℤ → List ℕ → Bool
-held n m marks numbers values modes = modesIn m marks modes && (valuesIn n numbers values && sumsHold n marks numbers values)
+abbrev pub held : ℕ → ℕ → List ℕ → List ℤ → List ℤ → List ℤ → List ℕ → Bool
+held n m marks numbers sums values modes = modesIn m marks modes && (valuesIn n numbers values && sumsHold n marks sums values)
 
 -- whether they are taken, and the values after
-abbrev pub takes : ℕ → ℕ → List ℕ → List ℤ → List ℤ → List ℕ → Bool
-takes n m marks numbers values modes = held n m marks numbers values modes && staysIn n marks numbers values
+abbrev pub takes : ℕ → ℕ → List ℕ → List ℤ → List ℤ → List ℤ → List ℕ → Bool
+takes n m marks numbers sums values modes = held n m marks numbers sums values modes && staysIn n marks numbers values
 
 abbrev pub valuesAfter : ℕ → List ℕ → List ℤ → List ℤ → List ℤ
 valuesAfter n marks numbers values = settled n (outcomesAt n marks numbers values) values
@@ -185,8 +202,8 @@ pub record SteppedIf (test : Bool) (n m : ℕ) (marks : List ℕ) (numbers : Lis
   pub modesAre : modes′ ≡ cond test (modesAfter m marks modes) modes
 
 -- a whole step; and what is left of one behind the test of the rows
-abbrev pub Stepped : ℕ → ℕ → List ℕ → List ℤ → List ℤ → List ℕ → Bool → List ℤ → List ℕ → Type 0
-Stepped n m marks numbers values modes = SteppedIf (takes n m marks numbers values modes) n m marks numbers values modes
+abbrev pub Stepped : ℕ → ℕ → List ℕ → List ℤ → List ℤ → List ℤ → List ℕ → Bool → List ℤ → List ℕ → Type 0
+Stepped n m marks numbers sums values modes = SteppedIf (takes n m marks numbers sums values modes) n m marks numbers values modes
 
 abbrev pub Finished : ℕ → ℕ → List ℕ → List ℤ → List ℤ → List ℕ → Bool → List ℤ → List ℕ → Type 0
 Finished n m marks numbers values modes = SteppedIf (staysIn n marks numbers values) n m marks numbers values modes

@@ -1,4 +1,4 @@
--- A task made ready for many steps: how many actions, variables and modes it has, and the rows of its actions and, behind them, of its goal.
+-- A task made ready for many steps: how many actions, variables and modes it has, and the rows of its actions and, behind them, of its goal and of its sums.
 -- A state is whole arrays, of which the first so many values and modes are read. Steps by rows are functions of such a state.
 -- Assumes nothing.
 use mathlib.Core.Path.{_≡_}
@@ -13,14 +13,10 @@ use Rattle.model.specs.Systems.{provided}
 use Rattle.model.specs.Steps.{integerAt, soundSource}
 use Rattle.model.specs.Expansion.{priceOfEffects}
 use Rattle.model.specs.Judging.{declaredPart}
-use Rattle.source_step.specs.Sizes.{VARIABLES, MODES, ACTIONS}
+use Rattle.source_step.specs.Sizes.{VARIABLES, MODES, ACTIONS, ROWS}
 use Rattle.source_step.specs.Step.{state, Shaped}
 use Rattle.source_step.specs.Row.{effectsAt, held, takes, valuesAfter, modesAfter, Usable}
-use Rattle.source_step.specs.Ready.{marksOf, numbersOf, Ready}
-
--- rows for the actions of a task and for its goal
-abbrev pub ROWS : ℕ
-ROWS = 33
+use Rattle.source_step.specs.Ready.{marksOf, numbersOf, sumsOf, Ready}
 
 pub record Table : Type 0 where
   pub count : ℕ
@@ -40,10 +36,10 @@ module _ (T : Table) where
 
   -- the test of its row; whether it applies; the state after it
   abbrev pub heldBy : State → ℕ → Bool
-  heldBy x k = held (T .variables) (T .modes) (marksOf (T .marks) k) (numbersOf (T .numbers) k) (x .values) (x .modes)
+  heldBy x k = held (T .variables) (T .modes) (marksOf (T .marks) k) (numbersOf (T .numbers) k) (sumsOf (T .numbers)) (x .values) (x .modes)
 
   abbrev pub takesBy : State → ℕ → Bool
-  takesBy x k = takes (T .variables) (T .modes) (marksOf (T .marks) k) (numbersOf (T .numbers) k) (x .values) (x .modes)
+  takesBy x k = takes (T .variables) (T .modes) (marksOf (T .marks) k) (numbersOf (T .numbers) k) (sumsOf (T .numbers)) (x .values) (x .modes)
 
   abbrev pub afterBy : State → ℕ → State
   afterBy x k = state (valuesAfter (T .variables) (marksOf (T .marks) k) (numbersOf (T .numbers) k) (x .values))
@@ -73,7 +69,7 @@ pub record Usables (T : Table) : Type 0 where
   pub actionsFew : T .count ≤ ACTIONS
   pub marksLong : length (T .marks) ≡ ROWS
   pub numbersLong : length (T .numbers) ≡ ROWS
-  pub usable : (k : ℕ) → k ≤ T .count → Usable (T .variables) (marksOf (T .marks) k) (numbersOf (T .numbers) k)
+  pub usable : (k : ℕ) → k ≤ T .count → Usable (T .variables) (marksOf (T .marks) k) (numbersOf (T .numbers) k) (sumsOf (T .numbers))
 
 -- ---- the rows are those of a task that keeps to the rules on source files
 pub record RowsOf (t : SourceTask) (T : Table) : Type 0 where

@@ -1,8 +1,9 @@
 // Actions of an accepted source task made ready for many steps, each as two rows of numbers, and a step by them in every state.
 //
 // A row says of every variable and of every mode between which values the action applies, so that a step goes through the declared
-// variables and modes once, whatever conditions on one of them the action was written with. Conditions on weighted sums are asked last, one by
-// one. Rows are lent; what they mean is said in specs/Row.antt. It never reads a file, and never finds an action by its number.
+// variables and modes once, whatever conditions on one of them the action was written with. The weighted sums of all conditions of the task stand
+// in a row of their own, each with the range that its condition asks for; an action names its own by the first and their count, and they are asked
+// last. Rows are lent; what they mean is said in specs/Row.antt. It never reads a file, and never finds an action by its number.
 use file_actions::EFFECTS;
 use file_actions::TERMS;
 ghost use mathlib.Core.Path.{_≡_};
@@ -17,29 +18,28 @@ ghost use Rattle.integers.specs.Relation.{between};
 ghost use Rattle.model.specs.Steps.{integerAt, linear};
 ghost use Rattle.source_step.specs.Step.{setAt, settled};
 ghost use Rattle.source_step.specs.Row.{valuesIn, modesIn, modesAfter, KeepOrSet, effectCountAt, constantAt, variableAt, weightAt, termsAt};
-ghost use Rattle.source_step.specs.Row.{resultAt, ResultsAre, SingleIs, firstOutside, pairsOf, sumHolds, sumsHold};
-ghost use Rattle.source_step.specs.Row.{Reads, Usable, held, Settled, Stepped, Finished};
+ghost use Rattle.source_step.specs.Row.{resultAt, ResultsAre, SingleIs, firstOutside, pairsOf, sumAt, sumHolds, sumsHoldFrom};
+ghost use Rattle.source_step.specs.Row.{ValuesNear, WeightsSmall, mostWeight, Reads, Usable, held, Settled, Stepped, Finished};
 ghost use Rattle.source_step.specs.Sizes.{VARIABLES, MODES, EFFECTS, SUMS};
-ghost use Rattle.source_step.specs.Layout.{BLOCK, BLOCKS, LOWER, UPPER};
+ghost use Rattle.source_step.specs.Layout.{BLOCK, LOWER, UPPER};
 
 // The most variables and modes that a source task declares.
 pub const VARIABLES: usize = 8;
 
 pub const MODES: usize = 4;
 
-// The most conditions on sums that an action has.
-pub const SUMS: usize = 4;
+// Rows for the actions of a task and for its goal, and behind them that of its sums.
+pub const ROWS: usize = 34;
 
-// How long the rows of an action are.
-pub const MARKS: usize = 74;
+pub const SUMS_ROW: usize = 33;
 
-pub const NUMBERS: usize = 72;
+// How long the rows of an action are; that of the sums is as long as its numbers.
+pub const MARKS: usize = 43;
+
+pub const NUMBERS: usize = 40;
 
 // How far the numbers of an effect stand behind those of the effect before, in either row.
 pub const BLOCK: usize = 8;
-
-// For how many effects and, behind them, conditions on sums there is room in either row.
-pub const BLOCKS: usize = 7;
 
 // Where in the marks, of mode i: the least value is mark i; then the most, whether it is kept, and what it is set to.
 pub const TOP: usize = 4;
@@ -62,8 +62,10 @@ pub const COUNT: usize = 20;
 
 pub const TERM: usize = 21;
 
-// How many conditions on sums the action has.
-pub const SUM_COUNT: usize = 73;
+// Which condition on a sum, of those of the task, is the first of the action's, and how many it has.
+pub const SUM_FIRST: usize = 41;
+
+pub const SUM_COUNT: usize = 42;
 
 // Where in the numbers, of variable i: the least value is number i; then the most.
 pub const MOST: usize = 8;
@@ -76,6 +78,11 @@ pub const WEIGHT: usize = 17;
 pub const LOWER: usize = 21;
 
 pub const UPPER: usize = 22;
+
+// Where in the sums, of condition j: the weight of variable v is number VARIABLES × j + v; then the least and the most sum of which it holds.
+pub const SUM_LEAST: usize = 32;
+
+pub const SUM_MOST: usize = 36;
 
 // The kinds of effect; any number past these is a residue.
 pub const ADD: u16 = 0;
@@ -205,7 +212,7 @@ pub fn effect_count(marks: &[u16; MARKS]) -> usize
     lesser(EFFECTS, wide16(marks[MANY]))
 }
 
-// A sum with one more term of block e.
+// A sum with one more term of effect e.
 fn plus_term(
     z: i64,
     values: &[i64; VARIABLES],
@@ -215,7 +222,7 @@ fn plus_term(
     e: usize,
     i: usize,
 ) -> i64
-    requires { ⌜ Reads n (now values) (now marks) (now numbers) × (e < BLOCKS) × (i < 4) × Within 1000000000 z ⌝ }
+    requires { ⌜ Reads n (now values) (now marks) (now numbers) × (e < EFFECTS) × (i < 4) × Within 1000000000 z ⌝ }
     ensures { λ r. ⌜ (r ≡ z +ℤ integerAt (take n (now (values .entry))) (variableAt (now (marks .entry)) e i) *ℤ weightAt (now (numbers .entry)) e i)
         × (natAbs r ≤ natAbs z + 100000000) ⌝ }
 {
@@ -223,7 +230,7 @@ fn plus_term(
     plus_product(z, value, numbers[WEIGHT + BLOCK * e + i])
 }
 
-// What effect e gives where it is an L; of a condition on a sum, the sum.
+// What effect e gives where it is an L.
 pub fn linear_value(
     values: &[i64; VARIABLES],
     n: usize,
@@ -231,7 +238,7 @@ pub fn linear_value(
     numbers: &[i64; NUMBERS],
     e: usize,
 ) -> i64
-    requires { ⌜ Reads n (now values) (now marks) (now numbers) × (e < BLOCKS) ⌝ }
+    requires { ⌜ Reads n (now values) (now marks) (now numbers) × (e < EFFECTS) ⌝ }
     ensures { λ r. ⌜ (r ≡ linear (constantAt (now (numbers .entry)) e) (termsAt (now (marks .entry)) (now (numbers .entry)) e)
         (integerAt (take n (now (values .entry))))) × Within 1000000000 r ⌝ }
 {
@@ -245,56 +252,70 @@ pub fn linear_value(
     sum
 }
 
-// Whether condition j on a sum holds.
-fn sum_holds(
-    values: &[i64; VARIABLES],
-    n: usize,
-    marks: &[u16; MARKS],
-    numbers: &[i64; NUMBERS],
-    j: usize,
-) -> bool
-    requires { ⌜ Reads n (now values) (now marks) (now numbers) × (j < SUMS) ⌝ }
-    ensures { λ r. ⌜ r ≡ sumHolds n (now (marks .entry)) (now (numbers .entry)) (now (values .entry)) j ⌝ }
+// A sum of the task with one more term.
+fn plus_weighed(z: i64, value: i64, weight: i64) -> i64
+    requires { ⌜ Within 4000000000 z × (natAbs value ≤ 10000) × (natAbs weight ≤ mostWeight) ⌝ }
+    ensures { λ r. ⌜ (r ≡ z +ℤ value *ℤ weight) × (natAbs r ≤ natAbs z + 400000000) ⌝ }
 {
-    let e = EFFECTS + j;
-    let sum = linear_value(values, n, marks, numbers, e);
-    let relation = marks[KIND + BLOCK * e];
-    integers::relation_holds(sum, relation, numbers[LOWER + BLOCK * e])
+    z + value * weight
 }
 
-// Whether every one does.
+// What sum j of the task comes to.
+pub fn sum_of(values: &[i64; VARIABLES], n: usize, sums: &[i64; NUMBERS], j: usize) -> i64
+    requires { ⌜ (n ≤ VARIABLES) × ValuesNear n (now values) × WeightsSmall (now sums) × (j < SUMS) ⌝ }
+    ensures { λ r. ⌜ (r ≡ sumAt n (now (sums .entry)) (now (values .entry)) j) × (natAbs r ≤ VARIABLES * 400000000) ⌝ }
+{
+    let mut sum: i64 = 0;
+    let mut v: usize = 0;
+    while v < n {
+        sum = plus_weighed(sum, values[v], sums[VARIABLES * j + v]);
+        v += 1;
+    }
+    sum
+}
+
+// Whether condition j on a sum holds.
+fn sum_holds(values: &[i64; VARIABLES], n: usize, sums: &[i64; NUMBERS], j: usize) -> bool
+    requires { ⌜ (n ≤ VARIABLES) × ValuesNear n (now values) × WeightsSmall (now sums) × (j < SUMS) ⌝ }
+    ensures { λ r. ⌜ r ≡ sumHolds n (now (sums .entry)) (now (values .entry)) j ⌝ }
+{
+    let sum = sum_of(values, n, sums, j);
+    integers::is_between(sums[SUM_LEAST + j], sum, sums[SUM_MOST + j])
+}
+
+// Whether each of so many does, from one on.
 fn sums_hold(
     values: &[i64; VARIABLES],
     n: usize,
-    marks: &[u16; MARKS],
-    numbers: &[i64; NUMBERS],
+    sums: &[i64; NUMBERS],
+    first: usize,
+    count: usize,
 ) -> bool
-    requires { ⌜ Reads n (now values) (now marks) (now numbers) ⌝ }
-    ensures { λ r. ⌜ r ≡ sumsHold n (now (marks .entry)) (now (numbers .entry)) (now (values .entry)) ⌝ }
+    requires { ⌜ (n ≤ VARIABLES) × ValuesNear n (now values) × WeightsSmall (now sums) × (first + count ≤ SUMS) ⌝ }
+    ensures { λ r. ⌜ r ≡ sumsHoldFrom n (now (sums .entry)) (now (values .entry)) first count ⌝ }
 {
-    let count = lesser(SUMS, wide16(marks[SUM_COUNT]));
     if count < 1 {
         return true;
     }
-    if !sum_holds(values, n, marks, numbers, 0) {
+    if !sum_holds(values, n, sums, first) {
         return false;
     }
     if count < 2 {
         return true;
     }
-    if !sum_holds(values, n, marks, numbers, 1) {
+    if !sum_holds(values, n, sums, first + 1) {
         return false;
     }
     if count < 3 {
         return true;
     }
-    if !sum_holds(values, n, marks, numbers, 2) {
+    if !sum_holds(values, n, sums, first + 2) {
         return false;
     }
     if count < 4 {
         return true;
     }
-    sum_holds(values, n, marks, numbers, 3)
+    sum_holds(values, n, sums, first + 3)
 }
 
 // Whether each of m modes and of n values lies between what the rows of an action say.
@@ -323,9 +344,10 @@ pub fn holds(
     m: usize,
     marks: &[u16; MARKS],
     numbers: &[i64; NUMBERS],
+    sums: &[i64; NUMBERS],
 ) -> bool
-    requires { ⌜ (n ≤ VARIABLES) × (m ≤ MODES) × Usable n (now marks) (now numbers) ⌝ }
-    ensures { λ r. ⌜ r ≡ held n m (now (marks .entry)) (now (numbers .entry)) (now (values .entry)) (now (modes .entry)) ⌝ }
+    requires { ⌜ (n ≤ VARIABLES) × (m ≤ MODES) × Usable n (now marks) (now numbers) (now sums) ⌝ }
+    ensures { λ r. ⌜ r ≡ held n m (now (marks .entry)) (now (numbers .entry)) (now (sums .entry)) (now (values .entry)) (now (modes .entry)) ⌝ }
 {
     if !ranges_hold(values, modes, n, m, marks, numbers) {
         return false;
@@ -333,7 +355,8 @@ pub fn holds(
     if marks[SUM_COUNT] == 0 {
         return true;
     }
-    sums_hold(values, n, marks, numbers)
+    let first = wide16(marks[SUM_FIRST]);
+    sums_hold(values, n, sums, first, wide16(marks[SUM_COUNT]))
 }
 
 // What effect e gives its target.
@@ -533,15 +556,17 @@ fn take_any(
     m: usize,
     marks: &[u16; MARKS],
     numbers: &[i64; NUMBERS],
+    sums: &[i64; NUMBERS],
 ) -> bool
-    requires { ⌜ (n ≤ VARIABLES) × (m ≤ MODES) × (length (now modes) ≡ MODES) × Usable n (now marks) (now numbers) ⌝ }
-    ensures { λ r. ⌜ Stepped n m (now (marks .entry)) (now (numbers .entry)) (now (values .entry)) (now (modes .entry)) r
+    requires { ⌜ (n ≤ VARIABLES) × (m ≤ MODES) × (length (now modes) ≡ MODES) × Usable n (now marks) (now numbers) (now sums) ⌝ }
+    ensures { λ r. ⌜ Stepped n m (now (marks .entry)) (now (numbers .entry)) (now (sums .entry)) (now (values .entry)) (now (modes .entry)) r
         (now (values .exit)) (now (modes .exit)) ⌝ }
 {
     if !ranges_hold(values, modes, n, m, marks, numbers) {
         return false;
     }
-    if !sums_hold(values, n, marks, numbers) {
+    let first = wide16(marks[SUM_FIRST]);
+    if !sums_hold(values, n, sums, first, wide16(marks[SUM_COUNT])) {
         return false;
     }
     let mut results = [0i64; EFFECTS];
@@ -557,13 +582,15 @@ pub fn take_single(
     m: usize,
     marks: &[u16; MARKS],
     numbers: &[i64; NUMBERS],
+    sums: &[i64; NUMBERS],
 ) -> bool
-    requires { ⌜ (n ≤ VARIABLES) × (m ≤ MODES) × (length (now modes) ≡ MODES) × Usable n (now marks) (now numbers) × (effectCountAt (now marks) ≤ 1) ⌝ }
-    ensures { λ r. ⌜ Stepped n m (now (marks .entry)) (now (numbers .entry)) (now (values .entry)) (now (modes .entry)) r
+    requires { ⌜ (n ≤ VARIABLES) × (m ≤ MODES) × (length (now modes) ≡ MODES) × Usable n (now marks) (now numbers) (now sums)
+        × (effectCountAt (now marks) ≤ 1) ⌝ }
+    ensures { λ r. ⌜ Stepped n m (now (marks .entry)) (now (numbers .entry)) (now (sums .entry)) (now (values .entry)) (now (modes .entry)) r
         (now (values .exit)) (now (modes .exit)) ⌝ }
 {
     if marks[SUM_COUNT] != 0 {
-        return take_any(values, modes, n, m, marks, numbers);
+        return take_any(values, modes, n, m, marks, numbers, sums);
     }
     if !ranges_hold(values, modes, n, m, marks, numbers) {
         return false;
@@ -580,13 +607,14 @@ pub fn take(
     m: usize,
     marks: &[u16; MARKS],
     numbers: &[i64; NUMBERS],
+    sums: &[i64; NUMBERS],
 ) -> bool
-    requires { ⌜ (n ≤ VARIABLES) × (m ≤ MODES) × (length (now modes) ≡ MODES) × Usable n (now marks) (now numbers) ⌝ }
-    ensures { λ r. ⌜ Stepped n m (now (marks .entry)) (now (numbers .entry)) (now (values .entry)) (now (modes .entry)) r
+    requires { ⌜ (n ≤ VARIABLES) × (m ≤ MODES) × (length (now modes) ≡ MODES) × Usable n (now marks) (now numbers) (now sums) ⌝ }
+    ensures { λ r. ⌜ Stepped n m (now (marks .entry)) (now (numbers .entry)) (now (sums .entry)) (now (values .entry)) (now (modes .entry)) r
         (now (values .exit)) (now (modes .exit)) ⌝ }
 {
     if effect_count(marks) < 2 {
-        return take_single(values, modes, n, m, marks, numbers);
+        return take_single(values, modes, n, m, marks, numbers, sums);
     }
-    take_any(values, modes, n, m, marks, numbers)
+    take_any(values, modes, n, m, marks, numbers, sums)
 }

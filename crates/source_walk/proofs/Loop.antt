@@ -17,7 +17,7 @@ use Rattle.model.specs.Steps.{naturalAt}
 use Rattle.source_walk.specs.declared.Progress.the-variants.{Through, Stopped}
 use Rattle.source_step.specs.Step.{state}
 use Rattle.source_step.specs.Row.{modesAfter}
-use Rattle.source_step.specs.Ready.{marksOf, numbersOf}
+use Rattle.source_step.specs.Ready.{marksOf, numbersOf, sumsOf}
 use Rattle.source_step.specs.Table.{Table, takesBy, afterBy, goalBy, Usables}
 use Rattle.plan_strokes.specs.declared.Turn.{Turn}
 use Rattle.source_walk.specs.declared.Walked.{Walked}
@@ -38,10 +38,12 @@ module _ (T : Table) (priced : Bool) (p : List ℕ) (x₀ : State) where
     pub few : price ≤ i * 40_000_000_000
     pub long : length modes ≡ 4
 
-pub begins : (T : Table) (priced : Bool) (p : List ℕ) (values : List ℤ) (modes : List ℕ) → length modes ≡ 4 → Going T priced p (state values modes) values modes 0 0 0
+pub begins : (T : Table) (priced : Bool) (p : List ℕ) (values : List ℤ) (modes : List ℕ) → length modes ≡ 4
+    → Going T priced p (state values modes) values modes 0 0 0
 begins T priced p values modes l = record { same = refl; bound = omega arith; few = omega arith; long = l }
 
-module _ {T : Table} {priced : Bool} {p : List ℕ} {x₀ : State} {values : List ℤ} {modes : List ℕ} {i price passing : ℕ} (g : Going T priced p x₀ values modes i price passing) where
+module _ {T : Table} {priced : Bool} {p : List ℕ} {x₀ : State} {values : List ℤ} {modes : List ℕ} {i price passing : ℕ}
+    (g : Going T priced p x₀ values modes i price passing) where
   abbrev x : State
   x = state values modes
 
@@ -53,19 +55,24 @@ module _ {T : Table} {priced : Bool} {p : List ℕ} {x₀ : State} {values : Lis
     at-step : walkFrom T priced 0 0 0 p x₀ ≡ walkFrom T priced i price passing (k ∷ drop (suc i) p) x
     at-step = g .same ∙ ap (λ (ks : List ℕ). walkFrom T priced i price passing ks x) (drop-cons p i 0 h ∙ ap (λ (j : ℕ). j ∷ drop (suc i) p) (sym e))
 
-    pub no-action : T .count ≤ k → record { progress = Stopped 11 i; price = price; passing = passing; state = state values modes } ≡ walkFrom T priced 0 0 0 p x₀
+    pub no-action : T .count ≤ k
+        → record { progress = Stopped 11 i; price = price; passing = passing; state = state values modes } ≡ walkFrom T priced 0 0 0 p x₀
     unfolding walkFrom
     no-action l = sym (at-step ∙ rw (le-ltb k (T .count) l) refl)
 
-    module _ (l : k < T .count) {turn : Turn} {values′ : List ℤ} {modes′ : List ℕ} (t : TurnOf priced (T .variables) (T .modes) (marksOf (T .marks) k) (numbersOf (T .numbers) k) values modes turn values′ modes′) where
-      pub not-applied : turn .applied ≡ false → record { progress = Stopped 12 i; price = price; passing = passing; state = state values′ modes′ } ≡ walkFrom T priced 0 0 0 p x₀
+    module _ (l : k < T .count) {turn : Turn} {values′ : List ℤ} {modes′ : List ℕ} (t : TurnOf priced (T .variables) (T .modes) (marksOf (T .marks) k)
+        (numbersOf (T .numbers) k) (sumsOf (T .numbers)) values modes turn values′ modes′) where
+      pub not-applied : turn .applied ≡ false
+          → record { progress = Stopped 12 i; price = price; passing = passing; state = state values′ modes′ } ≡ walkFrom T priced 0 0 0 p x₀
       unfolding walkFrom
       not-applied f =
           let off : takesBy T x k ≡ false = sym (t .stepped .is) ∙ f in
           let stays : state values′ modes′ ≡ x = ap₂ state (t .stepped .valuesAre ∙ rw off refl) (t .stepped .modesAre ∙ rw off refl) in
-          ap (λ (y : State). record { progress = Stopped 12 i; price = price; passing = passing; state = y }) stays ∙ sym (at-step ∙ rw (lt-ltb k (T .count) l, off) refl)
+          ap (λ (y : State). record { progress = Stopped 12 i; price = price; passing = passing; state = y }) stays
+          ∙ sym (at-step ∙ rw (lt-ltb k (T .count) l, off) refl)
 
-      pub goes : Usables T → turn .applied ≡ true → {passing′ : ℕ} → passing′ ≡ firstPassing passing price (price + turn .price) i → Going T priced p x₀ values′ modes′ (i + 1) (price + turn .price) passing′
+      pub goes : Usables T → turn .applied ≡ true → {passing′ : ℕ} → passing′ ≡ firstPassing passing price (price + turn .price) i
+          → Going T priced p x₀ values′ modes′ (i + 1) (price + turn .price) passing′
       unfolding walkFrom
       goes u f {passing′} q =
           let on : takesBy T x k ≡ true = sym (t .stepped .is) ∙ f in
@@ -80,6 +87,7 @@ module _ {T : Table} {priced : Bool} {p : List ℕ} {x₀ : State} {values : Lis
           }
 
 -- ---- the walk judged
-pub judged-from : (T : Table) (p : List ℕ) {steps : ℕ} {w : Walked} {v : Verdict} {met : Bool} {x : State} {W : Walk} → v ≡ lastVerdict (w .progress) met steps → met ≡ goalBy T x → steps ≡ length p → walkIs w x ≡ W
+pub judged-from : (T : Table) (p : List ℕ) {steps : ℕ} {w : Walked} {v : Verdict} {met : Bool} {x : State} {W : Walk}
+    → v ≡ lastVerdict (w .progress) met steps → met ≡ goalBy T x → steps ≡ length p → walkIs w x ≡ W
     → judgedIs (record { verdict = v; price = w .price; passing = w .passing }) x ≡ judgeWalk T (length p) W
 judged-from T p {steps} {w} {v} {met} {x} {W} e g s f = rw (e, g, s) (ap (judgeWalk T (length p)) f)

@@ -58,9 +58,9 @@ abbrev pub stoppedAt : ℕ → ℕ → ℕ → ℕ → Walked → Type 0
 stoppedAt number place price passing r = (x : State) → walkIs r x ≡ record { progress = Stopped number place; price = price; passing = passing; state = x }
 
 -- a step was taken by rows, at its price or at none
-pub record TurnOf (priced : Bool) (n m : ℕ) (marks : List ℕ) (numbers : List ℤ) (values : List ℤ) (modes : List ℕ) (r : Turn) (values′ : List ℤ)
+pub record TurnOf (priced : Bool) (n m : ℕ) (marks : List ℕ) (numbers sums values : List ℤ) (modes : List ℕ) (r : Turn) (values′ : List ℤ)
     (modes′ : List ℕ) : Type 0 where
-  pub stepped : Stepped n m marks numbers values modes (r .applied) values′ modes′
+  pub stepped : Stepped n m marks numbers sums values modes (r .applied) values′ modes′
   pub price : r .applied ≡ true → r .price ≡ cond priced (priceOfEffects (effectsAt marks numbers) (integerAt (take n values))) 0
   pub few : r .price ≤ 40_000_000_000
 

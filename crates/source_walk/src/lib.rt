@@ -9,6 +9,8 @@ use source_state::State;
 use source_step::MARKS;
 use source_step::MODES;
 use source_step::NUMBERS;
+use source_step::ROWS;
+use source_step::SUMS_ROW;
 use source_step::VARIABLES;
 ghost use mathlib.Core.Path.{_≡_};
 ghost use Prim.Native.Nat.{_≤_};
@@ -22,17 +24,14 @@ ghost use Rattle.model.specs.Reading.{verdictOf};
 ghost use Rattle.source_step.specs.Step.{state};
 ghost use Rattle.source_step.specs.Accepted.{AcceptedWith};
 ghost use Rattle.source_step.specs.Row.{Usable};
+ghost use Rattle.source_step.specs.Ready.{blankMarks, blankNumbers};
 ghost use Rattle.source_step.specs.Table.{table, Usables};
 ghost use Rattle.source_state.specs.Priced.{pricedIs};
 ghost use Rattle.source_walk.specs.Answers.{lastVerdict, judgementIs, judgementOf, withState, pricedBy};
 ghost use Rattle.source_walk.specs.Opening.{PlanOf, OpenedTo, Started};
 ghost use Rattle.source_walk.specs.Walk.{firstPassing, walkIs, walkFrom, judgedIs, judgeBy, stoppedAt, TurnOf};
 ghost use Rattle.source_step.specs.Sizes.{VARIABLES, MODES};
-ghost use Rattle.source_step.specs.Table.{ROWS};
 ghost use Rattle.plan_strokes.specs.Strokes.{STAGES};
-
-// Rows for the actions of a task and for its goal.
-pub const ROWS: usize = 33;
 
 // The most steps that an expansion has.
 pub const MOST_STEPS: u64 = 1_000_000;
@@ -51,7 +50,7 @@ pub enum Opened {
     Refused(u8, u64),
 }
 
-// What an accepted file with so many actions declares: its start, into arrays of zeros, and the rows of its actions and of its goal.
+// What an accepted file with so many actions declares: its start, and its rows, into arrays and tables of zeros.
 fn make_ready(
     file: &[u8],
     plan: &[u8],
@@ -62,8 +61,8 @@ fn make_ready(
     values: &mut [i64; VARIABLES],
     modes: &mut [u16; MODES],
 ) -> Task
-    requires { ⌜ AcceptedWith (verdictOf sourceLimits (now file)) count × PlanOf (now plan) steps × (length (now marks) ≡ ROWS)
-        × (length (now numbers) ≡ ROWS) ⌝ }
+    requires { ⌜ AcceptedWith (verdictOf sourceLimits (now file)) count × PlanOf (now plan) steps × (now marks ≡ blankMarks)
+        × (now numbers ≡ blankNumbers) ⌝ }
     requires { ⌜ (now values ≡ replicate VARIABLES (pos 0)) × (now modes ≡ replicate MODES 0) ⌝ }
     ensures { λ r. ⌜ Started (now (file .entry)) (now (plan .entry)) r (now (marks .exit)) (now (numbers .exit)) (now (values .exit)) (now (modes .exit)) ⌝ }
 {
@@ -89,7 +88,7 @@ fn make_ready(
     }
 }
 
-// Reads a file, then the bytes of a plan, and makes the task ready: its rows, and its start in the place of zeros. The arrays are as they
+// Reads a file, then the bytes of a plan, and makes the task ready: its rows and its start, in the place of zeros. The arrays are as they
 // were where one of the two is refused.
 pub fn open(
     file: &[u8],
@@ -99,7 +98,7 @@ pub fn open(
     values: &mut [i64; VARIABLES],
     modes: &mut [u16; MODES],
 ) -> Opened
-    requires { ⌜ (length (now marks) ≡ ROWS) × (length (now numbers) ≡ ROWS) × (now values ≡ replicate VARIABLES (pos 0)) × (now modes ≡ replicate MODES 0) ⌝ }
+    requires { ⌜ (now marks ≡ blankMarks) × (now numbers ≡ blankNumbers) × (now values ≡ replicate VARIABLES (pos 0)) × (now modes ≡ replicate MODES 0) ⌝ }
     ensures { λ r. ⌜ OpenedTo (now (file .entry)) (now (plan .entry)) (now (marks .entry)) (now (numbers .entry)) (now (values .entry)) (now (modes .entry))
         r (now (marks .exit)) (now (numbers .exit)) (now (values .exit)) (now (modes .exit)) ⌝ }
 {
@@ -165,18 +164,20 @@ fn take_turn(
     m: usize,
     marks: &[u16; MARKS],
     numbers: &[i64; NUMBERS],
+    sums: &[i64; NUMBERS],
     priced: bool,
     times: &mut [i64; STAGES],
 ) -> Turn
-    requires { ⌜ (n ≤ VARIABLES) × (m ≤ MODES) × (length (now modes) ≡ MODES) × (length (now times) ≡ STAGES) × Usable n (now marks) (now numbers) ⌝ }
-    ensures { λ r. ⌜ TurnOf priced n m (now (marks .entry)) (now (numbers .entry)) (now (values .entry)) (now (modes .entry)) r
+    requires { ⌜ (n ≤ VARIABLES) × (m ≤ MODES) × (length (now modes) ≡ MODES) × (length (now times) ≡ STAGES) ⌝ }
+    requires { ⌜ Usable n (now marks) (now numbers) (now sums) ⌝ }
+    ensures { λ r. ⌜ TurnOf priced n m (now (marks .entry)) (now (numbers .entry)) (now (sums .entry)) (now (values .entry)) (now (modes .entry)) r
         (now (values .exit)) (now (modes .exit)) ⌝ }
     ensures { λ r. ⌜ length (now (times .exit)) ≡ STAGES ⌝ }
 {
     if priced {
-        return plan_strokes::take_priced(values, modes, n, m, marks, numbers, times);
+        return plan_strokes::take_priced(values, modes, n, m, marks, numbers, sums, times);
     }
-    let applied = source_step::take(values, modes, n, m, marks, numbers);
+    let applied = source_step::take(values, modes, n, m, marks, numbers, sums);
     Turn { applied, price: 0 }
 }
 
@@ -215,6 +216,7 @@ fn walk(
             m,
             &marks[k],
             &numbers[k],
+            &numbers[SUMS_ROW],
             priced,
             &mut times,
         );
@@ -293,7 +295,15 @@ pub fn judge_steps(
         values,
         modes,
     );
-    let met = source_step::holds(values, modes, n, m, &marks[count], &numbers[count]);
+    let met = source_step::holds(
+        values,
+        modes,
+        n,
+        m,
+        &marks[count],
+        &numbers[count],
+        &numbers[SUMS_ROW],
+    );
     let progress = walked.progress;
     Judged {
         verdict: last_verdict(progress, met, steps),

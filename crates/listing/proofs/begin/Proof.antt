@@ -20,7 +20,7 @@ ready : (c : tie.After-t) → let o = c .before .before .before .before .«open�
 ready c = rw (c .t .given .1) at (c .before .before .before .before .«open» .ensures)
 
 open-requires : tie.Need-open-requires
-open-requires c κs = search needs
+open-requires c κs = c .before .before .before .before .before .before .pre
 
 enum-known-number : tie.Need-enum-known-number
 enum-known-number c = search needs

@@ -67,22 +67,27 @@ shared-slice-element-take-priced-2 c =
     let u = e .before .before .before .before .before .before .before .pre .0 .usables in
     omega (arith, u .actionsFew, u .numbersLong, e .if1 .left)
 
+shared-slice-element-take-priced-3 : tie.Need-shared-slice-element-take-priced-3 Inv-loop μ-loop
+shared-slice-element-take-priced-3 c =
+    let u = c .before .before .before .before .before .before .before .before .before .before .before .pre .0 .usables in
+    omega (arith, u .numbersLong)
+
 take-priced-requires : tie.Need-take-priced-requires Inv-loop μ-loop
 take-priced-requires c κs =
-    let e = c .before .before .before .before .before in
+    let e = c .before .before .before .before .before .before in
     let a = e .before .before .before .before in
     let u = a .before .before .before .pre .0 .usables in
-    (u .variablesFew, u .modesFew, a .loop .inv .0 .reached .modesLong, a .loop .inv .1, u .usable (e .before .wide16 .result) (omega (arith, e .if1 .left)))
+    ((u .variablesFew, u .modesFew, a .loop .inv .0 .reached .modesLong, a .loop .inv .1), u .usable (e .before .wide16 .result) (omega (arith, e .if1 .left)))
 
 same-length-2 : tie.Need-same-length-2 Inv-loop μ-loop
 same-length-2 c =
-    let a = c .before .before .before .before .before .before .before .before .before .before .before .before in
+    let a = c .before .before .before .before .before .before .before .before .before .before .before .before .before in
     lining.writing-long (a .before .before .before .pre .0) (a .loop .inv .0)
 
 returns-2 : tie.Need-returns-2 Inv-loop μ-loop
 returns-2 c =
     let u = c .before .before in
-    let e = u .before .before .before .before .before .before in
+    let e = u .before .before .before .before .before .before .before in
     let w = e .before in
     let a = w .before .before .before in
     let s = a .before .before .before in
@@ -92,7 +97,7 @@ returns-2 c =
 put-step-line-requires : tie.Need-put-step-line-requires Inv-loop μ-loop
 put-step-line-requires c κs =
     let u = c .before .before .before .before in
-    let e = u .before .before .before .before .before .before in
+    let e = u .before .before .before .before .before .before .before in
     let w = e .before in
     let a = w .before .before .before in
     let s = a .before .before .before in
@@ -109,12 +114,14 @@ put-step-line-requires c κs =
 add-spent : tie.Need-add-spent Inv-loop μ-loop
 add-spent c =
     let u = c .before .before .before .before .before .before .before .before in
-    let i = u .before .before .before .before .before .before .before .before .before in
+    let i = u .before .before .before .before .before .before .before .before .before .before in
     let a = i .before in
     omega (arith, a .loop .inv .0 .cheap, u .take-priced .ensures .0 .few, i .loop-test .taken, a .before .before .before .pre .0 .few)
 
 add-i : tie.Need-add-i Inv-loop μ-loop
-add-i c = search (needs, arith)
+add-i c =
+    let i = c .before .before .before .before .before .before .before .before .before .before .before .before .before .before .before .before .before .before in
+    omega (arith, i .loop-test .taken, i .before .before .before .before .pre .0 .few)
 
 loop-less : tie.Need-loop-less Inv-loop μ-loop
 loop-less c = omega arith
@@ -122,7 +129,7 @@ loop-less c = omega arith
 loop-again : tie.Need-loop-again Inv-loop μ-loop
 loop-again c =
     let u = c .before .before .before .before .before .before .before .before in
-    let e = u .before .before .before .before .before .before in
+    let e = u .before .before .before .before .before .before .before in
     let w = e .before in
     let a = w .before .before .before in
     let s = a .before .before .before in (
@@ -154,6 +161,7 @@ put-lines-spec =
     shared-slice-element-take-priced
     mul-take-priced-2
     shared-slice-element-take-priced-2
+    shared-slice-element-take-priced-3
     take-priced-requires
     same-length-2
     returns-2

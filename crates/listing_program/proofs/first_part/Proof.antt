@@ -41,7 +41,7 @@ returns-2 c =
     (c .before .before .only-line2 .ensures) _ _ _ _ _
 
 begin-requires : tie.Need-begin-requires
-begin-requires c κs = search needs
+begin-requires c κs = c .before .before .before .before .before .before .before .before .before .pre .1
 
 same-length-3 : tie.Need-same-length-3
 same-length-3 c = search needs

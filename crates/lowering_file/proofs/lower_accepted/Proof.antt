@@ -38,7 +38,7 @@ count-task-requires c κs =
     let d = places .before .read-declarations .ensures in
     let s = places .before .before .before .before in
     let file = now (s .args .file) in
-    let keeps = kept-of (d .held) (sums .find-sums .ensures) (first .first-kept .ensures .0) (first .first-kept .ensures .1) in (
+    let keeps = kept-of (d .held) (sums .find-sums .ensures .0) (first .first-kept .ensures .0) (first .first-kept .ensures .1) in (
       (s .pre, d, places .find-places .ensures),
       ((refl, refl, keeps), room-count refl (omega (arith, same-long file, task-short file (d .held .is)))),
     )
@@ -62,7 +62,7 @@ put-task-requires c κs =
     let d = places .before .read-declarations .ensures in
     let s = places .before .before .before .before in
     let file = now (s .args .file) in
-    let keeps = kept-of (d .held) (sums .find-sums .ensures) (first .first-kept .ensures .0) (first .first-kept .ensures .1) in
+    let keeps = kept-of (d .held) (sums .find-sums .ensures .0) (first .first-kept .ensures .0) (first .first-kept .ensures .1) in
     let e = counted .count-task .ensures in
     let fits = counted-room _ (accepted-lowers file (d .held .is)) (same-long file) (e .rows .wrote) (c .before .before .before .before .before .if1 .left) in (
       (s .pre, d, places .find-places .ensures),

@@ -4,7 +4,7 @@ use denote.Ref.{now}
 use Rattle.file_declarations.proofs.Accepted.{source-held}
 use Rattle.file_actions.proofs.Accepted.{bytes-of}
 use Rattle.source_step.proofs.Judging.{accepted-task, zero-room}
-use Rattle.lowering_file.specs.Held.{taskOf}
+use Rattle.source_sums.specs.Found.{taskOf}
 use Rattle.lowering_file.proofs.Declared.{declared}
 use borrow.Author.Needs.{needs}
 use Rattle.lowering_file.proofs.read_declarations.Statement.{statement}

@@ -10,7 +10,7 @@ use Rattle.source_step.specs.Sizes.{ACTIONS}
 use Rattle.file_actions.specs.Views.{sumsIs as conditionsIs}
 use Rattle.file_actions.proofs.Accepted.{bytes-of}
 use Rattle.lowering_file.proofs.Declared.{actions-few, goal-sums-fit, goal-kept, goal-plain}
-use Rattle.lowering_file.proofs.Sums.{none-in-goal}
+use Rattle.source_sums.proofs.Gathering.{none-in-goal}
 use borrow.Author.Needs.{needs}
 use Rattle.lowering_file.proofs.read_goal.Statement.{statement}
 use Rattle.lowering_file.proofs.read_goal.Tie as tie

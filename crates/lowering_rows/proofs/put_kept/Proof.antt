@@ -13,8 +13,9 @@ use Rattle.lists.specs.Each.{tabulate}
 use Rattle.lists.proofs.Writing.{room-as, wrote-as}
 use Rattle.model.specs.Steps.{weigh}
 use Rattle.model.specs.Sums.{addedTo, addition, keptAdditions}
+use Rattle.source_step.specs.Row.{weightsIn}
 use Rattle.lowering_sums.specs.declared.Added.{Added}
-use Rattle.lowering_sums.specs.Views.{weightsIn, sumsIn, addedIs}
+use Rattle.lowering_sums.specs.Views.{sumsIn, addedIs}
 use Rattle.lowering_rows.specs.Bytes.{additionBytes}
 use Rattle.lowering_rows.proofs.Kept.{kept-amount-fits, kept-bytes}
 use Rattle.lowering_rows.proofs.Loops.{Writing, writing-start, writing-room, writing-next, writing-end, writing-long}

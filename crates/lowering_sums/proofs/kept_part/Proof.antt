@@ -1,4 +1,4 @@
--- `lowering_sums::kept_part` meets its contract: of the table only the entry of the variable meets the +, and a variable without an entry none.
+-- `lowering_sums::kept_part` meets its contract: of the row only the entry of the variable meets the +, and a variable without an entry none.
 -- Assumes nothing.
 use mathlib.Core.Path.{_≡_, ap, _∙_}
 use Prim.Native.Nat.{ℕ, _+_, _*_}
@@ -11,7 +11,8 @@ use mir.Val.{SFits}
 use borrow.Author.Needs.{needs}
 use Rattle.model.specs.Steps.{integerAt}
 use Rattle.source_step.specs.Sizes.{VARIABLES}
-use Rattle.lowering_sums.proofs.Weighing.{entry, amount-weighed, amount-missed}
+use Rattle.source_step.proofs.Weighing.{entry}
+use Rattle.lowering_sums.proofs.Weighing.{amount-weighed, amount-missed}
 use Rattle.lowering_sums.proofs.kept_part.Statement.{statement}
 use Rattle.lowering_sums.proofs.kept_part.Tie as tie
 
@@ -35,7 +36,7 @@ product-requires c κs =
     let s = c .before .before .before in
     let at = VARIABLES * s .args .j + c .before .before .wide .result in
     let w : SFits w64 (integerAt (now (s .args .weights)) at) = search needs in
-    simp (toZ-ofZ, s .fits .d, w) (s .pre .2, s .pre .1 at)
+    simp (toZ-ofZ, s .fits .d, w) (s .pre .2, s .pre .1 (s .args .j) (c .before .before .wide .result) (s .pre .0) (c .before .if1 .taken))
 
 returns : tie.Need-returns
 returns c =

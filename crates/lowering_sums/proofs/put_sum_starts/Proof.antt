@@ -49,7 +49,7 @@ loop-holds c =
 sum-of-requires : tie.Need-sum-of-requires Inv-loop μ-loop
 sum-of-requires c κs =
     let s = c .before .before .before in
-    (s .pre .0 .0, s .pre .0 .1, omega (arith, s .pre .0 .2, c .loop-test .taken), s .pre .0 .3)
+    (s .pre .0 .0, s .pre .0 .1, s .pre .0 .3, omega (arith, s .pre .0 .2, c .loop-test .taken))
 
 bits-requires : tie.Need-bits-requires Inv-loop μ-loop
 bits-requires c κs =

@@ -1,6 +1,6 @@
 -- `plan_expand::expand` meets its contract: what is refused of the file and the plan's bytes, of the plan, or of its price; else its expansion.
 -- Assumes nothing.
-use mathlib.Core.Path.{ap, _∙_}
+use mathlib.Core.Path.{refl, ap, _∙_}
 use denote.Ref.{now}
 use Rattle.lists.proofs.Lent.{refusal}
 use Rattle.source_step.proofs.Tables.{usables}
@@ -20,7 +20,7 @@ slice-aggregate-open-2 : tie.Need-slice-aggregate-open-2
 slice-aggregate-open-2 c = search needs
 
 open-requires : tie.Need-open-requires
-open-requires c κs = search needs
+open-requires c κs = (refl, refl, refl, refl)
 
 enum-known-number : tie.Need-enum-known-number
 enum-known-number c = search needs
@@ -29,8 +29,10 @@ enum-known-t : tie.Need-enum-known-t
 enum-known-t c = search needs
 
 -- what is ready
-ready : (c : tie.After-t) → let o = c .before .before .before .before .«open» in let s = c .before .before .before .before .before .before .before .before .before .before .before .before in
-    Started (now (s .args .file)) (now (s .args .plan)) (c .t .given .0 .0) (o .last .1 .1 .0) (o .last .1 .1 .1 .0) (o .last .1 .1 .1 .1 .0) (o .last .1 .1 .1 .1 .1 .0)
+ready : (c : tie.After-t) → let o = c .before .before .before .before .«open» in
+    let s = c .before .before .before .before .before .before .before .before .before .before .before .before in
+    Started (now (s .args .file)) (now (s .args .plan)) (c .t .given .0 .0) (o .last .1 .1 .0) (o .last .1 .1 .1 .0) (o .last .1 .1 .1 .1 .0)
+    (o .last .1 .1 .1 .1 .1 .0)
 ready c = rw (c .t .given .1) at (c .before .before .before .before .«open» .ensures)
 
 slice-aggregate-judge-steps : tie.Need-slice-aggregate-judge-steps
@@ -40,7 +42,9 @@ slice-aggregate-judge-steps-2 : tie.Need-slice-aggregate-judge-steps-2
 slice-aggregate-judge-steps-2 c = search needs
 
 judge-steps-requires : tie.Need-judge-steps-requires
-judge-steps-requires c κs = let S = ready (c .before .before .before .before .before) in (usables (S .rows), S .planIs .stepsAre, S .planIs .few, S .inside .shaped .modesLong)
+judge-steps-requires c κs =
+    let S = ready (c .before .before .before .before .before) in
+    (usables (S .rows), S .planIs .stepsAre, S .planIs .few, S .inside .shaped .modesLong)
 
 length-of-requires : tie.Need-length-of-requires
 length-of-requires c κs = search needs
@@ -55,7 +59,10 @@ write-expansion-requires : tie.Need-write-expansion-requires
 write-expansion-requires c κs =
     let S = ready (c .before .before .before .before .before .before .before .before .before .before .before .before) in
     let l = c .before .before .before .before .before .length-of in
-    ((usables (S .rows), S .planIs .stepsAre, S .planIs .few, S .inside .shaped .modesLong), expandable S (l .result) (l .ensures ∙ ap (λ (j : Judging). lengthOf (j .verdict) (j .price) (j .passing)) (c .before .before .before .before .before .before .judge-steps .ensures)))
+    let j = c .before .before .before .before .before .before .judge-steps in (
+      (usables (S .rows), S .planIs .stepsAre, S .planIs .few, S .inside .shaped .modesLong),
+      expandable S (l .result) (l .ensures ∙ ap (λ (d : Judging). lengthOf (d .verdict) (d .price) (d .passing)) (j .ensures)),
+    )
 
 returns : tie.Need-returns
 returns c =
@@ -68,7 +75,12 @@ same-length : tie.Need-same-length
 same-length c = search needs
 
 returns-2 : tie.Need-returns-2
-returns-2 c = answers (ready (c .before .before .before .before .before .before .before .before .before .before .before .before .before .before .before)) (c .before .before .before .before .before .before .before .before .length-of .ensures ∙ ap (λ (j : Judging). lengthOf (j .verdict) (j .price) (j .passing)) (c .before .before .before .before .before .before .before .before .before .judge-steps .ensures)) (c .before .before .write-expansion .ensures)
+returns-2 c =
+    let l = c .before .before .before .before .before .before .before .before in
+    let j = l .before in
+    answers (ready (j .before .before .before .before .before .before))
+    (l .length-of .ensures ∙ ap (λ (d : Judging). lengthOf (d .verdict) (d .price) (d .passing)) (j .judge-steps .ensures))
+    (c .before .before .write-expansion .ensures)
 
 pub expand-spec : {M : Type 1} → statement M
 expand-spec =

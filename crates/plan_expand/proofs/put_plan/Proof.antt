@@ -8,7 +8,10 @@ use lib.ListN.{length, getD}
 use Rattle.model.specs.Plans.{planNumbers}
 use Rattle.plan_bytes.proofs.Steps.{halves-long}
 use Rattle.source_step.specs.Step.{state}
+use Rattle.source_step.specs.Row.{Usable}
+use Rattle.source_step.specs.Ready.{marksOf, numbersOf, sumsOf}
 use Rattle.source_step.specs.Table.{Table, table, Usables}
+use Rattle.source_step.proofs.Taking.{read-when-held}
 use Rattle.plan_expand.proofs.Writing.{Going, begins, ends, as-long, named, holds, has-room, goes-on}
 use borrow.Author.Needs.{needs}
 use Rattle.plan_expand.proofs.put_plan.Statement.{statement}
@@ -33,8 +36,9 @@ module _ (w : tie.After-wide16 Inv-loop μ-loop) where
   abbrev usable : Usables T
   usable = s .pre .0 .0
 
-  abbrev going : Going T (now (s .args .openings)) (planNumbers (now (s .args .plan))) (state (now (s .args .values)) (now (s .args .modes))) (now (s .args .out))
-      (w .before .before .before .loop .values) (w .before .before .before .loop .modes) (w .before .before .before .loop .out) (w .before .before .before .loop .place) (w .before .before .before .loop .i)
+  abbrev going : Going T (now (s .args .openings)) (planNumbers (now (s .args .plan))) (state (now (s .args .values)) (now (s .args .modes)))
+      (now (s .args .out)) (w .before .before .before .loop .values) (w .before .before .before .loop .modes) (w .before .before .before .loop .out)
+      (w .before .before .before .loop .place) (w .before .before .before .loop .i)
   going = w .before .before .before .loop .inv .0
 
   within : w .before .before .before .loop .i < length (planNumbers (now (s .args .plan)))
@@ -46,10 +50,19 @@ module _ (w : tie.After-wide16 Inv-loop μ-loop) where
   below : w .wide16 .result < s .args .count
   below = named going within (w .wide16 .result) is
 
+  -- its row
+  row : Usable (s .args .n) (marksOf (now (s .args .marks)) (w .wide16 .result)) (numbersOf (now (s .args .numbers)) (w .wide16 .result))
+      (sumsOf (now (s .args .numbers)))
+  row = usable .usable (w .wide16 .result) (omega (arith, below))
+
 loop-holds : tie.Need-loop-holds Inv-loop μ-loop
 loop-holds c =
     let s = c .before .before in
-    (begins (table (s .args .count) (now (s .args .marks)) (now (s .args .numbers)) (s .args .n) (s .args .m)) (now (s .args .openings)) (planNumbers (now (s .args .plan))) (now (s .args .values)) (now (s .args .modes)) (now (s .args .out)) (s .pre .0 .3) (s .pre .1 .0), refl)
+    let T = table (s .args .count) (now (s .args .marks)) (now (s .args .numbers)) (s .args .n) (s .args .m) in (
+      begins T (now (s .args .openings)) (planNumbers (now (s .args .plan))) (now (s .args .values)) (now (s .args .modes)) (now (s .args .out))
+          (s .pre .0 .3) (s .pre .1 .0),
+      refl,
+    )
 
 action-of-requires : tie.Need-action-of-requires Inv-loop μ-loop
 action-of-requires c κs = let s = c .before .before .before .before in omega (arith, halves-long (now (s .args .plan)), c .loop-test .taken, s .pre .0 .2)
@@ -78,9 +91,14 @@ shared-slice-element-put-turn-2 c = let w = c .before .before .before in omega (
 put-turn-requires : tie.Need-put-turn-requires Inv-loop μ-loop
 put-turn-requires c κs =
     let w = c .before .before .before .before .before .before .before in
-    let u = usable w in (
-      (s w .pre .0 .1 (w .wide16 .result) (below w), u .variablesFew, u .modesFew, going w .long, w .before .before .before .loop .inv .1, u .usable (w .wide16 .result) (omega (arith, below w))),
-      (holds (going w) (within w) (w .wide16 .result) (is w), has-room (going w) (within w) (w .wide16 .result) (is w) (s w .pre .1 .1)),
+    let u = usable w in
+    let l = w .before .before .before .loop in
+    let k = w .wide16 .result in (
+      (s w .pre .0 .1 k (below w), u .variablesFew, u .modesFew, going w .long, l .inv .1),
+      (
+        (row w .keeps, read-when-held (s w .args .m) (l .values) (l .modes) (u .variablesFew) (row w) (holds (going w) (within w) k (is w))),
+        has-room (going w) (within w) k (is w) (s w .pre .1 .1),
+      ),
     )
 
 add-i : tie.Need-add-i Inv-loop μ-loop

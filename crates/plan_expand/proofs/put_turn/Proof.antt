@@ -3,22 +3,16 @@ use mathlib.Core.Path.{refl, sym, ap}
 use native.Mathlib.Omega.{arith}
 use mathlib.Core.List.{List}
 use lib.IntN.{ℤ}
-use denote.Ref.{now}
 use Rattle.lists.proofs.Writing.{wrote-as, room-as}
 use Rattle.model.specs.Plans.{planBytes}
-use Rattle.source_step.specs.Row.{Reads}
-use Rattle.source_step.proofs.Taking.{read-when-held}
 use Rattle.plan_strokes.specs.Strokes.{stepNumbers}
 use Rattle.plan_expand.proofs.Writing.{turn-taken}
 use borrow.Author.Needs.{needs}
 use Rattle.plan_expand.proofs.put_turn.Statement.{statement}
 use Rattle.plan_expand.proofs.put_turn.Tie as tie
 
-reads : (s : tie.Start) → Reads (s .args .n) (now (s .args .values)) (now (s .args .marks)) (now (s .args .numbers))
-reads s = read-when-held (s .args .m) (now (s .args .values)) (now (s .args .modes)) (s .pre .0 .1) (s .pre .0 .5) (s .pre .1 .0)
-
 put-strokes-requires : tie.Need-put-strokes-requires
-put-strokes-requires c κs = let s = c .before .before .before .before in (s .pre .0 .4, refl, reads s)
+put-strokes-requires c κs = let s = c .before .before .before .before in (s .pre .0 .4, refl, s .pre .1 .0 .1)
 
 abbrev start : tie.After-put-strokes → tie.Start
 start p = p .before .before .before .before .before
@@ -34,7 +28,7 @@ finish-requires : tie.Need-finish-requires
 finish-requires c κs =
     let p = c .before .before .before .before .before .before .before .before in
     let s = start p in
-    (omega (arith, s .pre .0 .1), s .pre .0 .2, s .pre .0 .3, s .pre .0 .5 .keeps, p .put-strokes .ensures .resultsAre)
+    (omega (arith, s .pre .0 .1), s .pre .0 .2, s .pre .0 .3, s .pre .1 .0 .0, p .put-strokes .ensures .resultsAre)
 
 same-length : tie.Need-same-length
 same-length c = search needs

@@ -28,8 +28,8 @@ abbrev planOf : tie.Start → List ℕ
 planOf s = planNumbers (now (s .args .plan))
 
 abbrev numbersOf : tie.Start → List ℕ
-numbersOf s = numbersAt (s .args .n) (s .args .m) (now (s .args .marks)) (now (s .args .numbers)) (now (s .args .values)) (now (s .args .modes))
-    (s .args .opening)
+numbersOf s = numbersAt (s .args .n) (s .args .m) (now (s .args .marks)) (now (s .args .numbers)) (now (s .args .sums)) (now (s .args .values))
+    (now (s .args .modes)) (s .args .opening)
 
 abbrev strokesIn : tie.Start → List ℤ
 strokesIn s = strokesOf (effectsAt (now (s .args .marks)) (now (s .args .numbers))) (integerAt (take (s .args .n) (now (s .args .values))))
@@ -40,8 +40,8 @@ holds-requires c κs = search needs
 returns : tie.Need-returns
 returns c =
     let s = c .before .before .before .before .before in (
-      macro-refused (s .args .n) (s .args .m) (now (s .args .marks)) (now (s .args .numbers)) (now (s .args .values)) (now (s .args .modes)) (s .args .total)
-          (s .args .at) (planOf s) (s .args .opening) (s .pre .1 .0)
+      macro-refused (s .args .n) (s .args .m) (now (s .args .marks)) (now (s .args .numbers)) (now (s .args .sums)) (now (s .args .values))
+          (now (s .args .modes)) (s .args .total) (s .args .at) (planOf s) (s .args .opening) (s .pre .1 .1 .0)
           (sym (c .before .holds .ensures) ∙ not-true _ (c .if1 .taken)),
       s .pre .0 .3,
     )
@@ -51,11 +51,12 @@ module _ (c : tie.Else1) where
   abbrev s : tie.Start
   s = c .before .before .before .before .before
 
-  passed : held (s .args .n) (s .args .m) (now (s .args .marks)) (now (s .args .numbers)) (now (s .args .values)) (now (s .args .modes)) ≡ true
+  passed : held (s .args .n) (s .args .m) (now (s .args .marks)) (now (s .args .numbers)) (now (s .args .sums)) (now (s .args .values)) (now (s .args .modes))
+      ≡ true
   passed = sym (c .before .holds .ensures) ∙ not-false _ (c .if1 .left)
 
   reads : Reads (s .args .n) (now (s .args .values)) (now (s .args .marks)) (now (s .args .numbers))
-  reads = read-when-held (s .args .m) (now (s .args .values)) (now (s .args .modes)) (s .pre .0 .0) (s .pre .0 .4) passed
+  reads = read-when-held (s .args .m) (now (s .args .values)) (now (s .args .modes)) (s .pre .0 .0) (s .pre .1 .0) passed
 
 put-strokes-requires : tie.Need-put-strokes-requires
 put-strokes-requires c κs = let e = c .before .before .before in (s e .pre .0 .3, refl, reads e)
@@ -64,7 +65,7 @@ matches-step-requires : tie.Need-matches-step-requires
 matches-step-requires c κs =
     let l = c .before .put-strokes .ensures .listed in
     let a = s (c .before .before .before .before .before) in
-    (a .pre .1 .3, l .few, l .long, omega (arith, a .pre .1))
+    (a .pre .1 .1 .3, l .few, l .long, omega (arith, a .pre .1 .1))
 
 -- the strokes were compared
 module _ (f : tie.After-matches-step) where
@@ -84,13 +85,13 @@ module _ (f : tie.After-matches-step) where
   fits =
       let a = s test in
       let rest = drop (a .args .at) (planOf a) in
-      (a .pre .1 .1, omega (arith, matched-is, agreeing-there (numbersOf a) rest, length-drop (a .args .at) (planOf a), a .pre .1))
+      (a .pre .1 .1 .1, omega (arith, matched-is, agreeing-there (numbersOf a) rest, length-drop (a .args .at) (planOf a), a .pre .1 .1))
 
 finish-requires : tie.Need-finish-requires
 finish-requires c κs =
     let f = c .before .before .before in
     let a = s (test f) in
-    (a .pre .0 .0, a .pre .0 .1, a .pre .0 .2, a .pre .0 .4 .keeps, strokesPut f .put-strokes .ensures .resultsAre)
+    (a .pre .0 .0, a .pre .0 .1, a .pre .0 .2, a .pre .1 .0 .keeps, strokesPut f .put-strokes .ensures .resultsAre)
 
 price-of-requires : tie.Need-price-of-requires
 price-of-requires c κs =
@@ -115,8 +116,8 @@ returns-2 c =
     let h = p .before .before in
     let f = h .before .before .before .before .before in
     let a = s (test f) in (
-      macro-past (a .args .n) (a .args .m) (now (a .args .marks)) (now (a .args .numbers)) (now (a .args .values)) (now (a .args .modes)) (a .args .total)
-          (a .args .at) (planOf a) (a .args .opening) (a .pre .1 .0)
+      macro-past (a .args .n) (a .args .m) (now (a .args .marks)) (now (a .args .numbers)) (now (a .args .sums)) (now (a .args .values))
+          (now (a .args .modes)) (a .args .total) (a .args .at) (planOf a) (a .args .opening) (a .pre .1 .1 .0)
           (passed (test f)) (matched-is f) (h .before .finish .ensures) (h .if2 .taken) (size-is p) (c .past-macro .ensures .0) (c .past-macro .ensures .1),
       strokesPut f .put-strokes .ensures .listed .long,
     )
@@ -152,7 +153,7 @@ strokes-walked-requires c κs =
         arith,
         c .effect-count .ensures,
         l .counted,
-        sets-there (a .pre .1 .0) (now (a .args .numbers))
+        sets-there (a .pre .1 .1 .0) (now (a .args .numbers))
             (integerAt (take (a .args .n) (now (a .args .values)))),
       ),
       l .few,
@@ -199,8 +200,8 @@ returns-3 c =
     let h = w .before .before .before .before in
     let f = h .before .before .before .before .before in
     let a = s (test f) in (
-      macro-into (a .args .n) (a .args .m) (now (a .args .marks)) (now (a .args .numbers)) (now (a .args .values)) (now (a .args .modes)) (a .args .total)
-          (a .args .at) (planOf a) (a .args .opening) (a .pre .1 .0)
+      macro-into (a .args .n) (a .args .m) (now (a .args .marks)) (now (a .args .numbers)) (now (a .args .sums)) (now (a .args .values))
+          (now (a .args .modes)) (a .args .total) (a .args .at) (planOf a) (a .args .opening) (a .pre .1 .1 .0)
           (passed (test f)) (matched-is f) (h .before .finish .ensures) (h .if2 .left) (walked-size p) (c .into-macro .ensures .0) (c .into-macro .ensures .1),
       strokesPut f .put-strokes .ensures .listed .long,
     )

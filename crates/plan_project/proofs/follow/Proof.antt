@@ -77,6 +77,7 @@ module _ (f : tie.Else1 Inv-loop μ-loop) where
   w = f .before
 
   here : (w .wide .result < length (now (startOf w .args .marks))) × (w .wide .result < length (now (startOf w .args .numbers)))
+      × (33 < length (now (startOf w .args .numbers)))
   here = let s = startOf w in rows-here (loopOf w .loop .inv .0) (s .pre .0 .0) (s .pre .0 .1) (w .before .before .action-of .result) (number-is w) (inside w)
       (entry-is w) (f .if1 .left)
 
@@ -89,20 +90,26 @@ mul-advance-2 c = search (needs, arith)
 shared-slice-element-advance-2 : tie.Need-shared-slice-element-advance-2 Inv-loop μ-loop
 shared-slice-element-advance-2 c = here (c .before) .1
 
+shared-slice-element-advance-3 : tie.Need-shared-slice-element-advance-3 Inv-loop μ-loop
+shared-slice-element-advance-3 c = here (c .before .before) .2
+
 advance-requires : tie.Need-advance-requires Inv-loop μ-loop
 advance-requires c κs =
-    let f = c .before .before .before .before .before in
+    let f = c .before .before .before .before .before .before in
     let v = w f in
     let s = startOf v in
     let u = s .pre .0 .0 in
     let g = loopOf v .loop .inv in
     let k = v .before .before .action-of .result in (
-      (u .variablesFew, u .modesFew, g .0 .long, g .1, u .usable (v .wide .result) (omega (arith, f .if1 .left))),
+      (u .variablesFew, u .modesFew, g .0 .long, g .1),
       (
-        s .pre .0 .2,
-        omega (arith, inside v, s .pre .0 .2),
-        number-small (g .0) u (s .pre .0 .1) k (number-is v) (inside v) (entry-is v) (f .if1 .left),
-        number-is v,
+        u .usable (v .wide .result) (omega (arith, f .if1 .left)),
+        (
+          s .pre .0 .2,
+          omega (arith, inside v, s .pre .0 .2),
+          number-small (g .0) u (s .pre .0 .1) k (number-is v) (inside v) (entry-is v) (f .if1 .left),
+          number-is v,
+        ),
       ),
     )
 
@@ -110,7 +117,7 @@ enum-known-next : tie.Need-enum-known-next Inv-loop μ-loop
 enum-known-next c = search needs
 
 abbrev elseOf : tie.After-advance Inv-loop μ-loop → tie.Else1 Inv-loop μ-loop
-elseOf a = a .before .before .before .before .before .before
+elseOf a = a .before .before .before .before .before .before .before
 
 returns-2 : tie.Need-returns-2 Inv-loop μ-loop
 returns-2 c =
@@ -179,6 +186,7 @@ follow-spec =
     shared-slice-element-advance
     mul-advance-2
     shared-slice-element-advance-2
+    shared-slice-element-advance-3
     advance-requires
     enum-known-next
     returns-2

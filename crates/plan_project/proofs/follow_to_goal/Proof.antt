@@ -29,24 +29,27 @@ mul-holds-2 c = search (needs, arith)
 shared-slice-element-holds-2 : tie.Need-shared-slice-element-holds-2
 shared-slice-element-holds-2 c = search needs
 
+shared-slice-element-holds-3 : tie.Need-shared-slice-element-holds-3
+shared-slice-element-holds-3 c = search needs
+
 holds-requires : tie.Need-holds-requires
 holds-requires c κs =
-    let s = startOf (c .before .before .before .before .before .before .before) in
+    let s = startOf (c .before .before .before .before .before .before .before .before) in
     let u = s .pre .0 .0 in
     (u .variablesFew, u .modesFew, u .usable (s .args .count) (omega arith))
 
 returns : tie.Need-returns
 returns c = let h = c .before in
-    let f = h .before .before .before .before .before .before .before .before in
-    goal-met (f .follow .ensures) (h .before .before .before .before .before .before .followed2 .given .1) (h .holds .ensures) (c .if1 .taken)
+    let f = h .before .before .before .before .before .before .before .before .before in
+    goal-met (f .follow .ensures) (h .before .before .before .before .before .before .before .followed2 .given .1) (h .holds .ensures) (c .if1 .taken)
 
 returns-2 : tie.Need-returns-2
 returns-2 c = let f = c .before .before .before in not-followed (f .follow .ensures) (c .before .followed .given .1)
 
 returns-3 : tie.Need-returns-3
 returns-3 c = let h = c .before in
-    let f = h .before .before .before .before .before .before .before .before in
-    goal-unmet (f .follow .ensures) (h .before .before .before .before .before .before .followed2 .given .1) (h .holds .ensures) (c .if1 .left)
+    let f = h .before .before .before .before .before .before .before .before .before in
+    goal-unmet (f .follow .ensures) (h .before .before .before .before .before .before .before .followed2 .given .1) (h .holds .ensures) (c .if1 .left)
     (startOf f .pre .0 .2)
 
 pub follow-to-goal-spec : {M : Type 1} → statement M
@@ -60,6 +63,7 @@ follow-to-goal-spec =
     shared-slice-element-holds
     mul-holds-2
     shared-slice-element-holds-2
+    shared-slice-element-holds-3
     holds-requires
     returns
     returns-2

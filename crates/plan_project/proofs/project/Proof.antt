@@ -1,5 +1,6 @@
 -- `plan_project::project` meets its contract: what is refused of the file and the plan's bytes, else what projecting the steps gives.
 -- Assumes nothing.
+use mathlib.Core.Path.{refl}
 use denote.Ref.{now}
 use Rattle.source_walk.specs.Opening.{Started}
 use Rattle.plan_project.proofs.Opening.{refused-so, posed, task-projected}
@@ -14,7 +15,7 @@ slice-aggregate-open-2 : tie.Need-slice-aggregate-open-2
 slice-aggregate-open-2 c = search needs
 
 open-requires : tie.Need-open-requires
-open-requires c κs = search needs
+open-requires c κs = (refl, refl, refl, refl)
 
 enum-known-number : tie.Need-enum-known-number
 enum-known-number c = search needs
@@ -23,7 +24,8 @@ enum-known-t : tie.Need-enum-known-t
 enum-known-t c = search needs
 
 -- what is ready
-ready : (c : tie.After-t) → let o = c .before .before .before .before .«open» in let s = c .before .before .before .before .before .before .before .before .before .before .before .before in
+ready : (c : tie.After-t) → let o = c .before .before .before .before .«open» in
+    let s = c .before .before .before .before .before .before .before .before .before .before .before .before in
     Started (now (s .args .file)) (now (s .args .plan)) (c .t .given .0 .0) (o .last .1 .1 .0) (o .last .1 .1 .1 .0) (o .last .1 .1 .1 .1 .0)
     (o .last .1 .1 .1 .1 .1 .0)
 ready c = rw (c .t .given .1) at (c .before .before .before .before .«open» .ensures)

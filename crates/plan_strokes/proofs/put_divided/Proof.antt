@@ -31,10 +31,10 @@ module _ (s : tie.Start) where
   operand-near = s .pre .2 .near (operandAt (now (s .args .marks)) (s .args .e))
 
   constant-near : natAbs constant ≤ 10000
-  constant-near = s .pre .2 .usable .constants (s .args .e) (omega (arith, s .pre .3))
+  constant-near = s .pre .2 .effects .constants (s .args .e) (omega (arith, s .pre .3))
 
   divides : 1 ≤ natAbs constant
-  divides = s .pre .2 .usable .divides (s .args .e) (s .pre .3) (s .pre .4)
+  divides = s .pre .2 .effects .divides (s .args .e) (s .pre .3) (s .pre .4)
 
 mul-block : tie.Need-mul-block
 mul-block c = search needs

@@ -21,18 +21,19 @@ holds-requires : tie.Need-holds-requires
 holds-requires c κs = search needs
 
 returns : tie.Need-returns
-returns c = (turned-away (sym (c .before .holds .ensures) ∙ not-true _ (c .if1 .taken)), c .before .before .before .before .pre .3)
+returns c = (turned-away (sym (c .before .holds .ensures) ∙ not-true _ (c .if1 .taken)), c .before .before .before .before .pre .0 .3)
 
 -- the rows' test passed
 module _ (c : tie.Else1) where
   abbrev s : tie.Start
   s = c .before .before .before .before
 
-  passed : held (s .args .n) (s .args .m) (now (s .args .marks)) (now (s .args .numbers)) (now (s .args .values)) (now (s .args .modes)) ≡ true
+  passed : held (s .args .n) (s .args .m) (now (s .args .marks)) (now (s .args .numbers)) (now (s .args .sums)) (now (s .args .values)) (now (s .args .modes))
+      ≡ true
   passed = sym (c .before .holds .ensures) ∙ not-false _ (c .if1 .left)
 
   reads : Reads (s .args .n) (now (s .args .values)) (now (s .args .marks)) (now (s .args .numbers))
-  reads = read-when-held (s .args .m) (now (s .args .values)) (now (s .args .modes)) (s .pre .0) (s .pre .4) passed
+  reads = read-when-held (s .args .m) (now (s .args .values)) (now (s .args .modes)) (s .pre .0 .0) (s .pre .1) passed
 
 makes-macro-requires : tie.Need-makes-macro-requires
 makes-macro-requires c κs = search needs
@@ -50,16 +51,16 @@ finish-single-requires c κs =
     let t = r .before .before in
     let e = t .before .before in
     let z : SFits w64 (r .result-of .result) = search needs in
-    (s e .pre .0, s e .pre .1, s e .pre .2, s e .pre .4 .keeps, (stays-few (single t), λ q. rw (toZ-ofZ z) (r .result-of .ensures .0)))
+    (s e .pre .0 .0, s e .pre .0 .1, s e .pre .0 .2, s e .pre .1 .keeps, (stays-few (single t), λ q. rw (toZ-ofZ z) (r .result-of .ensures .0)))
 
 returns-2 : tie.Need-returns-2
 returns-2 c =
     let t = c .before .before .before .before .before in
     let e = t .before .before in
-    (turned-single (passed e) (single t) (c .finish-single .result) (c .finish-single .ensures), s e .pre .3)
+    (turned-single (passed e) (single t) (c .finish-single .result) (c .finish-single .ensures), s e .pre .0 .3)
 
 put-strokes-requires : tie.Need-put-strokes-requires
-put-strokes-requires c κs = let e = c .before .before .before .before .before in (s e .pre .3, refl, reads e)
+put-strokes-requires c κs = let e = c .before .before .before .before .before in (s e .pre .0 .3, refl, reads e)
 
 price-of-requires : tie.Need-price-of-requires
 price-of-requires c κs = let l = c .before .put-strokes .ensures .listed in (l .few, l .long, rw (l .is) (l .within))

@@ -24,8 +24,8 @@ applies-requires c κs = search needs
 returns : tie.Need-returns
 returns c =
     let a = c .before in
-    let s = a .before .before .before .before .before .before .before .before in
-    let row = a .before .before .before .read-row .ensures in
+    let s = a .before .before .before .before .before .before .before .before .before .before in
+    let row = a .before .before .before .before .read-row .ensures in
     record { meets = λ k e. not-priced row _ _ k e (values-long s) (modes-long s) (a .applies .ensures) (not-true _ (c .if1 .taken)) }
 
 -- the step applies
@@ -34,7 +34,7 @@ module _ (f : tie.Else1) where
   a = f .before
 
   abbrev s : tie.Start
-  s = a .before .before .before .before .before .before .before .before
+  s = a .before .before .before .before .before .before .before .before .before .before
 
   applied : a .applies .result ≡ true
   applied = not-false _ (f .if1 .left)
@@ -42,7 +42,7 @@ module _ (f : tie.Else1) where
 put-strokes-requires : tie.Need-put-strokes-requires
 put-strokes-requires c κs =
     let f = c .before .before .before .before .before .before in
-    let row = a f .before .before .before .read-row .ensures in
+    let row = a f .before .before .before .before .read-row .ensures in
     (refl, refl, readable row (s f .args .state .values) (s f .args .state .modes) (sym (a f .applies .ensures) ∙ applied f))
 
 price-of-requires : tie.Need-price-of-requires
@@ -51,7 +51,7 @@ price-of-requires c κs = let l = c .before .put-strokes .ensures .listed in (l 
 returns-2 : tie.Need-returns-2
 returns-2 c =
     let f = c .before .before .before .before .before .before .before .before .before in
-    let row = a f .before .before .before .read-row .ensures in
+    let row = a f .before .before .before .before .read-row .ensures in
     let l = c .before .before .put-strokes .ensures .listed in
     record {
       meets = λ k e. priced-alone row _ _ k e (values-long (s f)) (modes-long (s f)) (a f .applies .ensures) (applied f) l _ (c .price-of .ensures .0);

@@ -17,10 +17,10 @@ step-verdict-requires c κs = search needs
 
 returns : tie.Need-returns
 returns c =
-    let s = c .before .before .before .before .before .before .before .before .before .before in
+    let s = c .before .before .before .before .before .before .before .before .before .before .before .before in
     let v : length (s .args .state .values) ≡ 8 = search needs in
     let m : length (s .args .state .modes) ≡ 4 = search needs in
-    let row = c .before .before .before .before .before .read-row .ensures in
+    let row = c .before .before .before .before .before .before .read-row .ensures in
     record { meets = λ k e. rw (c .step-verdict .ensures) (step-taken row k e _ _ v m _ _ _ (c .before .before .step .ensures)) }
 
 pub step-accepted-spec : {M : Type 1} → statement M

@@ -60,7 +60,7 @@ loop-holds c =
     let s = c .before .before .before .before in
     let k : SFits w64 (constantAt (now (s .args .numbers)) (s .args .e)) = search needs in
     let q = rw (c .before .before .wide16 .ensures) at (c .before .lesser .ensures) in
-    rw (toZ-ofZ k) (rw q (left-start _ (row-tabulate _ _)), omega (arith, s .pre .0 .usable .constants (s .args .e) (s .pre .1)), omega arith)
+    rw (toZ-ofZ k) (rw q (left-start _ (row-tabulate _ _)), omega (arith, s .pre .0 .effects .constants (s .args .e) (s .pre .1)), omega arith)
 
 plus-term-requires : tie.Need-plus-term-requires Inv-loop μ-loop
 plus-term-requires c κs =

@@ -48,7 +48,7 @@ plus-product-requires c κs =
     let a : SFits w64 (v .result) = search needs in
     let b : SFits w64 (weightAt (now (s .args .numbers)) (s .args .e) (s .args .i)) = search needs in
     rw (toZ-ofZ (s .fits .z), toZ-ofZ a, toZ-ofZ b, v .ensures)
-    (s .pre .3, s .pre .0 .near _, s .pre .0 .usable .weights (s .args .e) (s .args .i) (s .pre .1) (s .pre .2))
+    (s .pre .3, s .pre .0 .near _, s .pre .0 .effects .weights (s .args .e) (s .args .i) (s .pre .1) (s .pre .2))
 
 returns : tie.Need-returns
 returns c =

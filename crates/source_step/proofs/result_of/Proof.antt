@@ -101,7 +101,7 @@ quotient-requires c κs =
     rw (toZ-ofZ a, toZ-ofZ k, v .ensures) (
       within _ (s .pre .0 .near _),
       within _ (constant-near (s .pre .0) (s .args .e) (s .pre .1)),
-      s .pre .0 .usable .divides (s .args .e) (s .pre .1)
+      s .pre .0 .effects .divides (s .args .e) (s .pre .1)
           (omega (arith, c .if3 .taken)),
     )
 
@@ -128,7 +128,7 @@ residue-requires c κs =
     rw (toZ-ofZ a, toZ-ofZ k, v .ensures) (
       within _ (s .pre .0 .near _),
       within _ (constant-near (s .pre .0) (s .args .e) (s .pre .1)),
-      s .pre .0 .usable .divides (s .args .e) (s .pre .1)
+      s .pre .0 .effects .divides (s .args .e) (s .pre .1)
           (omega (arith, past c)),
     )
 

@@ -30,8 +30,9 @@ ranges-hold-requires c κs = search needs
 returns-2 : tie.Need-returns-2
 returns-2 c =
     let s = c .before .before .before .before .before .before in
-    not-held (out-of-range (s .args .n) (s .args .m) (now (s .args .marks)) (now (s .args .numbers)) (now (s .args .values)) (now (s .args .modes))
-    (sym (c .before .ranges-hold .ensures) ∙ not-true _ (c .if2 .taken)))
+    let sums = now (s .args .sums) in
+    not-held sums (out-of-range (s .args .n) (s .args .m) (now (s .args .marks)) (now (s .args .numbers)) sums (now (s .args .values))
+    (now (s .args .modes)) (sym (c .before .ranges-hold .ensures) ∙ not-true _ (c .if2 .taken)))
 
 -- the ranges hold, and there is no condition on a sum
 in-range : (c : tie.Else2) → let s = c .before .before .before .before .before .before in RangesHold (s .args .n) (s .args .m) (now (s .args .marks))
@@ -39,11 +40,12 @@ in-range : (c : tie.Else2) → let s = c .before .before .before .before .before
 in-range c = record { passes = sym (c .before .ranges-hold .ensures) ∙ not-false _ (c .if2 .left) }
 
 passed : (c : tie.Else2) → let s = c .before .before .before .before .before .before in held (s .args .n) (s .args .m) (now (s .args .marks))
-    (now (s .args .numbers)) (now (s .args .values)) (now (s .args .modes)) ≡ true
+    (now (s .args .numbers)) (now (s .args .sums)) (now (s .args .values)) (now (s .args .modes)) ≡ true
 passed c =
     let l = c .before .before .before .before in
     let s = l .before .before in
-    sums-decide (in-range c) ∙ no-sums (s .args .n) (now (s .args .marks)) (now (s .args .numbers)) (now (s .args .values)) (l .if1 .left)
+    let sums = now (s .args .sums) in
+    sums-decide (in-range c) sums ∙ no-sums (s .args .n) (now (s .args .marks)) sums (now (s .args .values)) (l .if1 .left)
 
 result-of-requires : tie.Need-result-of-requires
 result-of-requires c κs =
@@ -59,7 +61,9 @@ finish-single-requires c κs =
     (s .pre .0, s .pre .1, s .pre .2, s .pre .3 .keeps, (s .pre .4, λ e. rw (toZ-ofZ x) (r .result-of .ensures .0)))
 
 returns-3 : tie.Need-returns-3
-returns-3 c = behind-the-test (passed (c .before .before .before .before .before)) (c .finish-single .ensures)
+returns-3 c =
+    let e = c .before .before .before .before .before in
+    behind-the-test (now (e .before .before .before .before .before .before .args .sums)) (passed e) (c .finish-single .ensures)
 
 pub take-single-spec : {M : Type 1} → statement M
 take-single-spec =

@@ -23,9 +23,12 @@ mul-holds-2 c = search needs
 shared-slice-element-holds-2 : tie.Need-shared-slice-element-holds-2
 shared-slice-element-holds-2 c = search needs
 
+shared-slice-element-holds-3 : tie.Need-shared-slice-element-holds-3
+shared-slice-element-holds-3 c = search needs
+
 holds-requires : tie.Need-holds-requires
 holds-requires c κs =
-    let s = c .before .before .before .before .before .before .before .before in
+    let s = c .before .before .before .before .before .before .before .before .before in
     let u = s .pre .0 in
     (u .variablesFew, u .modesFew, u .usable (s .args .count) (omega arith))
 
@@ -34,8 +37,9 @@ last-verdict-requires c κs = search needs
 
 returns : tie.Need-returns
 returns c =
-    let s = c .before .before .before .before .before .before .before .before .before .before .args in
-    judged-from (table (s .count) (now (s .marks)) (now (s .numbers)) (s .n) (s .m)) (planNumbers (now (s .plan))) (c .last-verdict .ensures) (c .before .holds .ensures) (c .before .before .before .before .before .before .before .before .before .before .pre .1) (c .before .before .before .before .before .before .walk .ensures)
+    let s = c .before .before .before .before .before .before .before .before .before .before .before in
+    judged-from (table (s .args .count) (now (s .args .marks)) (now (s .args .numbers)) (s .args .n) (s .args .m)) (planNumbers (now (s .args .plan)))
+    (c .last-verdict .ensures) (c .before .holds .ensures) (s .pre .1) (c .before .before .before .before .before .before .before .walk .ensures)
 
 pub judge-steps-spec : {M : Type 1} → statement M
 judge-steps-spec =
@@ -46,6 +50,7 @@ judge-steps-spec =
     shared-slice-element-holds
     mul-holds-2
     shared-slice-element-holds-2
+    shared-slice-element-holds-3
     holds-requires
     last-verdict-requires
     returns)

@@ -14,7 +14,7 @@ take-requires : tie.Need-take-requires
 take-requires c κs = search needs
 
 returns-2 : tie.Need-returns-2
-returns-2 c = rw (c .before .before .before .if1 .left) (at-no-price (c .take .ensures), c .before .before .before .before .pre .3)
+returns-2 c = rw (c .before .before .before .if1 .left) (at-no-price (c .take .ensures), c .before .before .before .before .pre .0 .3)
 
 pub take-turn-spec : {M : Type 1} → statement M
 take-turn-spec = tie.close (tie.spec take-priced-requires returns take-requires returns-2)

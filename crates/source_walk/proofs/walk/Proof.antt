@@ -24,7 +24,10 @@ abbrev μ-loop : tie.MeasureT-loop
     steps - i
 
 loop-holds : tie.Need-loop-holds Inv-loop μ-loop
-loop-holds c = let s = c .before in (begins (table (s .args .count) (now (s .args .marks)) (now (s .args .numbers)) (s .args .n) (s .args .m)) (s .args .priced) (planNumbers (now (s .args .plan))) (now (s .args .values)) (now (s .args .modes)) (s .pre .3), refl)
+loop-holds c =
+    let s = c .before in
+    let T = table (s .args .count) (now (s .args .marks)) (now (s .args .numbers)) (s .args .n) (s .args .m) in
+    (begins T (s .args .priced) (planNumbers (now (s .args .plan))) (now (s .args .values)) (now (s .args .modes)) (s .pre .3), refl)
 
 action-of-requires : tie.Need-action-of-requires Inv-loop μ-loop
 action-of-requires c κs = let s = c .before .before .before in omega (arith, halves-long (now (s .args .plan)), c .loop-test .taken, s .pre .1)
@@ -40,25 +43,38 @@ returns c =
     let w = c .before .before in
     let h = w .before .before in
     c .stopped .ensures (state (h .before .loop .values) (h .before .loop .modes))
-    ∙ no-action (h .before .loop .inv .0) (w .wide16 .result) (w .wide16 .ensures ∙ w .before .action-of .ensures) (omega (arith, h .loop-test .taken, h .before .before .before .pre .1)) (c .before .if1 .taken)
+    ∙ no-action (h .before .loop .inv .0) (w .wide16 .result) (w .wide16 .ensures ∙ w .before .action-of .ensures)
+    (omega (arith, h .loop-test .taken, h .before .before .before .pre .1)) (c .before .if1 .taken)
 
 mul-take-turn : tie.Need-mul-take-turn Inv-loop μ-loop
 mul-take-turn c = search (needs, arith)
 
 shared-slice-element-take-turn : tie.Need-shared-slice-element-take-turn Inv-loop μ-loop
-shared-slice-element-take-turn c = let u = c .before .before .before .before .before .before .before .before .pre .0 in omega (arith, u .actionsFew, u .marksLong, c .before .before .if1 .left)
+shared-slice-element-take-turn c =
+    let u = c .before .before .before .before .before .before .before .before .pre .0 in
+    omega (arith, u .actionsFew, u .marksLong, c .before .before .if1 .left)
 
 mul-take-turn-2 : tie.Need-mul-take-turn-2 Inv-loop μ-loop
 mul-take-turn-2 c = search (needs, arith)
 
 shared-slice-element-take-turn-2 : tie.Need-shared-slice-element-take-turn-2 Inv-loop μ-loop
-shared-slice-element-take-turn-2 c = let u = c .before .before .before .before .before .before .before .before .before .pre .0 in omega (arith, u .actionsFew, u .numbersLong, c .before .before .before .if1 .left)
+shared-slice-element-take-turn-2 c =
+    let u = c .before .before .before .before .before .before .before .before .before .pre .0 in
+    omega (arith, u .actionsFew, u .numbersLong, c .before .before .before .if1 .left)
+
+shared-slice-element-take-turn-3 : tie.Need-shared-slice-element-take-turn-3 Inv-loop μ-loop
+shared-slice-element-take-turn-3 c =
+    let u = c .before .before .before .before .before .before .before .before .before .before .pre .0 in
+    omega (arith, u .numbersLong)
 
 take-turn-requires : tie.Need-take-turn-requires Inv-loop μ-loop
 take-turn-requires c κs =
-    let l = c .before .before .before .before .before .before .before .before .before .loop in
-    let u = c .before .before .before .before .before .before .before .before .before .before .before .pre .0 in
-    (u .variablesFew, u .modesFew, l .inv .0 .long, l .inv .1, u .usable (c .before .before .before .before .before .before .wide16 .result) (omega (arith, c .before .before .before .before .before .if1 .left)))
+    let w = c .before .before .before .before .before .before .before in
+    let l = w .before .before .before .loop in
+    let u = w .before .before .before .before .before .pre .0 in (
+      (u .variablesFew, u .modesFew, l .inv .0 .long, l .inv .1),
+      u .usable (w .wide16 .result) (omega (arith, c .before .before .before .before .before .before .if1 .left)),
+    )
 
 stopped-requires-2 : tie.Need-stopped-requires-2 Inv-loop μ-loop
 stopped-requires-2 c κs = search needs
@@ -66,13 +82,17 @@ stopped-requires-2 c κs = search needs
 returns-2 : tie.Need-returns-2 Inv-loop μ-loop
 returns-2 c =
     let t = c .before .before .before .take-turn in
-    let w = c .before .before .before .before .before .before .before .before .before .before in
+    let w = c .before .before .before .before .before .before .before .before .before .before .before in
     let h = w .before .before in
     c .stopped2 .ensures (state (t .last .0) (t .last .1 .0))
-    ∙ not-applied (h .before .loop .inv .0) (w .wide16 .result) (w .wide16 .ensures ∙ w .before .action-of .ensures) (omega (arith, h .loop-test .taken, h .before .before .before .pre .1)) (c .before .before .before .before .before .before .before .before .before .if1 .left) (t .ensures .0) (not-true _ (c .before .if2 .taken))
+    ∙ not-applied (h .before .loop .inv .0) (w .wide16 .result) (w .wide16 .ensures ∙ w .before .action-of .ensures)
+    (omega (arith, h .loop-test .taken, h .before .before .before .pre .1))
+    (c .before .before .before .before .before .before .before .before .before .before .if1 .left) (t .ensures .0) (not-true _ (c .before .if2 .taken))
 
 add-price : tie.Need-add-price Inv-loop μ-loop
-add-price c = let h = c .before .before .before .before .before .before .before .before .before .before .before .before in omega (arith, c .before .before .before .take-turn .ensures .0 .few, h .before .loop .inv .0 .few, h .loop-test .taken, h .before .before .before .pre .2)
+add-price c =
+    let h = c .before .before .before .before .before .before .before .before .before .before .before .before .before in
+    omega (arith, c .before .before .before .take-turn .ensures .0 .few, h .before .loop .inv .0 .few, h .loop-test .taken, h .before .before .before .pre .2)
 
 first-passing-requires : tie.Need-first-passing-requires Inv-loop μ-loop
 first-passing-requires c κs = search needs
@@ -86,10 +106,12 @@ loop-less c = omega arith
 loop-again : tie.Need-loop-again Inv-loop μ-loop
 loop-again c =
     let t = c .before .before .before .before .take-turn in
-    let w = c .before .before .before .before .before .before .before .before .before .before .before in
+    let w = c .before .before .before .before .before .before .before .before .before .before .before .before in
     let h = w .before .before in (
-      goes (h .before .loop .inv .0) (w .wide16 .result) (w .wide16 .ensures ∙ w .before .action-of .ensures) (omega (arith, h .loop-test .taken, h .before .before .before .pre .1)) (c .before .before .before .before .before .before .before .before .before .before .if1 .left) (t .ensures .0) (h .before .before .before .pre .0)
-          (not-false _ (c .before .before .if2 .left)) (c .first-passing .ensures),
+      goes (h .before .loop .inv .0) (w .wide16 .result) (w .wide16 .ensures ∙ w .before .action-of .ensures)
+          (omega (arith, h .loop-test .taken, h .before .before .before .pre .1))
+          (c .before .before .before .before .before .before .before .before .before .before .before .if1 .left) (t .ensures .0)
+          (h .before .before .before .pre .0) (not-false _ (c .before .before .if2 .left)) (c .first-passing .ensures),
       t .ensures .1,
     )
 
@@ -111,6 +133,7 @@ walk-spec =
     shared-slice-element-take-turn
     mul-take-turn-2
     shared-slice-element-take-turn-2
+    shared-slice-element-take-turn-3
     take-turn-requires
     stopped-requires-2
     returns-2
