@@ -10,15 +10,16 @@
  * THREADS. The archive has no variables of its own, so calls may run in several threads at once, so long as none writes what another is
  * handed.
  *
- * STACK. What a call takes, measured with the worked file of docs/FORMAT.md (bench/stack.c) and rounded up; 1 KB is 1,000 bytes.
+ * STACK. What a call takes, measured with the worked file of docs/FORMAT.md and with a file that has K (bench/stack.c), the larger of the two
+ * rounded up; 1 KB is 1,000 bytes.
  * Where memcpy and memset are bound at their first call, as by default in a program that is linked dynamically, that call takes some 2.5 KB
  * more.
  *
  *    reading, the place of an action, a start, a refusal's text        1 KB
  *    a step, the price of a step                                       4 KB
  *    lowering                                                          8 KB
- *    judging or pricing a source plan, expanding, listing             29 KB
- *    projecting                                                       32 KB
+ *    judging or pricing a source plan, expanding, listing             19 KB
+ *    projecting                                                       23 KB
  *    judging a restricted plan                                       420 KB
  *
  * TIME. Every call reads the task's file anew, which is most of what a step by itself takes: 5 to 6 microseconds with a source file
