@@ -12,6 +12,7 @@ use borrow.Author.Tests.{eq-eqb, ne_eqb, lt-leb, le-leb}
 use denote.Enum.Declared.{tag_of}
 use mir.Val.{has_key}
 use types.Run.{OneOf, miss}
+use borrow.Enum.Refused.{Among, opened}
 use Rattle.commands.specs.Table.{table, rows, row_at, row_of, size_of_row}
 use Rattle.commands.specs.Reading.{command_at, read_row}
 use Rattle.commands.specs.declared.Command.{Command}
@@ -64,6 +65,6 @@ module _ (s : List ℕ) (i : ℕ) (few : i < rows) (there : 0 < length s) (first
   whole-as h = read_as ∙ rw (le-leb (size_of_row i) (length s) h)
 
   -- the command read is not of the kind of row i: it is cut short
-  pub cut_short : (c : Command) → c ≡ command_at s → OneOf (others i) (tag_of the_type c) → command_at s ≡ Refused 2
+  pub cut_short : (c : Command) → c ≡ command_at s → Among (others i) (tag_of the_type c) → command_at s ≡ Refused 2
   cut_short c e h =
-      sym e ∙ second (leb (size_of_row i) (length s)) (read_row s i) (Refused 2) c (others i) (e ∙ read_as) (own s i few) h
+      sym e ∙ second (leb (size_of_row i) (length s)) (read_row s i) (Refused 2) c (others i) (e ∙ read_as) (own s i few) (opened h)

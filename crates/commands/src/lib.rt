@@ -1,5 +1,6 @@
 // The commands of a task file: reading one from the front of what remains, its size, its bytes. It knows nothing of what a
 // command means, nor of where in a file it may stand.
+#![tactic(auto)]
 
 ghost use Rattle.std.specs.Prelude.{◌≡◌, map, ◌+◌, ◌<◌, ◌≤◌, length, get_or};
 ghost use Rattle.lists.specs.Writing.{Room, Wrote};

@@ -13,6 +13,7 @@ use lib.IntN.{ℤ}
 use lib.ListN.{length, get_or, take, set, length-set, length-append, length-take, length-map}
 use lib.Seq.{take_all}
 use borrow.Author.Tests.{ltb-true, ltb-false}
+use borrow.Enum.Refused.{Among, opened}
 use types.Run.{OneOf, miss}
 use Rattle.commands.specs.Table.{rows, row_at, letter_a, letter_c, letter_e, letter_g, letter_k, letter_p, letter_t}
 use Rattle.commands.specs.Reading.{command_at, read_row}
@@ -81,7 +82,7 @@ module _ (r : Terms) (v : ℕ) (w : ℤ) where
       go false e = dropped-with term_is term_room r.places r.count (term v w) long rest (ltb-false r.count term_room e)
 
 -- a command that is no T ends them
-no-term : (c : Command) (more : List Command) → OneOf (others 9) (tag_of the_type c) → terms_of (c ∷ more) ≡ []
+no-term : (c : Command) (more : List Command) → Among (others 9) (tag_of the_type c) → terms_of (c ∷ more) ≡ []
 no-term (Variable a b d) more h = refl
 no-term (Start a) more h = refl
 no-term (Mode a b) more h = refl
@@ -91,7 +92,7 @@ no-term (ModeCondition a b) more h = refl
 no-term (ModeEffect a b) more h = refl
 no-term (Add a b) more h = refl
 no-term (Linear a b) more h = refl
-no-term (Term a b) more h = absurd (miss (others 9) 9 tt h)
+no-term (Term a b) more h = absurd (miss (others 9) 9 tt (opened h))
 no-term (Quotient a b d) more h = refl
 no-term (Residue a b d) more h = refl
 no-term Goal more h = refl
@@ -111,7 +112,7 @@ module _ {s : List ℕ} {from at : ℕ} {r : Terms} (g : TermsFrom s from at r) 
   }
 
   module _ {rest : List ℕ} {size : ℕ} (t : Turn s at rest size) where
-    pub terms-stop : {c : Command} → c ≡ command_at rest → OneOf (others 9) (tag_of the_type c) → TermsFrom s from (length s) r
+    pub terms-stop : {c : Command} → c ≡ command_at rest → Among (others 9) (tag_of the_type c) → TermsFrom s from (length s) r
     terms-stop {c} e other = record {
       few = g.few;
       long = g.long;
@@ -306,7 +307,7 @@ module _ {s : List ℕ} {at : ℕ} {n : Effects} {rest : List ℕ} {size : ℕ} 
 abbrev pub plain_cases : List ℕ
 plain_cases = 0 ∷ 1 ∷ 2 ∷ 3 ∷ 4 ∷ 5 ∷ 6 ∷ 9 ∷ 12 ∷ 13 ∷ 14 ∷ 15 ∷ []
 
-no-effect : (c : Command) (terms : List (ℕ × ℤ)) → OneOf plain_cases (tag_of the_type c) → effect_in c terms ≡ []
+no-effect : (c : Command) (terms : List (ℕ × ℤ)) → Among plain_cases (tag_of the_type c) → effect_in c terms ≡ []
 no-effect (Variable a b d) terms h = refl
 no-effect (Start a) terms h = refl
 no-effect (Mode a b) terms h = refl
@@ -314,15 +315,15 @@ no-effect Action terms h = refl
 no-effect (Condition a b d) terms h = refl
 no-effect (ModeCondition a b) terms h = refl
 no-effect (ModeEffect a b) terms h = refl
-no-effect (Add a b) terms h = absurd (miss plain_cases 7 tt h)
-no-effect (Linear a b) terms h = absurd (miss plain_cases 8 tt h)
+no-effect (Add a b) terms h = absurd (miss plain_cases 7 tt (opened h))
+no-effect (Linear a b) terms h = absurd (miss plain_cases 8 tt (opened h))
 no-effect (Term a b) terms h = refl
-no-effect (Quotient a b d) terms h = absurd (miss plain_cases 10 tt h)
-no-effect (Residue a b d) terms h = absurd (miss plain_cases 11 tt h)
+no-effect (Quotient a b d) terms h = absurd (miss plain_cases 10 tt (opened h))
+no-effect (Residue a b d) terms h = absurd (miss plain_cases 11 tt (opened h))
 no-effect Goal terms h = refl
 no-effect End terms h = refl
 no-effect (Sum a b) terms h = refl
 no-effect (Refused a) terms h = refl
 
-pub gives_none : (s : List ℕ) (behind : ℕ) (c : Command) → OneOf plain_cases (tag_of the_type c) → EffectGiven s behind c giving_none
+pub gives_none : (s : List ℕ) (behind : ℕ) (c : Command) → Among plain_cases (tag_of the_type c) → EffectGiven s behind c giving_none
 gives_none s behind c plain = record { terms_few = omega arith; are = λ left there. ap (map fitting_effect) (sym (no-effect c (terms_of left) plain)) }

@@ -12,6 +12,7 @@ use lib.Dec.{ltb, eqb, lit<}
 use lib.IntN.{ℤ}
 use lib.ListN.{length, get_or, take, set, length-set}
 use borrow.Author.Tests.{ltb-true, ltb-false}
+use borrow.Enum.Refused.{Among}
 use types.Run.{OneOf}
 use Rattle.integers.specs.All.{All}
 use Rattle.integers.specs.Relation.{relation_of}
@@ -116,7 +117,7 @@ module _ {s : List ℕ} {at : ℕ} {n : SumConditions} {rest : List ℕ} {size :
 
   module _ (b : get_or rest 0 0 ≡ letter_k) where
     -- a K that is cut short
-    pub sums-short : {c : Command} → c ≡ command_at rest → OneOf (others 14) (tag_of the_type c) → SumsLeft s (at + size) n
+    pub sums-short : {c : Command} → c ≡ command_at rest → Among (others 14) (tag_of the_type c) → SumsLeft s (at + size) n
     sums-short {c} e other =
         let cut = cut_short rest 14 (lit< tt) (some t (SumsFrom s n) g) b c e other in
         passed (ap is_edge cut) (ap (λ (d : Command). eqb (byte_of d) letter_k) cut)

@@ -1,6 +1,8 @@
 // The actions of a task file: where they stand, their bytes as a part of the file, and what the bytes of one action or of the goal say, as
 // a parts row. Every function takes any bytes; of an accepted file, what is decoded is the task's own (proofs/Accepted).
 // It applies no action and knows no state.
+#![tactic(auto)]
+
 ghost use Rattle.std.specs.Prelude.{◌≡◌, Bool, true, List, ◌<◌, ◌≤◌, length, get_or, ℤ};
 ghost use Rattle.lists.specs.Writing.{splice};
 ghost use Rattle.commands.specs.Table.{letter_c, letter_p, letter_e, plus_sign};
@@ -32,7 +34,7 @@ pub const SUMS: usize = 4;
 pub const TERMS: usize = 4;
 
 // A T: a variable and its weight.
-#[derive(Drop)]
+#[derive(Clone, Copy)]
 pub struct Term {
     pub variable: u8,
     pub weight: i64,
@@ -40,7 +42,7 @@ pub struct Term {
 
 // A numeric effect of a source action: + (target, c), L (target, w0, its terms standing beside it), Q and R (target, operand, c). None fills the
 // places past the last.
-#[derive(Drop)]
+#[derive(Clone, Copy)]
 pub enum Effect {
     None,
     Add(u8, i64),
@@ -50,7 +52,7 @@ pub enum Effect {
 }
 
 // An effect with its terms: the first `term_count` of them count where the effect is linear.
-#[derive(Drop)]
+#[derive(Clone, Copy)]
 pub struct NumericEffect {
     pub effect: Effect,
     pub term_count: usize,
@@ -59,14 +61,14 @@ pub struct NumericEffect {
 
 // The numeric effects of a source action: the first `count` places, in the order of the file. Its C, P and E stand beside them, as a parts row that
 // has no +, and its K as sum conditions.
-#[derive(Drop)]
+#[derive(Clone, Copy)]
 pub struct Effects {
     pub count: usize,
     pub places: [NumericEffect; EFFECTS],
 }
 
 // A K: a condition on the sum of its terms, of which the first `term_count` count.
-#[derive(Drop)]
+#[derive(Clone, Copy)]
 pub struct SumCondition {
     pub relation: u8,
     pub constant: i64,
@@ -75,7 +77,7 @@ pub struct SumCondition {
 }
 
 // The K of a source action or goal: the first `count` places, in the order of the file.
-#[derive(Drop)]
+#[derive(Clone, Copy)]
 pub struct SumConditions {
     pub count: usize,
     pub places: [SumCondition; SUMS],

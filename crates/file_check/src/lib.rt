@@ -4,6 +4,8 @@
 // remains of the file and taken apart (2), then tested in the order 14, 4, 5, 6, 7. The crate makes no task of the file and keeps nothing of
 // an action but counts and marks; every run of bytes has its answer. The definitions are crate `model`'s; specs/Views says what the types
 // here mean in them.
+#![tactic(auto)]
+
 ghost use Rattle.std.specs.Prelude.{◌≡◌, true, List, ℕ, ◌+◌, ◌<◌, ◌^◌, leb, ltb, get_or, set, length, nat_abs};
 ghost use Rattle.commands.specs.Table.{letter_v, letter_u, letter_m, letter_c, letter_p, letter_e, plus_sign, letter_l, letter_t, letter_q, letter_r, letter_k};
 ghost use Rattle.commands.specs.Table.{rows, row_of};
@@ -20,7 +22,7 @@ use commands::Command;
 // What a kind of file allows. `size` is of a mode; `conditions` are C and K of an action or goal, `mode_conditions` its P, `numeric_effects`
 // of an action, which in a restricted one are its +, `terms` T of an L or a K, `sums` K of a file. Every constant lies within ± `constant`, that
 // of a K within ± `sum_constant`; `relations` is the largest relation.
-#[derive(Drop)]
+#[derive(Clone, Copy)]
 pub struct Limits {
     pub restricted: bool,
     pub variables: u32,
@@ -41,7 +43,7 @@ pub struct Limits {
 // where no T may stand, else 1 plus the T's since their L or K; it passes its limit by one, and is wider for that. `bare_sum` is 1 from a K on
 // until its first T, else 0. The three that an answer gives stand apart: side by side two of them become one number in the compiled loop, and
 // a command takes more than twice the time.
-#[derive(Drop)]
+#[derive(Clone, Copy)]
 pub struct Counts {
     pub sums: u32,
     pub bare_sum: u32,

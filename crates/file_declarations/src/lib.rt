@@ -2,6 +2,8 @@
 //
 // It reads any bytes, from the front up to the first command that declares nothing, and refuses none: whether a file is accepted is asked
 // elsewhere. Of an accepted file it gives all that the task declares (proofs/Accepted).
+#![tactic(auto)]
+
 ghost use Rattle.std.specs.Prelude.{false, true, ◌≡◌, [], ◌∷◌, ◌<◌, ◌≤◌, length, get_or, set};
 ghost use Rattle.commands.specs.Table.{letter_v, letter_u, letter_m};
 ghost use Rattle.commands.specs.Reading.{command_at};

@@ -2,6 +2,8 @@
 //
 // What rows mean is said in specs/Row.antt, where their numbers stand in specs/Layout.antt. Nothing here reads a file, tests a rule or
 // takes a step.
+#![tactic(auto)]
+
 ghost use Rattle.std.specs.Prelude.{◌≡◌, ◌<◌, List, length, ℤ};
 ghost use Rattle.file_parts.specs.Layout.{MARKS, NUMBERS};
 ghost use Rattle.file_parts.specs.Row.{row_is, PartsFit, Says};

@@ -2,6 +2,8 @@
 //
 // Every contract is an equation with a definition of specs/. The crate never knows of commands, tasks or plans: what a number is for,
 // and which numbers are refused, is its callers' affair.
+#![tactic(auto)]
+
 ghost use Rattle.std.specs.Prelude.{◌≡◌, ◌+◌, ◌^◌, ◌≤◌, ◌<◌, length, nat_abs};
 ghost use Rattle.std.specs.Int.Signed.{le_z};
 ghost use Rattle.integers.specs.Parts.{Within};

@@ -4,6 +4,8 @@
 // It is written into output that a caller lends: whole by `list`, or part by part. `begin` judges the plan, and `put_part` writes the next part
 // of what is left, into as many bytes as hold every part, and sums up what its steps cost. The functions that write store nothing into output
 // of length 0 and only count there. `list` counts so where the output lent may be too short: it writes nothing where the text does not fit.
+#![tactic(auto)]
+
 ghost use Rattle.std.specs.Prelude.{◌≡◌, ◌+◌, ◌-◌, ◌*◌, ◌^◌, ◌≤◌, ◌<◌, false, ltb, length, take, replicate, pos};
 ghost use mathlib.Core.List.{flat_map};
 ghost use Rattle.lists.specs.Answer.{given};
@@ -182,7 +184,7 @@ fn put_lines(
 
 // What is left of the listing of a valid plan: what was opened, the price of the steps whose lines are written, and the step whose line comes
 // next. The header is left where that is the first.
-#[derive(Drop)]
+#[derive(Clone, Copy)]
 pub struct Sheet {
     pub task: source_walk::Task,
     pub spent: u64,
@@ -190,7 +192,7 @@ pub struct Sheet {
 }
 
 // What is left of a listing: the line of a refusal, the lines of a plan, or nothing.
-#[derive(Drop)]
+#[derive(Clone, Copy)]
 pub enum Rest {
     Refusal(u8, u64),
     Lines(Sheet),

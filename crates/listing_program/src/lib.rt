@@ -4,6 +4,8 @@
 // are the program's output for what the two files hold, `listing_program_of`: `first_part` ensures that this is its bytes and what is left then;
 // `listing::put_part`, that what was left is its bytes and what is left then; and the loop ends where nothing is left. It is proved that it ends,
 // and that nothing is read or stored out of bounds.
+#![tactic(auto)]
+
 ghost use Rattle.std.specs.Prelude.{◌≡◌, ◌≤◌, length, take, replicate, pos};
 ghost use Rattle.io.specs.Counts.{IsPrefixLen};
 ghost use Rattle.model.specs.Systems.{provided};

@@ -2,6 +2,8 @@
 // only counted. A text has no sign but the minus of a negative number, and no zero in front. Its digits are made without division: powers of
 // ten are counted off the number, the highest first. The functions never look whether there is room (their callers show that there is) and
 // never refuse.
+#![tactic(auto)]
+
 ghost use Rattle.std.specs.Prelude.{◌≡◌, ◌+◌, ◌*◌, ◌/◌, ◌%◌, ◌^◌, ◌<◌, ◌≤◌, cond, ltb, length, pos};
 ghost use Rattle.std.specs.Int.Signed.{lt_z};
 ghost use Rattle.lists.specs.Writing.{Room, Wrote};

@@ -3,6 +3,8 @@
 // that there is), never refuses, and stores nothing but the bytes that its contract names. Into output of length 0 it stores nothing: it
 // only counts, and so a call on such output gives the length of what the same call writes.
 // Beside the code stand the laws of every loop that tests, changes or writes (proofs/).
+#![tactic(auto)]
+
 ghost use Rattle.std.specs.Prelude.{◌≤◌, replicate, take};
 ghost use Rattle.integers.specs.Numbers.{bytes_of};
 ghost use Rattle.lists.specs.Numbers.{numbers_bytes};

@@ -2,6 +2,8 @@
 //
 // A file that is refused has no lowered task. The writers run on output of length 0 first, where they only count, so that a refusal leaves the
 // output as it was; the actions come first there, since they say how large control is, whether there are holds, and where the sums of the goal begin.
+#![tactic(auto)]
+
 ghost use Rattle.std.specs.Prelude.{◌≡◌, true, cond, ◌+◌, ◌<◌, ◌≤◌, length, take, replicate, pos};
 ghost use mathlib.Core.List.{[], ◌∷◌, ◌++◌, flat_map};
 ghost use Rattle.integers.specs.All.{All};
@@ -41,7 +43,7 @@ use source_step::{MODES, NUMBERS as WEIGHTS, VARIABLES};
 use source_sums::PLACES;
 
 // What a file declares, by value.
-#[derive(Drop)]
+#[derive(Clone, Copy)]
 struct Declarations {
     shape: Shape,
     starts: [i64; VARIABLES],

@@ -1,6 +1,8 @@
 // Parts rows as bytes of a restricted file, and what a source action becomes, row by row, written into lent output.
 //
 // It never looks whether there is room (its caller shows that there is) and never refuses.
+#![tactic(auto)]
+
 ghost use Rattle.std.specs.Prelude.{◌≡◌, ◌≤◌, ◌<◌, ◌%◌, cond, eqb, length, nat_abs};
 ghost use mathlib.Core.List.{map, flat_map};
 ghost use Rattle.integers.specs.All.{All};

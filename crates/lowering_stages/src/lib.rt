@@ -1,6 +1,8 @@
 // A stage of a macro as a struct of numbers, made by a constructor for each kind, and the actions that it becomes, as parts rows.
 //
 // It knows the effects of one action and the numbers that it needs of its task, never a file, and it writes no byte.
+#![tactic(auto)]
+
 ghost use Rattle.std.specs.Prelude.{◌≡◌, cond, List, [], ◌∷◌, ℕ, suc, ◌+◌, ◌*◌, ◌≤◌, ◌<◌, length, drop, ℤ, pos, nat_abs, neg_ℤ, ◌-ℤ◌};
 ghost use Rattle.std.proofs.Math.Option.{some};
 ghost use Rattle.std.proofs.Math.ListN.{get_elem?};
@@ -28,7 +30,7 @@ use file_parts::{MARKS, NUMBERS};
 use source_step::{MODES, VARIABLES};
 
 // What the lowering must know of a task: its variables with their bounds, and its modes with their sizes.
-#[derive(Drop)]
+#[derive(Clone, Copy)]
 pub struct Shape {
     pub variables: usize,
     pub lower: [i64; VARIABLES],
@@ -42,7 +44,7 @@ const ADDED: usize = 4;
 
 // A stage: its counter; what falling takes from it; how deep it may stay below 0 at the turn; what falling adds, the counter's own loss
 // among it, the first `added` of two arrays; the bounds of a target that the turn tests, where it does; what the turn adds to A.
-#[derive(Drop)]
+#[derive(Clone, Copy)]
 pub struct Stage {
     pub counter: u8,
     pub unit: i64,

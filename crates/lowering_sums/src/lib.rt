@@ -3,6 +3,8 @@
 // (crate source_sums).
 //
 // It never reads a file and decodes no K. It knows no stage, and of a parts row only its C.
+#![tactic(auto)]
+
 ghost use Rattle.std.specs.Prelude.{◌≡◌, ◌+◌, ◌*◌, ◌≤◌, ◌<◌, length, take, nat_abs, ◌+ℤ◌, ◌*ℤ◌};
 ghost use mathlib.Core.List.{flat_map};
 ghost use Rattle.integers.specs.All.{All};
@@ -25,7 +27,7 @@ use source_step::{NUMBERS as WEIGHTS, VARIABLES};
 pub const ADDED: usize = 4;
 
 // Some + of an action: to each of the first `count` variables its amount.
-#[derive(Drop)]
+#[derive(Clone, Copy)]
 pub struct Added {
     pub count: usize,
     pub variables: [u8; ADDED],

@@ -11,7 +11,6 @@ use mathlib.Core.Option.{Option, none, some}
 use mathlib.Core.List.{List, [], ◌∷◌}
 use lib.ListN.{length}
 use Rattle.model.specs.Systems.{bind, run_plan, keep, sole_applying, or_next, follow_plan, guarded}
-use Rattle.model.specs.NamedSystems.{at_rest}
 use Rattle.model.proofs.Pairing.{bind-gives, some-injective}
 
 module _ {X : Type 0} (at_rest : X → Bool) (opening : ℕ → ℕ) (source_number : ℕ → Option ℕ) where

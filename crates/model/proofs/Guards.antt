@@ -10,7 +10,6 @@ use lib.ListN.{length}
 use Rattle.model.specs.Systems.{bind, or_empty, or_zero, run_plan, keep, expand_from, total_price, guarded}
 use Rattle.model.specs.Walks.{Pairing}
 use Rattle.model.proofs.Follow.{guard-run}
-use Rattle.model.proofs.NamedPairing.{GoalR, GoalS}
 
 module _ {S : Type 0} (ok : S → Bool) (step : S → ℕ → Option S) (Inv : S → Type 0) (up : (x y : S) (k : ℕ) → Inv x → step x k ≡ some y → Inv y) (fine : (x : S) → Inv x → ok x ≡ true) where
   pub guard-step : (x : S) (k : ℕ) → Inv x → guarded ok step x k ≡ step x k

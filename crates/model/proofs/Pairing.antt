@@ -1,7 +1,6 @@
 -- Whole plans pair off wherever each source step becomes one forced walk from rest to rest. And the pairing in one line.
 -- Assumes nothing.
 use mathlib.Core.Path.{◌≡◌, refl, sym, ap, ap₂, ◌∙◌, subst}
-use mathlib.Core.Logic.{◌↔◌}
 use Prim.Native.Nat.{ℕ, zero, suc, ◌≤◌}
 use native.Mathlib.Omega.{arith}
 use mathlib.Core.Option
@@ -11,7 +10,6 @@ use lib.ListN.{length, length-append}
 use Rattle.integers.specs.All.{All}
 use Rattle.model.specs.Systems.{bind, run_plan, keep, expand_from, total_price}
 use Rattle.model.specs.Walks.{Pairing, Forced, Stuck, Outcome, not_opened, hangs, completes, Lowers}
-use Rattle.model.specs.NamedSystems.{at_rest, step_named_source}
 
 pub bind-gives : {A B : Type 0} (o : Option A) (f : A → Option B) (z : B) → bind o f ≡ some z → (y : A) × (o ≡ some y) × (f y ≡ some z)
 bind-gives none f z e = absurd (none-ne-some z e)

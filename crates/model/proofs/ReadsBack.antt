@@ -20,7 +20,6 @@ use Rattle.integers.proofs.Numbers.{bits_fit}
 use Rattle.model.specs.Tasks.{NumericCondition, RestrictedAction, RestrictedTask, Measured, variable, weighted_sum}
 use Rattle.model.specs.Steps.{natural_at, sizes_of}
 use Rattle.model.specs.Limits.{restricted_limits}
-use Rattle.model.specs.Rules.{constant}
 use Rattle.model.specs.Reading.{Verdict, commands_of}
 use Rattle.model.specs.Decoding.{those, up_to, parts_at, actions_of, goal_of, start_of, pair_of, condition_of, amount_of, starts_of, modes_of, conditions_of, mode_conditions_of, mode_effects_of, additions_of, restricted_action_of, restricted_task_of, on_verdict, read_restricted}
 use Rattle.model.specs.Lowering.{start_command, mode_command, mode_condition_command, condition_command, mode_effect_command, addition_command, start_commands, mode_commands, mode_condition_commands, condition_commands, mode_effect_commands, addition_commands, actions_commands, file_commands, encode_file, variable_of}

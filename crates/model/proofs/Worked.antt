@@ -2,7 +2,6 @@
 -- Assumes nothing.
 use mathlib.Core.Path.{refl}
 use Rattle.integers.specs.All.{All}
-use Rattle.lists.specs.Numbers.{numbers_bytes}
 use Rattle.commands.specs.Table.{size_of_byte}
 use Rattle.commands.specs.Reading.{command_at}
 use Rattle.model.specs.Rules.{tests_of, next_of, take_of}

@@ -5,7 +5,7 @@ use Rattle.commands.specs.Table.{size_of_byte}
 use Rattle.commands.specs.Reading.{command_at}
 use Rattle.commands.specs.declared.Command.{Command}
 use Rattle.model.specs.Limits.{Limits}
-use Rattle.model.specs.ReadingState.{ReadingState, Taken, Progress, Going, Ended, Stopped, begin}
+use Rattle.model.specs.ReadingState.{ReadingState, Progress, Going, Ended, Stopped, begin}
 use Rattle.model.specs.Rules.{take_of}
 
 -- THE WALK that every reading of a file goes along: what remains of it from each of its commands on, at most so many. A command is as long

@@ -1,5 +1,7 @@
 // A plan's bytes: whether they are a plan at all, how many steps it has, the action number of each, and how often one number stands in a
 // row. It knows no task.
+#![tactic(auto)]
+
 ghost use Rattle.std.specs.Prelude.{◌≡◌, min, ◌+◌, ◌*◌, ◌<◌, ◌≤◌, length, get_or, drop, replicate};
 ghost use Rattle.model.specs.Plans.{plan_numbers};
 ghost use Rattle.model.specs.Following.{agreeing};

@@ -1,6 +1,8 @@
 // Expanding: a source plan as a plan of the lowering.
 //
 // A plan is judged and priced first, then written, step by step, into output that the caller lends. It never writes what it refuses.
+#![tactic(auto)]
+
 ghost use Rattle.std.specs.Prelude.{◌≡◌, true, map, ◌*◌, ◌≤◌, length, take};
 ghost use Rattle.lists.specs.Writing.{Room, Wrote};
 ghost use Rattle.lists.specs.Written.{Lent};

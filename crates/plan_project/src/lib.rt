@@ -2,6 +2,8 @@
 //
 // The plan is followed by source steps, by the rows of their actions: it is compared with the runs that each source step becomes, and refused
 // at the first number that differs. The lowering is not made, and no step of it is taken. The file is read in crate source_walk.
+#![tactic(auto)]
+
 ghost use Rattle.std.specs.Prelude.{◌≡◌, true, false, ◌+◌, ◌*◌, ◌≤◌, ◌<◌, length, take, get_or, replicate};
 ghost use Rattle.lists.specs.Answer.{refused};
 ghost use Rattle.lists.specs.Writing.{Room, Wrote};

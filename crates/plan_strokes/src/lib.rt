@@ -3,6 +3,8 @@
 // effects give is found on the way. Expanding writes these runs, projecting compares a plan with them.
 //
 // Strokes go by the values before the step, into lent times. It never reads a file or a plan's action numbers.
+#![tactic(auto)]
+
 ghost use Rattle.std.specs.Prelude.{◌≡◌, true, [], ◌∷◌, ◌+◌, ◌≤◌, ◌<◌, length, take, drop, ℤ};
 ghost use Rattle.integers.specs.Division.{unit_less, floor, quotient_of};
 ghost use Rattle.integers.specs.Parts.{Within, EachWithin};

@@ -1,6 +1,8 @@
 // The reader: it holds the file and a place in it, and hands over one command a time.
 //
 // Its functions are thin, over functions on a slice and a number, which callers without a reader use as well. It judges nothing: `file_check` does.
+#![tactic(auto)]
+
 ghost use Rattle.std.specs.Prelude.{◌≡◌, drop};
 ghost use Rattle.commands.specs.Reading.{command_at};
 ghost use Rattle.reader.specs.Places.{place_after};

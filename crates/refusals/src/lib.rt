@@ -2,6 +2,8 @@
 //
 // A text is ASCII, without a line feed or a terminator. It is written into output that a caller lends; where the output is shorter than the
 // text nothing is written, and the answer is 8 with the bytes needed.
+#![tactic(auto)]
+
 ghost use Rattle.lists.specs.Answer.{given};
 ghost use Rattle.lists.specs.Written.{Lent};
 ghost use Rattle.refusals.specs.Texts.{refusal_text};

@@ -1,5 +1,7 @@
 // The judge of restricted plans. It reads the file and the plan, keeps the actions of the plan as rows and takes its runs of equal numbers at
 // once (`restricted_runs`), and answers for every input. The goal is tested as the conditions of an action are.
+#![tactic(auto)]
+
 ghost use Rattle.std.specs.Prelude.{◌≡◌, ◌<◌, ◌≤◌, length};
 ghost use Rattle.lists.specs.Answer.{refused};
 ghost use Rattle.model.specs.Plans.{plan_numbers};

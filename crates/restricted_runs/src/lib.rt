@@ -3,6 +3,8 @@
 //
 // The tables are lent: two rows for each slot, and a tag, which says whose action stands there. A slot that holds another action is filled
 // anew.
+#![tactic(auto)]
+
 ghost use Rattle.std.specs.Prelude.{◌≡◌, min, ◌*◌, ◌<◌, ◌≤◌, length, get_or};
 ghost use Rattle.model.specs.Plans.{plan_numbers};
 ghost use Rattle.file_parts.specs.Row.{row_is};

@@ -2,6 +2,8 @@
 //
 // A state is passed and returned by value. A step is that of the action's parts rows (crate restricted_step), taken where what the task
 // declares of the state is sound: all values within the figure, all modes below their sizes.
+#![tactic(auto)]
+
 ghost use Rattle.std.specs.Prelude.{◌≡◌, ◌++◌, ◌≤◌, length, take, drop};
 ghost use Rattle.model.specs.Limits.{restricted_limits};
 ghost use Rattle.model.specs.Judging.{step_restricted_alone};
@@ -16,7 +18,7 @@ use file_parts::{MARKS, NUMBERS};
 use restricted_step::{FIGURE, MODES, VARIABLES};
 
 // The value of each variable and of each mode. What stands beyond a task's variables and modes is not read, and comes back unchanged.
-#[derive(Drop)]
+#[derive(Clone, Copy)]
 pub struct State {
     pub values: [i64; VARIABLES],
     pub modes: [u16; MODES],

@@ -2,6 +2,8 @@
 //
 // Since its task was accepted, a step tests nothing that the reader has: it goes through the conditions and effects that the action has,
 // reads and writes the variables and modes that these name, and no others. It never reads a file, and never finds an action by its number.
+#![tactic(auto)]
+
 ghost use Rattle.std.specs.Prelude.{◌≡◌, cond, ◌≤◌, pos, ◌+ℤ◌, ◌*ℤ◌};
 ghost use Rattle.std.proofs.Math.Option.{none, some};
 ghost use Rattle.integers.specs.Parts.{Within};

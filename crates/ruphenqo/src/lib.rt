@@ -1,6 +1,8 @@
 // The library for C: every entry point as an exported function of numbers and slices. include/ruphenqo.h is its manual.
 //
 // A function returns 0 or the refusal's number. It never asks anything of its input, and on a refusal it leaves what it was lent, but for the place, as it was.
+#![tactic(auto)]
+
 ghost use Rattle.std.specs.Prelude.{◌≡◌};
 ghost use Rattle.lists.specs.Answer.{given, lent};
 ghost use Rattle.lists.specs.Written.{answer_of};

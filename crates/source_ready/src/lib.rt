@@ -3,6 +3,8 @@
 // The file is walked once, and each action is decoded once: its conditions on variables and modes and its mode effects become ranges and marks
 // (narrowing.rt), its numeric effects stand behind them, in a block each. The conditions on sums of all of them stand in a row of their own (crate
 // source_sums), and an action's marks name its own. What rows mean is said in crate source_step, specs/Row.antt. It never takes a step.
+#![tactic(auto)]
+
 mod narrowing;
 
 ghost use Rattle.std.specs.Prelude.{◌≡◌, ◌+◌, ◌<◌, ◌≤◌, length, replicate, pos};

@@ -2,6 +2,8 @@
 //
 // A state is passed and returned by value. A step is that of the action's row (crate source_step), in whatever state is handed in: a state outside
 // the bounds of its task fails the row's test. A step's price is counted from the values before it (crate plan_strokes).
+#![tactic(auto)]
+
 ghost use Rattle.std.specs.Prelude.{◌≡◌, ◌≤◌, replicate, pos};
 ghost use Rattle.model.specs.Limits.{source_limits};
 ghost use Rattle.model.specs.Judging.{step_source_alone, price_step};
@@ -20,7 +22,7 @@ use plan_strokes::STAGES;
 use source_step::{MARKS, MODES, NUMBERS, VARIABLES};
 
 // The value of each variable and of each mode. What stands beyond a task's variables and modes is not read, and comes back unchanged.
-#[derive(Drop)]
+#[derive(Clone, Copy)]
 pub struct State {
     pub values: [i64; VARIABLES],
     pub modes: [u16; MODES],

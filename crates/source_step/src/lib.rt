@@ -4,6 +4,8 @@
 // variables and modes once, whatever conditions on one of them the action was written with. The weighted sums of all conditions of the task stand
 // in a row of their own, each with the range that its condition asks for; an action names its own by the first and their count, and they are asked
 // last. Rows are lent; what they mean is said in specs/Row.antt. It never reads a file, and never finds an action by its number.
+#![tactic(auto)]
+
 ghost use Rattle.std.specs.Prelude.{◌≡◌, ◌&&◌, List, ℕ, min, ◌+◌, ◌*◌, ◌≤◌, ◌<◌, leb, length, take, ℤ, nat_abs, ◌+ℤ◌, ◌*ℤ◌};
 ghost use Rattle.integers.specs.Parts.{Within};
 ghost use Rattle.integers.specs.Relation.{between};

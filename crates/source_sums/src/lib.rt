@@ -2,6 +2,8 @@
 //
 // They stand in the order of the file, those of the actions first, then those of the goal, and an action's marks name its own by the first and their
 // count. What the row means is said in crate source_step, specs/Row.antt. It never takes a step, and decodes nothing of an action but its K.
+#![tactic(auto)]
+
 ghost use Rattle.std.specs.Prelude.{◌≡◌, ◌+◌, ◌≤◌, ◌<◌, length, set, replicate, pos, nat_abs, ◌+ℤ◌};
 ghost use Rattle.integers.specs.Relation.{relation_of};
 ghost use Rattle.commands.specs.Table.{letter_k};

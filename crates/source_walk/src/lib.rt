@@ -2,6 +2,8 @@
 // from that what judging and pricing a plan answer.
 //
 // What a step by rows is, is said in crate source_step. It writes nothing but the arrays of its callers.
+#![tactic(auto)]
+
 ghost use Rattle.std.specs.Prelude.{◌≡◌, ◌≤◌, length, replicate, pos};
 ghost use Rattle.lists.specs.Answer.{refused};
 ghost use Rattle.model.specs.Judging.{judge_source, price_plan};
@@ -28,7 +30,7 @@ use source_step::{MARKS, MODES, NUMBERS, ROWS, SUMS_ROW, VARIABLES};
 pub const MOST_STEPS: u64 = 1_000_000;
 
 // What is ready for a walk: how many actions, variables and modes the task has, and how many steps the plan.
-#[derive(Drop)]
+#[derive(Clone, Copy)]
 pub struct Task {
     pub actions: usize,
     pub variables: usize,

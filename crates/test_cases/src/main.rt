@@ -1,5 +1,7 @@
 // Runs each call of cases.bin and prints a line for each: its number, its name, and what it answered. The file `stdout` has what another
 // implementation answers; tests/make-cases writes both, and its head says how a record is laid out.
+#![tactic(auto)]
+
 mod calls;
 mod lines;
 mod outputs;

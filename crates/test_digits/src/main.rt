@@ -1,5 +1,7 @@
 // Writes the text of numbers, one a line: each power of ten of 64 bits, one less and one more, then the limits of 64 bits, each as a natural
 // number and, where it fits, as a whole number with both signs. tests/make-digits writes the file `stdout`, by Python.
+#![tactic(auto)]
+
 ghost use Rattle.std.specs.Prelude.{length, ◌≤◌};
 
 use libc::STDOUT_FILENO;

@@ -1,5 +1,7 @@
 // Runs the limits of document 01 and what lies one past each: bounds of 10,000, 32 actions, plans and expansions of 1,000,000 steps. A line
 // has the limit's name and what was answered. tests/make-limits writes the file `stdout`, from document 01 alone.
+#![tactic(auto)]
+
 ghost use Rattle.std.specs.Prelude.{◌<◌, ◌≡◌, length};
 
 use libc::STDOUT_FILENO;

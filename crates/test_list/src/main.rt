@@ -1,5 +1,7 @@
 // Runs the listing program on the files in the sub-folders of data/: the name of each case, then what is printed for it. tests/list-cases makes
 // the files and what must be printed.
+#![tactic(auto)]
+
 use libc::STDOUT_FILENO;
 
 fn case(name: &[u8], task_path: &[u8], plan_path: &[u8]) {

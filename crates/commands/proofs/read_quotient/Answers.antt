@@ -1,0 +1,19 @@
+-- `commands::read_quotient` meets its contract: a command of row 10, cut short or whole. Assumes nothing.
+use mathlib.Core.Path.{sym, ◌∙◌}
+use native.Mathlib.Omega.{arith}
+use lib.Dec.{lit<}
+use Rattle.commands.specs.declared.Command.TheVariants.{Quotient}
+use Rattle.commands.proofs.Known.{short-as, whole-as}
+use Rattle.commands.proofs.read_quotient.Goals as goal
+
+pub returns-then-rest-command_size : goal.returns-then-rest-command_size
+returns-then-rest-command_size c =
+    let s = c.before in
+    sym (short-as s.args.rest.now 10 (lit< tt) s.requires.0 s.requires.1 (omega arith))
+
+pub returns : goal.returns
+returns c =
+    let t = c.before in
+    let s = t.before.before.before in
+    (λ i. Quotient (c.first_operand-target.ensures.is i) (c.second_operand-operand.ensures.is i) (c.third_operand-divisor.ensures.is i))
+    ∙ sym (whole-as s.args.rest.now 10 (lit< tt) s.requires.0 s.requires.1 (omega arith))

@@ -1,0 +1,9 @@
+-- `file_check::check_source` meets its contract: the limits are those of a source file. Assumes nothing.
+use mathlib.Core.Path.{ap, ◌∙◌}
+use Rattle.model.specs.Limits.{Limits}
+use Rattle.model.specs.Reading.{verdict_of}
+use Rattle.file_check.proofs.check_source.Goals as goal
+
+pub returns : goal.returns
+returns c =
+    c.check.ensures ∙ ap (λ (l : Limits). verdict_of l c.args.file.now) c.source_limits.ensures

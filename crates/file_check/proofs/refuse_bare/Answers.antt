@@ -1,0 +1,18 @@
+-- `file_check::refuse_bare` meets its contract: the byte is a command's, whose size says whether the command is cut short. Assumes nothing.
+use mathlib.Core.Path.{◌∙◌}
+use native.Mathlib.Omega.{arith}
+use Rattle.file_check.specs.Views.{limits_of, state_of}
+use Rattle.file_check.proofs.Bare.{cut-before-term, missing-term}
+use Rattle.file_check.proofs.refuse_bare.Goals as goal
+
+pub returns-then-rest-size_of : goal.returns-then-rest-size_of
+returns-then-rest-size_of c sizes set targets terms =
+    c.refuse.ensures sizes set targets terms
+    ∙ cut-before-term (limits_of c.args.l) (state_of c.args.p sizes set targets terms) c.args.rest.now c.requires.0 c.requires.1 c.requires.2
+    (omega (arith, c.if-rest-size_of.true, c.size_of.ensures.0))
+
+pub returns-else-rest-size_of : goal.returns-else-rest-size_of
+returns-else-rest-size_of c sizes set targets terms =
+    c.refuse-else-rest-size_of.ensures sizes set targets terms
+    ∙ missing-term (limits_of c.args.l) (state_of c.args.p sizes set targets terms) c.args.rest.now c.requires.0 c.requires.1 c.requires.2
+    (omega (arith, c.if-rest-size_of.false, c.size_of.ensures.0))

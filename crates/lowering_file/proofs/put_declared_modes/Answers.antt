@@ -1,0 +1,34 @@
+-- `lowering_file::put_declared_modes` meets its contract: the loop writes each M. Assumes nothing.
+use Prim.Native.Nat.{◌-◌}
+use native.Mathlib.Omega.{arith}
+use Rattle.lowering_file.specs.Parts.{mode_bytes, mode_at}
+use Rattle.lowering_rows.proofs.Loops.{Writing, writing_start, writing-room, writing-next, writing-end, writing-long}
+use borrow.Author.Rules.{rules}
+use Rattle.lowering_file.proofs.put_declared_modes.Goals as goal
+
+pub loop-i-init : goal.loop-i-init
+loop-i-init c = writing_start
+
+pub offset_bounds-sizes-i : goal.offset_bounds-sizes-i
+offset_bounds-sizes-i c = search (rules, arith)
+
+pub bounds-sizes-i : goal.bounds-sizes-i
+bounds-sizes-i c = search (rules, arith)
+
+pub offset_bounds-values-i : goal.offset_bounds-values-i
+offset_bounds-values-i c = search (rules, arith)
+
+pub bounds-values-i : goal.bounds-values-i
+bounds-values-i c = search (rules, arith)
+
+pub put_mode-place-requires : goal.put_mode-place-requires
+put_mode-place-requires c = writing-room c.loop-i.invariant c.loop-i-test.true c.requires.room
+
+pub loop-i-preserved : goal.loop-i-preserved
+loop-i-preserved c = writing-next c.loop-i.invariant c.loop-i-test.true c.put_mode-place.ensures
+
+pub shape_of-out : goal.shape_of-out
+shape_of-out c = writing-long c.loop-i.invariant
+
+pub returns : goal.returns
+returns c = writing-end c.loop-i.invariant c.loop-i-test.false

@@ -1,0 +1,27 @@
+-- `lowering_file::put_zeros` meets its contract: the loop writes each U. Assumes nothing.
+use mathlib.Core.Path.{sym}
+use Prim.Native.Nat.{◌-◌}
+use lib.IntN.{pos}
+use borrow.Author.Rules.{rules}
+use Rattle.lists.proofs.Writing.{room_as, wrote_as}
+use Rattle.lowering_rows.proofs.Loops.{Writing, writing_start, writing-room, writing-next, writing-end, writing-long}
+use Rattle.lowering_sums.specs.Views.{start_bytes}
+use Rattle.lowering_file.proofs.File.{zeros}
+use Rattle.lowering_file.proofs.put_zeros.Goals as goal
+
+pub loop-i-init : goal.loop-i-init
+loop-i-init c = writing_start
+
+pub put_start-place-requires : goal.put_start-place-requires
+put_start-place-requires c = writing-room c.loop-i.invariant c.loop-i-test.true
+    (room_as (zeros c.args.n) c.requires)
+
+pub loop-i-preserved : goal.loop-i-preserved
+loop-i-preserved c = writing-next c.loop-i.invariant c.loop-i-test.true
+    c.put_start-place.ensures
+
+pub shape_of-out : goal.shape_of-out
+shape_of-out c = writing-long c.loop-i.invariant
+
+pub returns : goal.returns
+returns c = wrote_as (sym (zeros c.args.n)) (writing-end c.loop-i.invariant c.loop-i-test.false)

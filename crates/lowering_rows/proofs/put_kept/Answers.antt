@@ -1,0 +1,73 @@
+-- `lowering_rows::put_kept` meets its contract: the loop writes the + of each sum. Assumes nothing.
+use mathlib.Core.Path.{◌≡◌, refl, sym}
+use mathlib.Core.List.{List, flat_map}
+use Prim.Native.Nat.{ℕ, ◌-◌, ◌+◌}
+use native.Mathlib.Omega.{arith}
+use lib.IntN.{ℤ}
+use mir.Syntax.{w64}
+use mir.Val.{SFits}
+use mir.Facts.{to_z-of_z}
+use borrow.Author.Rules.{rules}
+use Rattle.lists.specs.Each.{tabulate}
+use Rattle.lists.proofs.Writing.{room_as, wrote_as}
+use Rattle.model.specs.Steps.{weigh}
+use Rattle.model.specs.Sums.{added_to, addition, kept_additions}
+use Rattle.source_step.specs.Row.{weights_in}
+use Rattle.lowering_sums.specs.declared.Added.{Added}
+use Rattle.lowering_sums.specs.Views.{sums_in, added_is}
+use Rattle.lowering_rows.specs.Bytes.{addition_bytes}
+use Rattle.lowering_rows.proofs.Kept.{kept-amount-fits, kept-bytes}
+use Rattle.lowering_rows.proofs.Loops.{Writing, writing_start, writing-room, writing-next, writing-end, writing-long}
+use Rattle.lowering_rows.proofs.put_kept.Invariants.{kept_at}
+use Rattle.lowering_rows.proofs.put_kept.Goals as goal
+
+whole : (added : Added) (first sums : ℕ) (weights : List ℤ) → flat_map addition_bytes (kept_additions first (sums_in sums weights) (added_is added))
+    ≡ flat_map (flat_map addition_bytes) (tabulate sums (kept_at added first weights))
+whole added first sums weights = kept-bytes (added_is added) sums (weights_in weights) (λ i. first + i) first (λ i. refl)
+
+pub loop-j-init : goal.loop-j-init
+loop-j-init c = writing_start
+
+pub kept_amount-d-requires : goal.kept_amount-d-requires
+kept_amount-d-requires c =
+    let p = c.requires.keeps in
+    (omega (arith, c.loop-j-test.true, p.0.few), p.0.small, p.1)
+
+pub overflow_cast-variable : goal.overflow_cast-variable
+overflow_cast-variable c = omega (arith, c.loop-j-test.true, c.requires.keeps.0.few)
+
+pub overflow_add-variable : goal.overflow_add-variable
+overflow_add-variable c =
+    let p = c.requires.keeps.0 in
+    omega (arith, c.loop-j-test.true, p.few, p.numbers)
+
+pub put_addition-place-requires : goal.put_addition-place-requires
+put_addition-place-requires c =
+    let a = c.args in
+    let b : SFits w64 c.kept_amount-d.result = search rules in
+    let k = c.loop-j-test.true in
+    rw (to_z-of_z b, c.kept_amount-d.ensures.0) (
+      kept-amount-fits (added_is a.added) a.sums (weights_in a.weights.now) a.first c.requires.keeps.2 c.loop-j.j k,
+      writing-room c.loop-j.invariant k (room_as (whole a.added a.first a.sums a.weights.now) c.requires.room),
+    )
+
+pub overflow_add-j : goal.overflow_add-j
+overflow_add-j c = search (rules, arith)
+
+pub loop-j-smaller : goal.loop-j-smaller
+loop-j-smaller c = search (rules, arith)
+
+pub loop-j-preserved : goal.loop-j-preserved
+loop-j-preserved c =
+    let amount = c.kept_amount-d in
+    let b : SFits w64 amount.result = search rules in
+    writing-next c.loop-j.invariant c.loop-j-test.true
+    (rw (to_z-of_z b, amount.ensures.0) at c.put_addition-place.ensures)
+
+pub shape_of-out : goal.shape_of-out
+shape_of-out c = writing-long c.loop-j.invariant
+
+pub returns : goal.returns
+returns c =
+    let a = c.args in
+    wrote_as (sym (whole a.added a.first a.sums a.weights.now)) (writing-end c.loop-j.invariant (omega (arith, c.loop-j-test.false)))

@@ -1,0 +1,31 @@
+-- `lowering_rows::put_kept` meets its contract: the loop writes the + of each sum. Assumes nothing.
+use mathlib.Core.Path.{◌≡◌, refl, sym}
+use mathlib.Core.List.{List, flat_map}
+use Prim.Native.Nat.{ℕ, ◌-◌, ◌+◌}
+use native.Mathlib.Omega.{arith}
+use lib.IntN.{ℤ}
+use mir.Syntax.{w64}
+use mir.Val.{SFits}
+use mir.Facts.{to_z-of_z}
+use borrow.Author.Rules.{rules}
+use Rattle.lists.specs.Each.{tabulate}
+use Rattle.lists.proofs.Writing.{room_as, wrote_as}
+use Rattle.model.specs.Steps.{weigh}
+use Rattle.model.specs.Sums.{added_to, addition, kept_additions}
+use Rattle.source_step.specs.Row.{weights_in}
+use Rattle.lowering_sums.specs.declared.Added.{Added}
+use Rattle.lowering_sums.specs.Views.{sums_in, added_is}
+use Rattle.lowering_rows.specs.Bytes.{addition_bytes}
+use Rattle.lowering_rows.proofs.Kept.{kept-amount-fits, kept-bytes}
+use Rattle.lowering_rows.proofs.Loops.{Writing, writing_start, writing-room, writing-next, writing-end, writing-long}
+use Rattle.lowering_rows.proofs.put_kept.Given as goal
+
+-- the + on the variable of sum i
+abbrev pub kept_at : Added → ℕ → List ℤ → ℕ → List (ℕ × ℤ)
+kept_at added first weights i = addition (first + i) (weigh (weights_in weights i) (added_to (added_is added)))
+
+abbrev pub invariant-loop-j : goal.invariant-loop-j
+invariant-loop-j l = Writing (flat_map addition_bytes) (kept_at l.added l.first l.weights) l.sums l.initial.out l.at l.out l.place l.j
+
+abbrev pub decreases-loop-j : goal.decreases-loop-j
+decreases-loop-j l = l.sums - l.j

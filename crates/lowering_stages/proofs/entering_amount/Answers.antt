@@ -1,0 +1,21 @@
+-- `lowering_stages::entering_amount` meets its contract: effect by effect. Assumes nothing.
+use mir.Syntax.{w64}
+use mir.Val.{SFits}
+use mir.Facts.{to_z-of_z}
+use borrow.Author.Rules.{rules}
+use Rattle.lowering_stages.proofs.entering_amount.Goals as goal
+
+pub returns-in-None : goal.returns-in-None
+returns-in-None c = rw c.in-None.is
+
+pub returns-in-Add : goal.returns-in-Add
+returns-in-Add c = let e = c.effect.given in let k : SFits w64 e.0.1.0 = search rules in rw (e.1, to_z-of_z k)
+
+pub returns-in-Linear : goal.returns-in-Linear
+returns-in-Linear c = let e = c.effect-in-Linear-1.given in let k : SFits w64 e.0.1.0 = search rules in rw (e.1, to_z-of_z k)
+
+pub returns-in-Quotient : goal.returns-in-Quotient
+returns-in-Quotient c = rw c.in-Quotient.is
+
+pub returns-in-Residue : goal.returns-in-Residue
+returns-in-Residue c = rw c.in-Residue.is

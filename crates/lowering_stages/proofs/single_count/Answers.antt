@@ -1,0 +1,41 @@
+-- `lowering_stages::single_count` meets its contract: effect by effect. Assumes nothing.
+use mathlib.Core.Path.{◌≡◌}
+use mathlib.Core.List.{[]}
+use native.Mathlib.Omega.{arith}
+use lib.ListN.{length}
+use lib.Dec.{lit≤}
+use borrow.Author.Rules.{rules}
+use Rattle.lists.proofs.Loops.{length-mapped}
+use Rattle.model.specs.Tasks.{linear_effect}
+use Rattle.model.specs.Stages.{helper_a, set_stages}
+use Rattle.file_actions.specs.Views.{terms_is}
+use Rattle.lowering_stages.proofs.Effects.{linear-length, result-length}
+use Rattle.lowering_stages.proofs.single_count.Goals as goal
+
+pub returns-in-None : goal.returns-in-None
+returns-in-None c = ((λ lower upper. rw c.in-None.is), lit≤ tt)
+
+pub returns-in-Add : goal.returns-in-Add
+returns-in-Add c = ((λ lower upper. rw c.in-Add.is), lit≤ tt)
+
+pub returns-in-Linear : goal.returns-in-Linear
+returns-in-Linear c =
+    let e = c.enum_told-in-Linear-1.given in
+    let p = c.args.place in
+    let l : length p.terms ≡ 4 = search (rules, length-mapped) in
+    let n = linear-length p.term_count p.terms (omega (arith, c.requires)) in (
+      (λ lower upper. rw e.1
+          (omega (
+            arith,
+            n,
+            result-length (linear_effect e.0.0 e.0.1.0 (terms_is p.term_count p.terms))
+                (set_stages lower upper helper_a e.0.0 []),
+          ))),
+      omega (arith, c.requires),
+    )
+
+pub returns-in-Quotient : goal.returns-in-Quotient
+returns-in-Quotient c = ((λ lower upper. rw c.in-Quotient.is), lit≤ tt)
+
+pub returns-in-Residue : goal.returns-in-Residue
+returns-in-Residue c = ((λ lower upper. rw c.in-Residue.is), lit≤ tt)

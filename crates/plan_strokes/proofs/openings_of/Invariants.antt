@@ -1,0 +1,12 @@
+-- `plan_strokes::openings_of` meets its contract. Assumes nothing.
+use Prim.Native.Nat.{◌-◌}
+use native.Mathlib.Omega.{arith}
+use Rattle.plan_strokes.proofs.Counting.{Counting, counting-start, counting-next, counting-end}
+use borrow.Author.Rules.{rules}
+use Rattle.plan_strokes.proofs.openings_of.Given as goal
+
+abbrev pub invariant-loop-k : goal.invariant-loop-k
+invariant-loop-k l = Counting l.marks l.count l.o.numbers l.next l.k
+
+abbrev pub decreases-loop-k : goal.decreases-loop-k
+decreases-loop-k l = l.count - l.k

@@ -1,0 +1,9 @@
+-- `ruphenqo::ruphenqo_refusal_text` meets its contract. Assumes nothing.
+use mathlib.Core.Path.{ap}
+use Rattle.ruphenqo.proofs.Telling.{told-as}
+use borrow.Author.Rules.{rules}
+use Rattle.ruphenqo.proofs.ruphenqo_refusal_text.Goals as goal
+
+pub returns : goal.returns
+returns c =
+    let e = c.write_text.ensures.meets in record { told = told-as (ap (λ p. p.0) e) c.tell_written.ensures; out_after = ap (λ p. p.1) e }

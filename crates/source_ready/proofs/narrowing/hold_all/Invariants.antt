@@ -1,0 +1,18 @@
+-- `source_ready::narrowing::hold_all` meets its contract. Assumes nothing.
+use mathlib.Core.Path.{ap}
+use native.Mathlib.Omega.{arith}
+use Prim.Native.Nat.{◌-◌, ◌<◌}
+use borrow.Author.Rules.{rules}
+use Rattle.model.specs.Steps.{natural_at}
+use Rattle.source_step.proofs.Rows.{Left, left-start, left-next, left-none, row-tabulate}
+use Rattle.file_parts.specs.Layout.{mode_condition_count}
+use Rattle.file_parts.specs.Row.{mode_conditions_in, mode_condition_in}
+use Rattle.source_ready.specs.Narrowed.{held_all}
+use Rattle.source_ready.proofs.narrowing.hold_all.Given as goal
+
+abbrev pub invariant-loop-i : goal.invariant-loop-i
+invariant-loop-i l =
+    Left (mode_conditions_in l.parts) (natural_at l.parts mode_condition_count) (mode_condition_in l.parts) l.i (λ es. held_all es l.marks) (held_all (mode_conditions_in l.parts) l.initial.marks)
+
+abbrev pub decreases-loop-i : goal.decreases-loop-i
+decreases-loop-i l = l.count - l.i

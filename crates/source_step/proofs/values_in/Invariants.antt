@@ -1,0 +1,28 @@
+-- `source_step::values_in` meets its contract. Assumes nothing.
+use native.Mathlib.Omega.{arith}
+use mathlib.Core.Path.{◌≡◌, refl, sym, ◌∙◌}
+use mathlib.Core.Bool.{Bool}
+use mathlib.Core.List.{List}
+use Prim.Native.Nat.{ℕ, ◌+◌, ◌-◌}
+use lib.IntN.{ℤ}
+use mir.Facts.{to_z-of_z}
+use mir.Syntax.{w64}
+use mir.Val.{SFits}
+use borrow.Author.Tests.{not-true, not-false}
+use Rattle.integers.specs.Relation.{between}
+use Rattle.lists.specs.Each.{tabulate}
+use Rattle.lists.specs.Loops.{every}
+use Rattle.model.specs.Steps.{integer_at}
+use Rattle.source_step.proofs.Rows.{Left, left-start, left-none, left-pass, left-stop, row-tabulate}
+use Rattle.source_step.specs.Row.{values_in}
+use borrow.Author.Rules.{rules}
+use Rattle.source_step.proofs.values_in.Given as goal
+
+abbrev pub test : List ℤ → List ℤ → ℕ → Bool
+test numbers values j = between (integer_at numbers j) (integer_at numbers (8 + j)) (integer_at values j)
+
+abbrev pub invariant-loop-i : goal.invariant-loop-i
+invariant-loop-i l = Left (tabulate l.n (test l.numbers l.values)) l.n (test l.numbers l.values) l.i (every (λ b. b)) (values_in l.n l.numbers l.values)
+
+abbrev pub decreases-loop-i : goal.decreases-loop-i
+decreases-loop-i l = l.n - l.i

@@ -1,0 +1,104 @@
+-- `source_sums::find_sums` meets its contract: without a K's byte there is no sum; else the loop takes the sums of each action, and those of the
+-- goal come behind. Assumes nothing.
+use Prim.Native.Nat.{◌-◌}
+use native.Mathlib.Omega.{arith}
+use mathlib.Core.Path.{sym, ◌∙◌}
+use borrow.Author.Tests.{not-true}
+use Rattle.integers.specs.Numbers.{Bytes}
+use Rattle.file_actions.proofs.Accepted.{bytes-of}
+use Rattle.file_actions.specs.Places.{goal_part}
+use Rattle.file_actions.specs.Views.{SumsDecoded}
+use Rattle.model.specs.Decoding.{sum_conditions_of}
+use Rattle.model.specs.ActionBytes.{decode_action}
+use Rattle.source_step.proofs.Judging.{few-actions}
+use Rattle.source_sums.proofs.NoSum.{no-sum-in-file}
+use Rattle.source_sums.proofs.Gathering.{Gathered, gathered-start, small_at, gathered-room, gathered_next, small-in-goal, goal-room}
+use Rattle.source_sums.proofs.Gathering.{all_found, all-ask, none_found, none-ask}
+use borrow.Author.Rules.{rules}
+use mathlib.Core.Path.{ap}
+use mathlib.Core.Bool.{not}
+use Rattle.source_sums.proofs.find_sums.Goals as goal
+use Rattle.source_sums.proofs.find_sums.Lts as lts
+use Rattle.source_sums.proofs.find_sums.Reads as reads
+
+-- the K's of the goal, which stands at the place behind the actions
+goal : (c : lts.After-goal_sums reads.Pre reads.Post goal.the-invariant-loop-k goal.the-decreases-loop-k) → (SumsDecoded (sum_conditions_of (decode_action (goal_part c.args.file.now c.args.count))) c.goal_sums-own.result)
+goal c = rw (c.requires.1 c.args.count (omega arith)) at c.goal_sums-own.ensures
+
+-- the file is one of bytes
+bytes : (c : lts.After-has_sum reads.Pre reads.Post goal.the-invariant-loop-k goal.the-decreases-loop-k) → Bytes c.args.file.now
+bytes c = bytes-of c.args.file.now (λ i. omega (arith, c.shared_slice_known-1.given i))
+
+pub returns-then-not-has_sum : goal.returns-then-not-has_sum
+returns-then-not-has_sum c =
+    let file = c.args.file.now in
+    let none = no-sum-in-file file (sym c.has_sum.ensures ∙ not-true _ (ap not c.if-not-has_sum.true)) in (
+      none_found file c.args.count (bytes c.before.before) c.requires.0 none c.requires.2,
+      none-ask file c.args.count (bytes c.before.before) c.requires.0 none c.requires.2,
+    )
+
+pub loop-k-init : goal.loop-k-init
+loop-k-init c = gathered-start (bytes c.before.before) c.requires.2
+
+pub action_sums-own-requires : goal.action_sums-own-requires
+action_sums-own-requires c =
+    (c.requires.1, c.loop-k-test.true, few-actions c.args.file.now c.args.count c.loop-k.invariant.bytes c.requires.0)
+
+pub put_sums-requires : goal.put_sums-requires
+put_sums-requires c =
+    let file = c.args.file.now in
+    let inv = c.loop-k.invariant in
+    let below = c.loop-k-test.true in
+    let own = c.action_sums-own.ensures in (
+      gathered-room file c.args.count inv.bytes c.requires.0 c.loop-k.k below own inv,
+      small_at file c.args.count inv.bytes c.requires.0 c.loop-k.k below own,
+      inv.blank,
+    )
+
+pub overflow_add-total : goal.overflow_add-total
+overflow_add-total c =
+    let inv = c.loop-k.invariant in
+    let room = gathered-room c.args.file.now c.args.count inv.bytes c.requires.0 c.loop-k.k c.loop-k-test.true
+    c.action_sums-own.ensures inv in
+    search rules
+
+pub loop-k-preserved : goal.loop-k-preserved
+loop-k-preserved c =
+    gathered_next c.args.file.now c.args.count c.loop-k.invariant.bytes c.requires.0 c.loop-k.k c.loop-k-test.true
+    c.action_sums-own.ensures c.loop-k.invariant c.put_sums.ensures
+
+pub offset_bounds-places-count : goal.offset_bounds-places-count
+offset_bounds-places-count c =
+    let few = few-actions c.args.file.now c.args.count c.loop-k.invariant.bytes c.requires.0 in
+    search rules
+
+pub bounds-places-count : goal.bounds-places-count
+bounds-places-count c =
+    let few = few-actions c.args.file.now c.args.count c.loop-k.invariant.bytes c.requires.0 in
+    search rules
+
+pub put_sums-requires-2 : goal.put_sums-requires-2
+put_sums-requires-2 c =
+    let file = c.args.file.now in
+    let inv = c.loop-k.invariant in
+    let own = goal c.before.before in (
+      goal-room file c.args.count inv.bytes c.requires.0 own inv c.loop-k-test.false,
+      small-in-goal file c.args.count inv.bytes c.requires.0 own,
+      inv.blank,
+    )
+
+pub overflow_add-result : goal.overflow_add-result
+overflow_add-result c =
+    let inv = c.loop-k.invariant in
+    let room = goal-room c.args.file.now c.args.count inv.bytes c.requires.0 (goal c.before.before.before.before) inv c.loop-k-test.false in
+    search rules
+
+pub returns : goal.returns
+returns c =
+    let g = c.before.before.before.before in
+    let file = c.args.file.now in
+    let inv = c.loop-k.invariant in
+    let put = c.put_sums-2.ensures in (
+      all_found file c.args.count inv.bytes c.requires.0 (goal g) inv c.loop-k-test.false put,
+      all-ask file c.args.count inv.bytes c.requires.0 (goal g) inv c.loop-k-test.false put,
+    )

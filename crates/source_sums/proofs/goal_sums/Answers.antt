@@ -1,0 +1,6 @@
+-- `source_sums::goal_sums` meets its contract. Assumes nothing.
+use borrow.Author.Rules.{rules}
+use Rattle.source_sums.proofs.goal_sums.Goals as goal
+
+pub returns : goal.returns
+returns c = rw c.goal_from.ensures at c.decode_sums.ensures

@@ -1,0 +1,20 @@
+-- `source_sums::has_sum` meets its contract: at each offset, whether it was seen, or stands in what is left, is the answer. Assumes nothing.
+use mathlib.Core.Logic.{⊎_elim}
+use Prim.Native.Nat.{◌-◌}
+use lib.ListN.{length}
+use Rattle.commands.specs.Table.{letter_k}
+use Rattle.source_sums.proofs.NoSum.{Seeing, seeing-start, seen_here, not-here, seen_all}
+use borrow.Author.Rules.{rules}
+use Rattle.source_sums.proofs.has_sum.Goals as goal
+
+pub loop-i-init : goal.loop-i-init
+loop-i-init c = seeing-start letter_k _
+
+pub loop-i-preserved : goal.loop-i-preserved
+loop-i-preserved c =
+    let inv = c.loop-i.invariant in
+    let below = c.loop-i-test.true in
+    ⊎_elim (λ w. rw w.1 (seen_here inv below w.0.taken)) (λ w. rw w.1 (not-here inv below w.0.left)) c.if-file-i-eq75.branch
+
+pub returns : goal.returns
+returns c = seen_all c.loop-i.invariant c.loop-i-test.false

@@ -1,0 +1,9 @@
+-- `source_walk::conclude` meets its contract, case by case. Assumes nothing.
+use borrow.Author.Rules.{rules}
+use Rattle.source_walk.proofs.conclude.Goals as goal
+
+pub returns-in-Refused : goal.returns-in-Refused
+returns-in-Refused c = rw c.in-Refused.is c.refuse.ensures
+
+pub returns-in-Valid : goal.returns-in-Valid
+returns-in-Valid c = rw c.in-Valid.is

@@ -1,0 +1,30 @@
+-- `source_walk::judge` meets its contract: what is refused of the file and the plan's bytes, else what judging the steps gives. Assumes nothing.
+use mathlib.Core.Path.{sym, ap, ◌∙◌}
+use Rattle.source_step.proofs.Tables.{usables}
+use Rattle.source_walk.specs.Opening.{Started}
+use Rattle.model.specs.Judging.{judge_source_task}
+use Rattle.source_walk.specs.Answers.{judgement_of, with_state}
+use Rattle.source_walk.specs.Walk.{Judging}
+use Rattle.source_walk.proofs.Opening.{refused-both}
+use Rattle.source_walk.proofs.Judging.{judgement-is}
+use borrow.Author.Rules.{rules}
+use Rattle.source_walk.proofs.judge.Goals as goal
+use Rattle.source_walk.proofs.judge.Lts as lts
+use Rattle.source_walk.proofs.judge.Reads as reads
+
+-- what is ready
+ready : (c : lts.After-t reads.Pre reads.Post) → let o = c.«open» in Started c.args.file.now c.args.plan.now c.in-Ready.t o.new.1.1.0 o.new.1.1.1.0 o.new.1.1.1.1.0 o.new.1.1.1.1.1.0
+ready c = rw c.in-Ready.is at c.«open».ensures
+
+pub judge_steps-judged-requires : goal.judge_steps-judged-requires
+judge_steps-judged-requires c = let S = ready c.before.before.before.before.before.before in (usables S.rows, S.plan_is.steps_are, S.plan_is.few, S.inside.shaped.modes_long)
+
+pub returns-in-Refused : goal.returns-in-Refused
+returns-in-Refused c =
+    let s = c.args in
+    let e = c.number.given in
+    let o = rw e.1 at c.«open».ensures in
+    c.refuse.ensures ∙ ap judgement_of (sym (refused-both judge_source_task s.file.now s.plan.now e.0.0 e.0.1.0 o.0))
+
+pub returns-in-Ready : goal.returns-in-Ready
+returns-in-Ready c = c.conclude.ensures ∙ ap (λ (j : Judging). with_state j.verdict j.state) c.judge_steps-judged.ensures ∙ judgement-is (ready c.before.before.before.before.before.before.before.before) _

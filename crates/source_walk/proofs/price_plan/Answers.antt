@@ -1,0 +1,32 @@
+-- `source_walk::price_plan` meets its contract: it is refused as by judging, else it has the sum of the prices. Assumes nothing.
+use mathlib.Core.Path.{sym, ap, ◌∙◌}
+use Rattle.source_step.proofs.Tables.{usables}
+use Rattle.source_walk.specs.Opening.{Started}
+use Rattle.lists.specs.Answer.{then}
+use Rattle.model.specs.Judging.{judge_source_task, price_task}
+use mathlib.Core.Bool.{false}
+use Rattle.source_walk.specs.Answers.{priced_by}
+use Rattle.source_walk.specs.Walk.{Judging}
+use Rattle.source_walk.proofs.Opening.{refused-both}
+use Rattle.source_walk.proofs.Judging.{price-is}
+use borrow.Author.Rules.{rules}
+use Rattle.source_walk.proofs.price_plan.Goals as goal
+use Rattle.source_walk.proofs.price_plan.Lts as lts
+use Rattle.source_walk.proofs.price_plan.Reads as reads
+
+-- what is ready
+ready : (c : lts.After-t reads.Pre reads.Post) → let o = c.«open» in Started c.args.file.now c.args.plan.now c.in-Ready.t o.new.1.1.0 o.new.1.1.1.0 o.new.1.1.1.1.0 o.new.1.1.1.1.1.0
+ready c = rw c.in-Ready.is at c.«open».ensures
+
+pub judge_steps-judged-requires : goal.judge_steps-judged-requires
+judge_steps-judged-requires c = let S = ready c.before.before.before.before.before.before in (usables S.rows, S.plan_is.steps_are, S.plan_is.few, S.inside.shaped.modes_long)
+
+pub returns-in-Refused : goal.returns-in-Refused
+returns-in-Refused c =
+    let s = c.args in
+    let e = c.number.given in
+    let o = rw e.1 at c.«open».ensures in
+    sym (refused-both (λ t p. then (judge_source_task t p) (λ v. price_task t false p)) s.file.now s.plan.now e.0.0 e.0.1.0 o.0)
+
+pub returns-in-Ready : goal.returns-in-Ready
+returns-in-Ready c = c.price_with.ensures ∙ ap (λ (j : Judging). priced_by j.verdict j.price) c.judge_steps-judged.ensures ∙ price-is (ready c.before.before.before.before.before.before.before.before)
