@@ -11,11 +11,8 @@ use Rattle.listing.proofs.begin.Goals as goal
 use Rattle.listing.proofs.begin.Lts as lts
 use Rattle.listing.proofs.begin.Reads as reads
 
-abbrev start_of : lts.After-open reads.Pre reads.Post → lts.Start reads.Pre reads.Post
-start_of c = c.before.before.before.before.before.before.before
-
 -- what is ready
-ready : (c : lts.After-t reads.Pre reads.Post) → let o = c.«open» in let s = (start_of c.before.before.before).args in
+ready : (c : lts.After-t reads.Pre reads.Post) → let o = c.«open» in let s = c.args in
     Started s.file.now s.plan.now c.in-Ready.t o.new.1.1.0 o.new.1.1.1.0 o.new.1.1.1.1.0 o.new.1.1.1.1.1.0
 ready c = rw c.in-Ready.is at c.«open».ensures
 
@@ -29,7 +26,7 @@ judge-requires c =
 
 pub returns-in-Refused : goal.returns-in-Refused
 returns-in-Refused c =
-    let s = (start_of c.before.before.before.before).args in
+    let s = c.args in
     let e = c.number.given in
     let o = rw e.1 at c.«open».ensures in
     let text = refused-listing s.file.now s.plan.now e.0.0 e.0.1.0 o.0 in

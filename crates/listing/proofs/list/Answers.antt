@@ -5,21 +5,16 @@ use Rattle.listing.specs.Lines.{for_these}
 use Rattle.listing.proofs.Parts.{listing-short, listing-room, listing-written}
 use borrow.Author.Rules.{rules}
 use Rattle.listing.proofs.list.Goals as goal
-use Rattle.listing.proofs.list.Lts as lts
-use Rattle.listing.proofs.list.Reads as reads
-
-abbrev start_of : lts.After-begin reads.Pre reads.Post → lts.Start reads.Pre reads.Post
-start_of c = c.before.before.before.before.before.before.before.before
 
 pub returns-then-out-need : goal.returns-then-out-need
 returns-then-out-need c =
-    listing-short (start_of c.before.before.before.before.before.before.before.before.before).args.out.now c.begin-rest.ensures c.needed-need.ensures c.if-out-need.true
+    listing-short c.args.out.now c.begin-rest.ensures c.needed-need.ensures c.if-out-need.true
 
 pub put_rest-part-requires : goal.put_rest-part-requires
 put_rest-part-requires c =
-    let room = listing-room (start_of c.before.before.before.before.before.before.before.before.before.before.before.before.before.before).args.out.now c.begin-rest.ensures c.needed-need.ensures c.if-out-need.false in record { most_nonzero = (omega arith, c.begin-rest.ensures.pending); room_for = for_these room }
+    let room = listing-room c.args.out.now c.begin-rest.ensures c.needed-need.ensures c.if-out-need.false in record { most_nonzero = (omega arith, c.begin-rest.ensures.pending); room_for = for_these room }
 
 pub returns : goal.returns
 returns c =
-    listing-written (start_of c.before.before.before.before.before.before.before.before.before.before.before.before.before.before.before.before.before).args.out.now c.begin-rest.ensures c.needed-need.ensures c.if-out-need.false
+    listing-written c.args.out.now c.begin-rest.ensures c.needed-need.ensures c.if-out-need.false
     c.put_rest-part.ensures.wrote

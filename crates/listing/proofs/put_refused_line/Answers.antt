@@ -30,11 +30,8 @@ l₂ c = step (l₁ c.before.before.before.before) c.put_count-place_at.ensures
 l₃ : (c : lts.After-put_count2 reads.Pre reads.Post) → Stage c.before.before.before.before.before.before.before.before.before.before.before.before.before c.put_count-end.new.out c.put_count-end.result (drop 3 ((114 ∷ 101 ∷ 102 ∷ 117 ∷ 115 ∷ 101 ∷ 100 ∷ []) ∷ field (pos c.args.number) ∷ field (pos c.args.place) ∷ (10 ∷ []) ∷ []))
 l₃ c = step (l₂ c.before.before.before.before) c.put_count-end.ensures
 
-abbrev start_of : lts.After-put_count2 reads.Pre reads.Post → lts.Start reads.Pre reads.Post
-start_of c = c.before.before.before.before.before.before.before.before.before.before.before.before
-
 -- how far the two numbers go
-bound : (c : lts.After-put_count2 reads.Pre reads.Post) → c.put_count-end.result ≤ (start_of c).args.at + 49
+bound : (c : lts.After-put_count2 reads.Pre reads.Post) → c.put_count-end.result ≤ c.args.at + 49
 bound c =
     let number = count_most c.args.number (omega arith) in
     let place = count_most c.args.place (omega arith) in
@@ -60,7 +57,7 @@ put_count-end-requires c =
 pub put_number-requires : goal.put_number-requires
 put_number-requires c =
     let a = c.before.before.before in
-    room-either (omega (arith, bound a)) (long (l₃ a)) (λ r. room r (l₃ a)) (start_of a).requires
+    room-either (omega (arith, bound a)) (long (l₃ a)) (λ r. room r (l₃ a)) c.requires
 
 pub shape_of-out : goal.shape_of-out
 shape_of-out c = wrote-long (done (step (l₃ c.before.before.before.before.before.before.before) c.put_number.ensures))

@@ -30,17 +30,13 @@ ToWrite s out place parts = Left s.args.out.now s.args.at (kept_bytes s.args.fir
 begun : (s : lts.Start reads.Pre reads.Post) → ToWrite s s.args.out.now s.args.at (plain_bytes (opened s) ∷ follow_bytes s.args.first (sums s) (opened s) ∷ [])
 begun s = kept-begun s.args.first (sums s) _ _ (opened s)
 
--- the start, from each call behind which something is left
-abbrev s₁ : lts.After-put_row reads.Pre reads.Post → lts.Start reads.Pre reads.Post
-s₁ c = c.before.before.before.before.before.before.before.before.before.before
-
 abbrev s₂ : lts.After-added_in reads.Pre reads.Post → lts.Start reads.Pre reads.Post
-s₂ c = s₁ c.before.before.before.before.before.before
+s₂ c = c.before
 
 -- its row is written
-plain : (c : lts.After-put_row reads.Pre reads.Post) → let s = s₁ c in
+plain : (c : lts.After-put_row reads.Pre reads.Post) → let s = c.before.before.before.before.before.before.before.before in
     ToWrite s c.put_row-behind.new.out c.put_row-behind.result (follow_bytes s.args.first (sums s) (opened s) ∷ [])
-plain c = step (begun (s₁ c)) (row_written c.push_opening.ensures c.put_row-behind.ensures)
+plain c = step (begun c.before.before.before.before.before.before.before.before) (row_written c.push_opening.ensures c.put_row-behind.ensures)
 
 -- what it adds
 added : (c : lts.After-added_in reads.Pre reads.Post) → (added_is c.added_in.result ≡ (opened (s₂ c)).additions) × AddedSmall c.added_in.result

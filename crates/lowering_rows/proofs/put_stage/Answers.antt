@@ -52,28 +52,24 @@ from_rise s = plain_bytes (rising s) ∷ follows s (rising s) ∷ from_turn s
 begun : (s : lts.Start reads.Pre reads.Post) → ToWrite s s.args.out.now s.args.at (plain_bytes (falling s) ∷ follows s (falling s) ∷ from_rise s)
 begun s = stage-begun s.args.first (sums s) _ _ s.args.a s.args.control s.args.number s.args.next s.args.s
 
--- the start, from each call that writes
-abbrev s₁ : lts.After-put_row reads.Pre reads.Post → lts.Start reads.Pre reads.Post
-s₁ c = c.before.before.before.before.before.before.before.before
-
 abbrev s₂ : lts.After-follow reads.Pre reads.Post → lts.Start reads.Pre reads.Post
-s₂ c = s₁ c.before.before.before.before.before
+s₂ c = c.before
 
 abbrev s₃ : lts.After-put_row2 reads.Pre reads.Post → lts.Start reads.Pre reads.Post
-s₃ c = s₂ c.before.before.before.before.before.before.before.before.before
+s₃ c = s₂ c.before.before.before.before.before.before.before
 
 abbrev s₄ : lts.After-follow2 reads.Pre reads.Post → lts.Start reads.Pre reads.Post
 s₄ c = s₃ c.before.before.before.before.before
 
 abbrev s₅ : lts.After-put_row3 reads.Pre reads.Post → lts.Start reads.Pre reads.Post
-s₅ c = s₄ c.before.before.before.before.before.before.before.before.before
+s₅ c = s₄ c.before.before.before.before.before.before.before
 
 abbrev s₆ : lts.After-added_once reads.Pre reads.Post → lts.Start reads.Pre reads.Post
 s₆ c = s₅ c.before.before.before.before.before
 
 -- what is left behind each
-fallen : (c : lts.After-put_row reads.Pre reads.Post) → ToWrite (s₁ c) c.put_row-fallen.new.out c.put_row-fallen.result (follows (s₁ c) (falling (s₁ c)) ∷ from_rise (s₁ c))
-fallen c = step (begun (s₁ c)) (row_written c.push_stroke.ensures c.put_row-fallen.ensures)
+fallen : (c : lts.After-put_row reads.Pre reads.Post) → ToWrite c.before.before.before.before.before.before c.put_row-fallen.new.out c.put_row-fallen.result (follows c.before.before.before.before.before.before (falling c.before.before.before.before.before.before) ∷ from_rise c.before.before.before.before.before.before)
+fallen c = step (begun c.before.before.before.before.before.before) (row_written c.push_stroke.ensures c.put_row-fallen.ensures)
 
 fell : (c : lts.After-follow reads.Pre reads.Post) → ToWrite (s₂ c) c.follow-second.new.out c.follow-second.result (from_rise (s₂ c))
 fell c =

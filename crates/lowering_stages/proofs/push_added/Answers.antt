@@ -13,12 +13,8 @@ use Rattle.lowering_stages.proofs.push_added.Goals as goal
 use Rattle.lowering_stages.proofs.push_added.Lts as lts
 use Rattle.lowering_stages.proofs.push_added.Reads as reads
 
--- the start, from each call
-abbrev s₁ : lts.After-push_amount reads.Pre reads.Post → lts.Start reads.Pre reads.Post
-s₁ c = c.before.before.before.before.before.before
-
 abbrev s₂ : lts.After-push_amount2 reads.Pre reads.Post → lts.Start reads.Pre reads.Post
-s₂ c = s₁ c.before.before.before.before.before.before
+s₂ c = c.before
 
 abbrev s₃ : lts.After-push_amount3 reads.Pre reads.Post → lts.Start reads.Pre reads.Post
 s₃ c = s₂ c.before.before.before.before.before.before
@@ -37,8 +33,8 @@ fits s i = amount-fits (s.requires.2.amounts i)
 none : (s : lts.Start reads.Pre reads.Post) → Made s 0 s.args.marks.now s.args.numbers.now
 none s = adding-start s.args.falls s.args.s s.requires.0.long s.requires.1
 
-one : (c : lts.After-push_amount reads.Pre reads.Post) → Made (s₁ c) 1 c.push_amount.new.marks c.push_amount.new.numbers
-one c = adding-next (none (s₁ c)) c.if-count-lt1.false (rw (to_z-of_z (fits (s₁ c) 0)) at c.push_amount.ensures)
+one : (c : lts.After-push_amount reads.Pre reads.Post) → Made c.before.before.before.before.before.before 1 c.push_amount.new.marks c.push_amount.new.numbers
+one c = adding-next (none c.before.before.before.before.before.before) c.if-count-lt1.false (rw (to_z-of_z (fits c.before.before.before.before.before.before 0)) at c.push_amount.ensures)
 
 two : (c : lts.After-push_amount2 reads.Pre reads.Post) → Made (s₂ c) 2 c.push_amount-2.new.marks c.push_amount-2.new.numbers
 two c =
@@ -69,9 +65,8 @@ returns-then-count-lt2 c = adding-end (one c.before) (omega (arith, c.if-count-l
 
 pub push_amount-requires-2 : goal.push_amount-requires-2
 push_amount-requires-2 c =
-    let s = s₁ c.before.before.before.before.before in
     let h = one c.before.before.before.before.before in
-    rw (to_z-of_z (fits s 1)) (adding-room h c.if-count-lt2.false s.requires.0, h.says.numbers_long, s.requires.2.amounts 1)
+    rw (to_z-of_z (fits c.before.before.before.before.before.before.before.before.before.before.before 1)) (adding-room h c.if-count-lt2.false c.requires.0, h.says.numbers_long, c.requires.2.amounts 1)
 
 pub returns-then-count-lt3 : goal.returns-then-count-lt3
 returns-then-count-lt3 c = adding-end (two c.before) (omega (arith, c.if-count-lt3.true))

@@ -10,7 +10,7 @@ use Rattle.lowering_sums.proofs.Weighing.{Adding, adding-start, adding-next, add
 use Rattle.lowering_sums.proofs.kept_amount.Given as goal
 
 abbrev pub invariant-loop-e : goal.invariant-loop-e
-invariant-loop-e l = Adding l.weights l.j l.count l.variables l.amounts l.e (to_z w64 l.total)
+invariant-loop-e l = Adding l.weights l.j l.count l.variables l.amounts l.e l.total
 
 abbrev pub decreases-loop-e : goal.decreases-loop-e
 decreases-loop-e l = l.count - l.e

@@ -9,27 +9,19 @@ use Rattle.plan_strokes.specs.Strokes.{step_numbers}
 use Rattle.plan_expand.proofs.Writing.{turn-taken}
 use borrow.Author.Rules.{rules}
 use Rattle.plan_expand.proofs.put_turn.Goals as goal
-use Rattle.plan_expand.proofs.put_turn.Lts as lts
-use Rattle.plan_expand.proofs.put_turn.Reads as reads
 
 pub put_strokes-count-requires : goal.put_strokes-count-requires
 put_strokes-count-requires c = (c.requires.opening_bound.4, refl, c.requires.keep_or_set.1)
 
-abbrev start : lts.After-put_strokes reads.Pre reads.Post → lts.Start reads.Pre reads.Post
-start p = p.before.before.before.before.before
-
 pub put_step-place-requires : goal.put_step-place-requires
 put_step-place-requires c =
-    let s = start c.before.before in
-    let l = c.put_strokes-count.ensures.listed in record { opening_bound = (s.requires.opening_bound.0, l.few, l.long); room = room_as (ap (λ (zs : List ℤ). plan_bytes_of (step_numbers s.args.opening zs)) (sym l.is)) s.requires.room }
+    let l = c.put_strokes-count.ensures.listed in record { opening_bound = (c.requires.opening_bound.0, l.few, l.long); room = room_as (ap (λ (zs : List ℤ). plan_bytes_of (step_numbers c.args.opening zs)) (sym l.is)) c.requires.room }
 
 pub finish-requires : goal.finish-requires
 finish-requires c =
-    let s = start c.before.before.before.before.before.before.before.before in
-    (omega (arith, s.requires.opening_bound.1), s.requires.opening_bound.2, s.requires.opening_bound.3, s.requires.keep_or_set.0, c.put_strokes-count.ensures.results_are)
+    (omega (arith, c.requires.opening_bound.1), c.requires.opening_bound.2, c.requires.opening_bound.3, c.requires.keep_or_set.0, c.put_strokes-count.ensures.results_are)
 
 pub returns : goal.returns
 returns c =
-    let s = start c.before.before.before.before.before.before.before.before.before in
     let l = c.put_strokes-count.ensures.listed in
-    (wrote_as (ap (λ (zs : List ℤ). plan_bytes_of (step_numbers s.args.opening zs)) l.is) c.put_step-place.ensures, (turn-taken c.finish.ensures, l.long))
+    (wrote_as (ap (λ (zs : List ℤ). plan_bytes_of (step_numbers c.args.opening zs)) l.is) c.put_step-place.ensures, (turn-taken c.finish.ensures, l.long))

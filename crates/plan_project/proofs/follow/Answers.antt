@@ -18,17 +18,14 @@ use Rattle.plan_project.proofs.follow.Reads as reads
 abbrev table_of : lts.Start reads.Pre reads.Post goal.the-invariant-loop-at goal.the-decreases-loop-at → Table
 table_of s = table s.args.count s.args.marks.now s.args.numbers.now s.args.n s.args.m
 
-abbrev loop_of : lts.After-wide reads.Pre reads.Post goal.the-invariant-loop-at goal.the-decreases-loop-at → lts.At-loop reads.Pre reads.Post goal.the-invariant-loop-at goal.the-decreases-loop-at
-loop_of w = w.before.before.before.before
-
 abbrev start_of : lts.After-wide reads.Pre reads.Post goal.the-invariant-loop-at goal.the-decreases-loop-at → lts.Start reads.Pre reads.Post goal.the-invariant-loop-at goal.the-decreases-loop-at
-start_of w = (loop_of w).before.before
+start_of w = w.before.before.before
 
 number_is_lem : (w : lts.After-wide reads.Pre reads.Post goal.the-invariant-loop-at goal.the-decreases-loop-at)
-    → w.action_of-opening.result ≡ get_or (plan_numbers (start_of w).args.plan.now) (loop_of w).loop-at.at 0
+    → w.action_of-opening.result ≡ get_or (plan_numbers (start_of w).args.plan.now) w.loop-at.at 0
 number_is_lem w = w.action_of-opening.ensures
 
-inside : (w : lts.After-wide reads.Pre reads.Post goal.the-invariant-loop-at goal.the-decreases-loop-at) → (loop_of w).loop-at.at < length (plan_numbers (start_of w).args.plan.now)
+inside : (w : lts.After-wide reads.Pre reads.Post goal.the-invariant-loop-at goal.the-decreases-loop-at) → w.loop-at.at < length (plan_numbers (start_of w).args.plan.now)
 inside w = omega (arith, w.loop-at-test.true, (start_of w).requires.usables.2)
 
 entry-is : (w : lts.After-wide reads.Pre reads.Post goal.the-invariant-loop-at goal.the-decreases-loop-at) → w.wide-k.result ≡ entry_at (start_of w).args.sources.now w.action_of-opening.result
@@ -52,7 +49,7 @@ pub returns-then-count-k : goal.returns-then-count-k
 returns-then-count-k c =
     let w = c.before.before.before in
     let s = start_of w in
-    no-action (loop_of w).loop-at.invariant.0 s.requires.usables.0 s.requires.usables.1 c.action_of-opening.result (number_is_lem w) (inside w) (entry-is w)
+    no-action c.loop-at.invariant.0 s.requires.usables.0 s.requires.usables.1 c.action_of-opening.result (number_is_lem w) (inside w) (entry-is w)
     c.if-count-k.true c.astray.result c.astray.ensures
 
 pub offset_bounds-marks-k : goal.offset_bounds-marks-k
@@ -65,7 +62,7 @@ module _ (f : lts.Else1 reads.Pre reads.Post goal.the-invariant-loop-at goal.the
 
   here : (w.wide-k.result < length (start_of w).args.marks.now) × (w.wide-k.result < length (start_of w).args.numbers.now)
       × (33 < length (start_of w).args.numbers.now)
-  here = let s = start_of w in rows-here (loop_of w).loop-at.invariant.0 s.requires.usables.0 s.requires.usables.1 w.action_of-opening.result (number_is_lem w) (inside w)
+  here = let s = start_of w in rows-here w.loop-at.invariant.0 s.requires.usables.0 s.requires.usables.1 w.action_of-opening.result (number_is_lem w) (inside w)
       (entry-is w) f.if-count-k.left
 
 pub bounds-marks-k : goal.bounds-marks-k
@@ -85,7 +82,7 @@ advance-next-requires c =
     let v = w c.before.before.before.before in
     let s = start_of v in
     let u = s.requires.usables.0 in
-    let g = (loop_of v).loop-at.invariant in
+    let g = v.loop-at.invariant in
     let k = v.action_of-opening.result in record { n_bound = (u.variables_few, u.modes_few, g.0.long, g.1); usable = (
         u.usable v.wide-k.result (omega (arith, c.if-count-k.false)),
         (
@@ -96,46 +93,35 @@ advance-next-requires c =
         ),
       ); steps_value =  }
 
-abbrev else_of : lts.After-advance reads.Pre reads.Post goal.the-invariant-loop-at goal.the-decreases-loop-at → lts.Else1 reads.Pre reads.Post goal.the-invariant-loop-at goal.the-decreases-loop-at
-else_of a = a.before.before.before.before.before.before.before
-
 pub returns-in-Refused : goal.returns-in-Refused
 returns-in-Refused c =
-    let f = else_of c.before.before in
-    let v = w f in
+    let v = w c.before.before.before.before.before.before in
     let s = start_of v in
-    stopped (loop_of v).loop-at.invariant.0 s.requires.usables.0 s.requires.usables.1 v.action_of-opening.result (number_is_lem v) (inside v) (entry-is v) f.if-count-k.left
+    stopped v.loop-at.invariant.0 s.requires.usables.0 s.requires.usables.1 v.action_of-opening.result (number_is_lem v) (inside v) (entry-is v) c.if-count-k.left
     c.advance-next.ensures.advanced c.in-Refused.is
 
 pub overflow_add-found : goal.overflow_add-found
 overflow_add-found c =
-    let v = w (else_of c.before.before.before.before) in
-    omega (arith, (loop_of v).loop-at.invariant.0.few, v.loop-at-test.taken)
-
-abbrev advanced_of : lts.After-known_told2 reads.Pre reads.Post goal.the-invariant-loop-at goal.the-decreases-loop-at → lts.After-advance reads.Pre reads.Post goal.the-invariant-loop-at goal.the-decreases-loop-at
-advanced_of c = c.before.before.before
+    let v = w c.before.before.before.before.before.before.before.before in
+    omega (arith, v.loop-at.invariant.0.few, v.loop-at-test.taken)
 
 pub loop-at-smaller : goal.loop-at-smaller
 loop-at-smaller c =
-    let a = advanced_of c.before.before.before in
-    let f = else_of a in
-    let v = w f in
+    let v = w c.before.before.before.before.before.before.before.before in
     let s = start_of v in
-    let r = rises (loop_of v).loop-at.invariant.0 s.requires.usables.0 s.requires.usables.1 v.action_of-opening.result (number_is_lem v) (inside v) (entry-is v)
-    f.if-count-k.left a.advance-next.ensures.advanced c.in-At.is in
+    let r = rises v.loop-at.invariant.0 s.requires.usables.0 s.requires.usables.1 v.action_of-opening.result (number_is_lem v) (inside v) (entry-is v)
+    c.if-count-k.left c.advance-next.ensures.advanced c.in-At.is in
     omega (arith, r.0, r.1, s.requires.usables.2)
 
 pub loop-at-preserved : goal.loop-at-preserved
 loop-at-preserved c =
-    let a = advanced_of c.before.before.before in
-    let f = else_of a in
-    let v = w f in
+    let v = w c.before.before.before.before.before.before.before.before in
     let s = start_of v in
-    let l = (loop_of v).loop-at in (
-      goes l.invariant.0 s.requires.usables.0 s.requires.usables.1 v.action_of-opening.result (number_is_lem v) (inside v) (entry-is v) f.if-count-k.left
-          a.advance-next.ensures.advanced c.in-At.is
+    let l = v.loop-at in (
+      goes l.invariant.0 s.requires.usables.0 s.requires.usables.1 v.action_of-opening.result (number_is_lem v) (inside v) (entry-is v) c.if-count-k.left
+          c.advance-next.ensures.advanced c.in-At.is
           (c.note.ensures ∙ ap (noted_at l.noted l.found) (sym v.wide-k.ensures)),
-      a.advance-next.ensures.times_len,
+      c.advance-next.ensures.times_len,
     )
 
 pub returns : goal.returns

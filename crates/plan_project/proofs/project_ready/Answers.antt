@@ -21,32 +21,28 @@ few s = (rows-ready s).actions_few
 pub openings_of-openings-requires : goal.openings_of-openings-requires
 openings_of-openings-requires c = let s = c.before.before.before in (few s, omega (arith, few s, (rows-ready s).marks_long))
 
-abbrev start_of : lts.After-openings_of reads.Pre reads.Post → lts.Start reads.Pre reads.Post
-start_of o = o.before.before.before
-
 pub offset_bounds-openings-count : goal.offset_bounds-openings-count
-offset_bounds-openings-count c = let h = few (start_of c.before) in search (rules, arith)
+offset_bounds-openings-count c = let h = few c.before.before.before.before in search (rules, arith)
 
 pub bounds-openings-count : goal.bounds-openings-count
-bounds-openings-count c = let h = few (start_of c.before) in search (rules, arith)
+bounds-openings-count c = let h = few c.before.before.before.before in search (rules, arith)
 
 pub put_openers-requires : goal.put_openers-requires
-put_openers-requires c = (refl, openable c.openings_of-openings.ensures (few (start_of c.before.before.before.before.before.before)))
+put_openers-requires c = (refl, openable c.openings_of-openings.ensures (few c.before.before.before.before.before.before.before.before.before))
 
 pub project_rows-requires : goal.project_rows-requires
 project_rows-requires c =
-    let s = start_of c.before.before.before.before.before.before.before.before.before.before.before in
-    let P = s.requires.posed in record { usables = (
-        rows-ready s,
+    let P = c.requires.posed in record { usables = (
+        rows-ready c.before.before.before.before.before.before.before.before.before.before.before.before.before.before,
         below P.rows c.openings_of-openings.ensures c.put_openers.ensures c.wide16-total.ensures,
-        s.requires.steps_value.0,
+        c.requires.steps_value.0,
         P.inside.shaped.modes_long,
-      ); kept = (kept P.rows c.openings_of-openings.ensures c.put_openers.ensures c.wide16-total.ensures P.inside P.start (plan_numbers s.args.plan.now)
-          (omega (arith, s.requires.steps_value)),) }
+      ); kept = (kept P.rows c.openings_of-openings.ensures c.put_openers.ensures c.wide16-total.ensures P.inside P.start (plan_numbers c.args.plan.now)
+          (omega (arith, c.requires.steps_value)),) }
 
 pub returns : goal.returns
 returns c =
     record {
       meets = λ P. projected-so P.rows c.openings_of-openings.ensures c.put_openers.ensures c.wide16-total.ensures P.inside P.start
-          (plan_numbers (start_of c.before.before.before.before.before.before.before.before.before.before.before.before.before.before).args.plan.now) c.project_rows.ensures;
+          (plan_numbers c.args.plan.now) c.project_rows.ensures;
     }

@@ -12,16 +12,13 @@ use Rattle.plan_project.proofs.put_sources.Goals as goal
 use Rattle.plan_project.proofs.put_sources.Lts as lts
 use Rattle.plan_project.proofs.put_sources.Reads as reads
 
-abbrev loop_of : lts.After-source_of reads.Pre reads.Post goal.the-invariant-loop-at goal.the-decreases-loop-at → lts.At-loop reads.Pre reads.Post goal.the-invariant-loop-at goal.the-decreases-loop-at
-loop_of w = w.before.before.before
-
 abbrev start_of : lts.After-source_of reads.Pre reads.Post goal.the-invariant-loop-at goal.the-decreases-loop-at → lts.Start reads.Pre reads.Post goal.the-invariant-loop-at goal.the-decreases-loop-at
-start_of w = (loop_of w).before.before.before
+start_of w = w.before.before.before.before
 
-number_is_lem : (w : lts.After-source_of reads.Pre reads.Post goal.the-invariant-loop-at goal.the-decreases-loop-at) → w.action_of-number.result ≡ get_or (plan_numbers (start_of w).args.plan.now) (loop_of w).loop-at.at 0
+number_is_lem : (w : lts.After-source_of reads.Pre reads.Post goal.the-invariant-loop-at goal.the-decreases-loop-at) → w.action_of-number.result ≡ get_or (plan_numbers (start_of w).args.plan.now) w.loop-at.at 0
 number_is_lem w = w.action_of-number.ensures
 
-inside : (w : lts.After-source_of reads.Pre reads.Post goal.the-invariant-loop-at goal.the-decreases-loop-at) → (loop_of w).loop-at.at < length (plan_numbers (start_of w).args.plan.now)
+inside : (w : lts.After-source_of reads.Pre reads.Post goal.the-invariant-loop-at goal.the-decreases-loop-at) → w.loop-at.at < length (plan_numbers (start_of w).args.plan.now)
 inside w = omega (arith, w.loop-at-test.true, (start_of w).requires.1)
 
 pub loop-at-init : goal.loop-at-init
@@ -32,7 +29,7 @@ action_of-number-requires c = omega (arith, halves_long c.args.plan.now, c.loop-
 
 pub put_number-place-requires : goal.put_number-place-requires
 put_number-place-requires c = let w = c.before.before.before in
-    room-here (loop_of w).loop-at.invariant (number_is_lem w) (inside w) w.source_of-source.ensures c.if-source-lt-NONE.true (start_of w).requires.0
+    room-here c.loop-at.invariant (number_is_lem w) (inside w) w.source_of-source.ensures c.if-source-lt-NONE.true (start_of w).requires.0
 
 pub overflow_add-at : goal.overflow_add-at
 overflow_add-at c = search (rules, arith)
@@ -42,11 +39,11 @@ loop-at-smaller-then-source-lt-NONE c = search (rules, arith)
 
 pub loop-at-preserved-then-source-lt-NONE : goal.loop-at-preserved-then-source-lt-NONE
 loop-at-preserved-then-source-lt-NONE c = let w = c.before.before.before.before.before.before in
-    puts (loop_of w).loop-at.invariant (number_is_lem w) (inside w) w.source_of-source.ensures c.if-source-lt-NONE.true c.put_number-place.ensures
+    puts c.loop-at.invariant (number_is_lem w) (inside w) w.source_of-source.ensures c.if-source-lt-NONE.true c.put_number-place.ensures
 
-past-run : (c : lts.After-matches_run reads.Pre reads.Post goal.the-invariant-loop-at goal.the-decreases-loop-at) → let w = c.before.before.before in (1 ≤ c.matches_run-at.result) × ((loop_of w).loop-at.at + c.matches_run-at.result ≤ length (plan_numbers (start_of w).args.plan.now))
+past-run : (c : lts.After-matches_run reads.Pre reads.Post goal.the-invariant-loop-at goal.the-decreases-loop-at) → (1 ≤ c.matches_run-at.result) × (c.loop-at.at + c.matches_run-at.result ≤ length (plan_numbers (start_of c.before.before.before).args.plan.now))
 past-run c = let w = c.before.before.before in
-    further (loop_of w).loop-at.invariant (number_is_lem w) (inside w) w.source_of-source.ensures c.if-source-lt-NONE.false (start_of w).args.steps (omega (arith, (start_of w).requires.1)) c.matches_run-at.ensures
+    further c.loop-at.invariant (number_is_lem w) (inside w) w.source_of-source.ensures c.if-source-lt-NONE.false (start_of w).args.steps (omega (arith, (start_of w).requires.1)) c.matches_run-at.ensures
 
 pub matches_run-at-requires : goal.matches_run-at-requires
 matches_run-at-requires c = omega (arith, inside c.before.before.before)
@@ -59,7 +56,7 @@ loop-at-smaller-then-number-last c = let w = c.before.before.before.before in om
 
 pub loop-at-preserved-then-number-last : goal.loop-at-preserved-then-number-last
 loop-at-preserved-then-number-last c = let w = c.before.before.before.before in
-    passes-run (loop_of w).loop-at.invariant (number_is_lem w) (inside w) w.source_of-source.ensures c.if-source-lt-NONE.false (start_of w).args.steps (omega (arith, (start_of w).requires.1)) c.matches_run-at.ensures
+    passes-run c.loop-at.invariant (number_is_lem w) (inside w) w.source_of-source.ensures c.if-source-lt-NONE.false (start_of w).args.steps (omega (arith, (start_of w).requires.1)) c.matches_run-at.ensures
 
 pub overflow_add-at-else-number-last : goal.overflow_add-at-else-number-last
 overflow_add-at-else-number-last c = search (rules, arith)
@@ -69,7 +66,7 @@ loop-at-smaller c = search (rules, arith)
 
 pub loop-at-preserved : goal.loop-at-preserved
 loop-at-preserved c = let w = c.before.before.before in
-    passes (loop_of w).loop-at.invariant (number_is_lem w) (inside w) w.source_of-source.ensures c.if-source-lt-NONE.false
+    passes c.loop-at.invariant (number_is_lem w) (inside w) w.source_of-source.ensures c.if-source-lt-NONE.false
 
 pub shape_of-out : goal.shape_of-out
 shape_of-out c = long c.loop-at.invariant.left

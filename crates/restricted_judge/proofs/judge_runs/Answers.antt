@@ -16,21 +16,8 @@ use Rattle.restricted_judge.proofs.judge_runs.Goals as goal
 use Rattle.restricted_judge.proofs.judge_runs.Lts as lts
 use Rattle.restricted_judge.proofs.judge_runs.Reads as reads
 
--- what went before: the entry, the loop's test, the test of the number, the slot's filling
-abbrev start_of : lts.At-loop reads.Pre reads.Post goal.the-invariant-loop-i goal.the-decreases-loop-i → lts.Start reads.Pre reads.Post goal.the-invariant-loop-i goal.the-decreases-loop-i
-start_of a = a.before.before.before.before.before
-
-abbrev loop_of : lts.Else1 reads.Pre reads.Post goal.the-invariant-loop-i goal.the-decreases-loop-i → lts.At-loop reads.Pre reads.Post goal.the-invariant-loop-i goal.the-decreases-loop-i
-loop_of e = e.before.before.before.before
-
-abbrev known_of : lts.After-keep_action reads.Pre reads.Post goal.the-invariant-loop-i goal.the-decreases-loop-i → lts.Else1 reads.Pre reads.Post goal.the-invariant-loop-i goal.the-decreases-loop-i
-known_of k = k.before.before.before.before.before
-
-abbrev kept_of : lts.After-take_run reads.Pre reads.Post goal.the-invariant-loop-i goal.the-decreases-loop-i → lts.After-keep_action reads.Pre reads.Post goal.the-invariant-loop-i goal.the-decreases-loop-i
-kept_of r = r.before.before.before.before.before.before.before.before.before
-
 -- the number is an action's
-known : (e : lts.Else1 reads.Pre reads.Post goal.the-invariant-loop-i goal.the-decreases-loop-i) → e.action_of-k.result < (start_of (loop_of e)).args.count
+known : (e : lts.Else1 reads.Pre reads.Post goal.the-invariant-loop-i goal.the-decreases-loop-i) → e.action_of-k.result < e.args.count
 known e = omega (arith, e.wide16-number.ensures, e.if-count-number.false)
 
 -- the slot, and what stands there
@@ -45,10 +32,10 @@ numbers_of k = get_or k.keep_action.new.numbers (slot_of k) []
 
 -- where a slot's row begins is said by 64 bits: a slice has fewer than 2^63 bytes
 fits-marks : (k : lts.After-keep_action reads.Pre reads.Post goal.the-invariant-loop-i goal.the-decreases-loop-i) → Fits w64 (slot_of k * 232)
-fits-marks k = let a = loop_of (known_of k) in omega (arith, k.slot_of-slot.ensures, a.loop-i.invariant.2, (start_of a).requires.in_bounds.1.marks_long, (start_of a).good.1.1.1.1.1.1.1.1.0)
+fits-marks k = omega (arith, k.slot_of-slot.ensures, k.loop-i.invariant.2, k.requires.in_bounds.1.marks_long, k.good.1.1.1.1.1.1.1.1.0)
 
 fits-numbers : (k : lts.After-keep_action reads.Pre reads.Post goal.the-invariant-loop-i goal.the-decreases-loop-i) → Fits w64 (slot_of k * 320)
-fits-numbers k = let a = loop_of (known_of k) in omega (arith, k.slot_of-slot.ensures, a.loop-i.invariant.2, (start_of a).requires.in_bounds.1.numbers_long, (start_of a).good.1.1.1.1.1.1.1.1.1.0)
+fits-numbers k = omega (arith, k.slot_of-slot.ensures, k.loop-i.invariant.2, k.requires.in_bounds.1.numbers_long, k.good.1.1.1.1.1.1.1.1.1.0)
 
 pub loop-i-init : goal.loop-i-init
 loop-i-init c = (walk_start c.requires.accepted_plan.0 c.requires.accepted_plan.1 c.requires.accepted_plan.2, c.requires.in_bounds.1, refl)
@@ -60,21 +47,20 @@ pub shape_of-tags-then-count-number : goal.shape_of-tags-then-count-number
 shape_of-tags-then-count-number c = c.loop-i.invariant.2
 
 pub shape_of-marks-then-count-number : goal.shape_of-marks-then-count-number
-shape_of-marks-then-count-number c = omega (arith, c.loop-i.invariant.1.marks_long, c.loop-i.invariant.2, (start_of c.before.before.before.before.before).requires.in_bounds.1.marks_long)
+shape_of-marks-then-count-number c = omega (arith, c.loop-i.invariant.1.marks_long, c.loop-i.invariant.2, c.requires.in_bounds.1.marks_long)
 
 pub shape_of-numbers-then-count-number : goal.shape_of-numbers-then-count-number
-shape_of-numbers-then-count-number c = omega (arith, c.loop-i.invariant.1.numbers_long, c.loop-i.invariant.2, (start_of c.before.before.before.before.before).requires.in_bounds.1.numbers_long)
+shape_of-numbers-then-count-number c = omega (arith, c.loop-i.invariant.1.numbers_long, c.loop-i.invariant.2, c.requires.in_bounds.1.numbers_long)
 
 pub returns-then-count-number : goal.returns-then-count-number
 returns-then-count-number c = walk-no-action c.loop-i.invariant.0 c.action_of-k.result c.action_of-k.ensures c.loop-i-test.true (omega (arith, c.wide16-number.ensures, c.if-count-number.true)) _
 
 pub slot_of-slot-requires : goal.slot_of-slot-requires
-slot_of-slot-requires c = omega (arith, (loop_of c.before).loop-i.invariant.2, (start_of (loop_of c.before)).requires.in_bounds.0)
+slot_of-slot-requires c = omega (arith, c.loop-i.invariant.2, c.requires.in_bounds.0)
 
 pub keep_action-requires : goal.keep_action-requires
-keep_action-requires c = let e = c.before.before.before.before.before in
-    let v = (loop_of e).loop-i.invariant in
-    (v.0.placed, known e, c.slot_of-slot.ensures, v.1)
+keep_action-requires c = let v = c.loop-i.invariant in
+    (v.0.placed, known c.before.before.before.before.before, c.slot_of-slot.ensures, v.1)
 
 pub offset_bounds-marks-slot : goal.offset_bounds-marks-slot
 offset_bounds-marks-slot c = fits-marks c.before.before.before.before.before.before.before
@@ -84,43 +70,41 @@ offset_bounds-numbers-slot c = fits-numbers c.before.before.before.before.before
 
 pub take_run-run-requires : goal.take_run-run-requires
 take_run-run-requires c = let k = c.before.before.before.before.before.before.before.before.before in
-    let e = known_of k in
-    walk_can (loop_of e).loop-i.invariant.0 e.action_of-k.result e.action_of-k.ensures e.loop-i-test.taken (known e) (marks_of k) (numbers_of k) k.keep_action.ensures.is
+    walk_can c.loop-i.invariant.0 c.action_of-k.result c.action_of-k.ensures c.loop-i-test.taken (known c.before.before.before.before.before.before.before.before.before.before.before.before.before.before) (marks_of k) (numbers_of k) k.keep_action.ensures.is
 
 pub shape_of-tags-in-Stopped : goal.shape_of-tags-in-Stopped
-shape_of-tags-in-Stopped c = let k = kept_of c.before.before in k.keep_action.ensures.slots_are ∙ (loop_of (known_of k)).loop-i.invariant.2
+shape_of-tags-in-Stopped c = c.keep_action.ensures.slots_are ∙ c.loop-i.invariant.2
 
 pub shape_of-marks-in-Stopped : goal.shape_of-marks-in-Stopped
-shape_of-marks-in-Stopped c = let k = kept_of c.before.before in let a = loop_of (known_of k) in omega (arith, k.keep_action.ensures.held.marks_long, k.keep_action.ensures.slots_are, a.loop-i.invariant.2, (start_of a).requires.in_bounds.1.marks_long)
+shape_of-marks-in-Stopped c = omega (arith, c.keep_action.ensures.held.marks_long, c.keep_action.ensures.slots_are, c.loop-i.invariant.2, c.requires.in_bounds.1.marks_long)
 
 pub shape_of-numbers-in-Stopped : goal.shape_of-numbers-in-Stopped
-shape_of-numbers-in-Stopped c = let k = kept_of c.before.before in let a = loop_of (known_of k) in omega (arith, k.keep_action.ensures.held.numbers_long, k.keep_action.ensures.slots_are, a.loop-i.invariant.2, (start_of a).requires.in_bounds.1.numbers_long)
+shape_of-numbers-in-Stopped c = omega (arith, c.keep_action.ensures.held.numbers_long, c.keep_action.ensures.slots_are, c.loop-i.invariant.2, c.requires.in_bounds.1.numbers_long)
 
 pub returns-in-Stopped : goal.returns-in-Stopped
-returns-in-Stopped c = let k = kept_of c.before.before in
-    let e = known_of k in
-    walk-stops (loop_of e).loop-i.invariant.0 e.action_of-k.result e.action_of-k.ensures e.loop-i-test.taken (known e) (marks_of k) (numbers_of k) k.keep_action.ensures.is (rw c.in-Stopped.is at c.take_run-run.ensures) _
+returns-in-Stopped c = let k = c.before.before.before.before.before.before.before.before.before.before.before in
+    walk-stops c.loop-i.invariant.0 c.action_of-k.result c.action_of-k.ensures c.loop-i-test.taken (known c.before.before.before.before.before.before.before.before.before.before.before.before.before.before.before.before) (marks_of k) (numbers_of k) k.keep_action.ensures.is (rw c.in-Stopped.is at c.take_run-run.ensures) _
 
 pub loop-i-smaller : goal.loop-i-smaller
 loop-i-smaller c = let R = rw c.in-Until.is at c.take_run-run.ensures in
-    omega (arith, R.onward, R.bound, (known_of (kept_of c.before.before)).before.before.before.loop-i-test.taken)
+    omega (arith, R.onward, R.bound, c.loop-i-test.taken)
 
 pub loop-i-preserved : goal.loop-i-preserved
-loop-i-preserved c = let k = kept_of c.before.before in
-    let e = known_of k in (
-      walk-next (loop_of e).loop-i.invariant.0 e.action_of-k.result e.action_of-k.ensures e.loop-i-test.taken (known e) (marks_of k) (numbers_of k) k.keep_action.ensures.is (rw c.in-Until.is at c.take_run-run.ensures),
+loop-i-preserved c = let k = c.before.before.before.before.before.before.before.before.before.before.before in
+    (
+      walk-next c.loop-i.invariant.0 c.action_of-k.result c.action_of-k.ensures c.loop-i-test.taken (known c.before.before.before.before.before.before.before.before.before.before.before.before.before.before.before.before) (marks_of k) (numbers_of k) k.keep_action.ensures.is (rw c.in-Until.is at c.take_run-run.ensures),
       k.keep_action.ensures.held,
-      k.keep_action.ensures.slots_are ∙ (loop_of e).loop-i.invariant.2,
+      k.keep_action.ensures.slots_are ∙ c.loop-i.invariant.2,
     )
 
 pub shape_of-tags : goal.shape_of-tags
 shape_of-tags c = c.loop-i.invariant.2
 
 pub shape_of-marks : goal.shape_of-marks
-shape_of-marks c = omega (arith, c.loop-i.invariant.1.marks_long, c.loop-i.invariant.2, (start_of c.before.before).requires.in_bounds.1.marks_long)
+shape_of-marks c = omega (arith, c.loop-i.invariant.1.marks_long, c.loop-i.invariant.2, c.requires.in_bounds.1.marks_long)
 
 pub shape_of-numbers : goal.shape_of-numbers
-shape_of-numbers c = omega (arith, c.loop-i.invariant.1.numbers_long, c.loop-i.invariant.2, (start_of c.before.before).requires.in_bounds.1.numbers_long)
+shape_of-numbers c = omega (arith, c.loop-i.invariant.1.numbers_long, c.loop-i.invariant.2, c.requires.in_bounds.1.numbers_long)
 
 pub returns : goal.returns
 returns c = walk_ends c.loop-i.invariant.0 c.loop-i-test.false

@@ -15,17 +15,10 @@ use Rattle.restricted_state.proofs.try_step.Goals as goal
 use Rattle.restricted_state.proofs.try_step.Lts as lts
 use Rattle.restricted_state.proofs.try_step.Reads as reads
 
--- the tests before the step have passed
-abbrev sound_of : lts.After-copy_front reads.Pre reads.Post → lts.Else2 reads.Pre reads.Post
-sound_of f = f.before.before.before
-
-abbrev start_of : lts.Else2 reads.Pre reads.Post → lts.Start reads.Pre reads.Post
-start_of e = e.before.before.before.before.before.before
-
-within : (e : lts.Else2 reads.Pre reads.Post) → let s = (start_of e).args in values_within figure (take s.n s.values.now) ≡ true
+within : (e : lts.Else2 reads.Pre reads.Post) → let s = e.args in values_within figure (take s.n s.values.now) ≡ true
 within e = sym e.values_within.ensures ∙ not-false _ (ap not e.if-not-values_within.false)
 
-below : (e : lts.Else2 reads.Pre reads.Post) → let s = (start_of e).args in modes_below_sizes (take s.m s.sizes.now) (take s.m s.modes.now) ≡ true
+below : (e : lts.Else2 reads.Pre reads.Post) → let s = e.args in modes_below_sizes (take s.m s.sizes.now) (take s.m s.modes.now) ≡ true
 below e = sym e.modes_below.ensures ∙ not-false _ (ap not e.if-not-modes_below.false)
 
 pub returns-then-not-values_within : goal.returns-then-not-values_within
@@ -38,31 +31,25 @@ returns-then-not-modes_below c =
 
 pub take-requires : goal.take-requires
 take-requires c =
-    let e = sound_of c.before.before in
-    let s = start_of e in
-    rw c.copy_front.ensures (can-take s.requires.2 s.args.values.now s.args.modes.now s.requires.0 s.requires.1 (within e))
+    rw c.copy_front.ensures (can-take c.requires.2 c.args.values.now c.args.modes.now c.requires.0 c.requires.1 (within c.before.before.before.before))
 
 pub returns-then-not-take : goal.returns-then-not-take
 returns-then-not-take c =
-    let e = sound_of c.before.before.before.before in
-    let s = start_of e in
-    step-stops s.requires.2 s.args.values.now s.args.modes.now s.requires.0 s.requires.1 (within e) (below e)
+    let e = c.before.before.before.before.before.before in
+    step-stops c.requires.2 c.args.values.now c.args.modes.now c.requires.0 c.requires.1 (within e) (below e)
     (rw c.copy_front.ensures at (rw (not-true c.take.result (ap not c.if-not-take.true)) at c.take.ensures))
 
 -- the step by rows was taken
-went : (c : lts.Else3 reads.Pre reads.Post) → let e = sound_of c.before.before.before.before in let s = start_of e in
-    some (state_of c.take.new.values c.take.new.modes) ≡ step_by (row_is s.args.marks.now s.args.numbers.now) (state_of (front s.args.n s.args.values.now) s.args.modes.now)
+went : (c : lts.Else3 reads.Pre reads.Post) → some (state_of c.take.new.values c.take.new.modes) ≡ step_by (row_is c.args.marks.now c.args.numbers.now) (state_of (front c.args.n c.args.values.now) c.args.modes.now)
 went c =
     rw c.copy_front.ensures at (rw (not-false c.take.result (ap not c.if-not-take.false)) at c.take.ensures)
 
 pub copy_front-requires-2 : goal.copy_front-requires-2
 copy_front-requires-2 c =
-    let e = sound_of c.before.before.before.before.before.before in
-    let s = start_of e in
-    (s.requires.2.variables_few, s.requires.0, front_long s.requires.2 s.args.values.now s.args.modes.now s.requires.0 s.requires.1 (within e) (below e) (went c.before.before))
+    let e = c.before.before.before.before.before.before.before.before in
+    (c.requires.2.variables_few, c.requires.0, front_long c.requires.2 c.args.values.now c.args.modes.now c.requires.0 c.requires.1 (within e) (below e) (went c.before.before))
 
 pub returns : goal.returns
 returns c =
-    let e = sound_of c.before.before.before.before.before.before.before in
-    let s = start_of e in
-    rw c.copy_front-2.ensures (step-goes s.requires.2 s.args.values.now s.args.modes.now s.requires.0 s.requires.1 (within e) (below e) (went c.before.before.before))
+    let e = c.before.before.before.before.before.before.before.before.before in
+    rw c.copy_front-2.ensures (step-goes c.requires.2 c.args.values.now c.args.modes.now c.requires.0 c.requires.1 (within e) (below e) (went c.before.before.before))

@@ -23,19 +23,20 @@ use mathlib.Core.Bool.{not}
 use Rattle.restricted_step.proofs.add_times.Goals as goal
 use Rattle.restricted_step.proofs.add_times.Lts as lts
 use Rattle.restricted_step.proofs.add_times.Reads as reads
+use Rattle.restricted_step.proofs.add_times.Tie as tie
 
 pub loop-i-init : goal.loop-i-init
 loop-i-init c = sum-start c.requires.0
 
 -- the loop is at an addition of the rows
-inside : (c : lts.In-loop reads.Pre reads.Post goal.the-invariant-loop-i goal.the-decreases-loop-i) → c.loop-i.i < natural_at c.args.marks.now addition_count
+inside : (c : lts.In-loop tie.the-claims reads.Pre reads.Post goal.the-invariant-loop-i goal.the-decreases-loop-i) → c.loop-i.i < natural_at c.args.marks.now addition_count
 inside c = omega (arith, c.loop-i-test.true, c.wide-count.ensures)
 
-place : (c : lts.In-loop reads.Pre reads.Post goal.the-invariant-loop-i goal.the-decreases-loop-i) → c.loop-i.i < addition_room
+place : (c : lts.In-loop tie.the-claims reads.Pre reads.Post goal.the-invariant-loop-i goal.the-decreases-loop-i) → c.loop-i.i < addition_room
 place c = omega (arith, inside c, c.requires.0.usable.additions.few)
 
 -- the sum that it makes
-abbrev sum_here : lts.In-loop reads.Pre reads.Post goal.the-invariant-loop-i goal.the-decreases-loop-i → ℤ
+abbrev sum_here : lts.In-loop tie.the-claims reads.Pre reads.Post goal.the-invariant-loop-i goal.the-decreases-loop-i → ℤ
 sum_here c = sum_at c.args.marks.now c.args.numbers.now c.args.times c.loop-i.values c.loop-i.i
 
 pub overflow_add-i : goal.overflow_add-i
@@ -48,10 +49,10 @@ pub bounds-marks-i : goal.bounds-marks-i
 bounds-marks-i c = omega (arith, place c.before.before)
 
 -- the variable that it adds to
-variable-is : (c : lts.After-wide2 reads.Pre reads.Post goal.the-invariant-loop-i goal.the-decreases-loop-i) → c.wide-variable.result ≡ natural_at c.args.marks.now (addition_variable + c.loop-i.i)
+variable-is : (c : lts.After-wide2 tie.the-claims reads.Pre reads.Post goal.the-invariant-loop-i goal.the-decreases-loop-i) → c.wide-variable.result ≡ natural_at c.args.marks.now (addition_variable + c.loop-i.i)
 variable-is c = c.wide-variable.ensures
 
-variable-below : (c : lts.After-wide2 reads.Pre reads.Post goal.the-invariant-loop-i goal.the-decreases-loop-i) → c.wide-variable.result < VARIABLES
+variable-below : (c : lts.After-wide2 tie.the-claims reads.Pre reads.Post goal.the-invariant-loop-i goal.the-decreases-loop-i) → c.wide-variable.result < VARIABLES
 variable-below c = omega (arith, variable-is c, c.requires.0.usable.additions.below c.loop-i.i (inside c.before.before.before))
 
 pub offset_bounds-values-variable : goal.offset_bounds-values-variable
@@ -70,7 +71,7 @@ pub bounds-numbers-i : goal.bounds-numbers-i
 bounds-numbers-i c = omega (arith, place c.before.before.before.before.before)
 
 -- what is added, and what it is added to
-module _ (c : lts.After-plus_times-arg2 reads.Pre reads.Post goal.the-invariant-loop-i goal.the-decreases-loop-i) where
+module _ (c : lts.After-plus_times-arg2 tie.the-claims reads.Pre reads.Post goal.the-invariant-loop-i goal.the-decreases-loop-i) where
   value-small : Within figure (get_or c.loop-i.values c.wide-variable.result (pos 0))
   value-small = record { within = leb-true _ _ (within-at figure c.loop-i.values c.loop-i.invariant.within c.wide-variable.result) }
 
@@ -92,11 +93,11 @@ module _ (c : lts.After-plus_times-arg2 reads.Pre reads.Post goal.the-invariant-
 pub plus_times-sum-requires : goal.plus_times-sum-requires
 plus_times-sum-requires c = simp (to_z-of_z (value-fits c.before), to_z-of_z (times-fits c.before), to_z-of_z (amount-fits c.before)) (value-small c.before, times-small c.before, amount-small c.before)
 
-sum_is : (c : lts.After-plus_times reads.Pre reads.Post goal.the-invariant-loop-i goal.the-decreases-loop-i) → c.plus_times-sum.result ≡ sum_here c.before.before.before.before.before.before
+sum_is : (c : lts.After-plus_times tie.the-claims reads.Pre reads.Post goal.the-invariant-loop-i goal.the-decreases-loop-i) → c.plus_times-sum.result ≡ sum_here c.before.before.before.before.before.before
 sum_is c = rw (c.signed-many.ensures, variable-is c.before.before.before) at (simp (to_z-of_z (value-fits c.before), to_z-of_z (times-fits c.before), to_z-of_z (amount-fits c.before)) at c.plus_times-sum.ensures)
 
 -- whether the sum lies within the figure
-test-is : (c : lts.After-is_within reads.Pre reads.Post goal.the-invariant-loop-i goal.the-decreases-loop-i) → c.is_within.result ≡ within_limit figure (sum_here c.before.before.before.before.before.before.before)
+test-is : (c : lts.After-is_within tie.the-claims reads.Pre reads.Post goal.the-invariant-loop-i goal.the-decreases-loop-i) → c.is_within.result ≡ within_limit figure (sum_here c.before.before.before.before.before.before.before)
 test-is c =
     let p : SFits w64 c.plus_times-sum.result = search rules in
     (simp (to_z-of_z p) at c.is_within.ensures) ∙ ap (within_limit figure) (sum_is c.before)

@@ -18,6 +18,7 @@ use mathlib.Core.Bool.{not}
 use Rattle.restricted_step.proofs.conditions_hold.Goals as goal
 use Rattle.restricted_step.proofs.conditions_hold.Lts as lts
 use Rattle.restricted_step.proofs.conditions_hold.Reads as reads
+use Rattle.restricted_step.proofs.conditions_hold.Tie as tie
 
 pub loop-i-init : goal.loop-i-init
 loop-i-init c = test-start c.wide-count.ensures
@@ -29,7 +30,7 @@ pub offset_bounds-marks-i : goal.offset_bounds-marks-i
 offset_bounds-marks-i c = search (rules, arith)
 
 -- the variable that a condition names is one that a task may declare
-named : (c : lts.After-wide2 reads.Pre reads.Post goal.the-invariant-loop-i goal.the-decreases-loop-i) → c.wide.result < VARIABLES
+named : (c : lts.After-wide2 tie.the-claims reads.Pre reads.Post goal.the-invariant-loop-i goal.the-decreases-loop-i) → c.wide.result < VARIABLES
 named c =
     let i = c.loop-i.i in
     let l : i < natural_at c.args.marks.now condition_count = omega arith in
@@ -50,35 +51,24 @@ offset_bounds-marks-i-in-loop-i c = search (rules, arith)
 pub offset_bounds-numbers-i : goal.offset_bounds-numbers-i
 offset_bounds-numbers-i c = search (rules, arith)
 
--- one turn tests one condition
-abbrev value_of : lts.After-relation_holds reads.Pre reads.Post goal.the-invariant-loop-i goal.the-decreases-loop-i → lts.After-value reads.Pre reads.Post goal.the-invariant-loop-i goal.the-decreases-loop-i
-value_of c = c.before.before.before
-
-abbrev loop_of : lts.After-value reads.Pre reads.Post goal.the-invariant-loop-i goal.the-decreases-loop-i → lts.In-loop reads.Pre reads.Post goal.the-invariant-loop-i goal.the-decreases-loop-i
-loop_of v = v.before.before.before
-
-turn : (c : lts.After-relation_holds reads.Pre reads.Post goal.the-invariant-loop-i goal.the-decreases-loop-i) → let h = loop_of (value_of c) in let s = h.args in
-    condition_holds (integer_at s.values.now) (condition_in s.marks.now s.numbers.now h.loop-i.i) ≡ c.relation_holds.result
+turn : (c : lts.After-relation_holds tie.the-claims reads.Pre reads.Post goal.the-invariant-loop-i goal.the-decreases-loop-i) → let s = c.args in
+    condition_holds (integer_at s.values.now) (condition_in s.marks.now s.numbers.now c.loop-i.i) ≡ c.relation_holds.result
 turn c =
-    let w = (value_of c).before in
-    let h = loop_of (value_of c) in
-    let s = h.args in
-    let v : SFits w64 (integer_at s.values.now w.wide.result) = search rules in
-    let k : SFits w64 (integer_at s.numbers.now h.loop-i.i) = search rules in
-    rw (sym w.wide.ensures) (sym (simp (to_z-of_z v, to_z-of_z k) at c.relation_holds.ensures))
+    let s = c.args in
+    let v : SFits w64 (integer_at s.values.now c.wide.result) = search rules in
+    let k : SFits w64 (integer_at s.numbers.now c.loop-i.i) = search rules in
+    rw (sym c.wide.ensures) (sym (simp (to_z-of_z v, to_z-of_z k) at c.relation_holds.ensures))
 
 pub returns-then-not-relation_holds : goal.returns-then-not-relation_holds
 returns-then-not-relation_holds c =
-    let h = loop_of (value_of c.before.before) in
-    rw conditions-every (test-stop h.loop-i.invariant h.loop-i-test.taken (turn c.before.before ∙ not-true _ (ap not c.if-not-relation_holds.true)))
+    rw conditions-every (test-stop c.loop-i.invariant c.loop-i-test.true (turn c.before.before ∙ not-true _ (ap not c.if-not-relation_holds.true)))
 
 pub overflow_add-i-in-loop-i : goal.overflow_add-i-in-loop-i
 overflow_add-i-in-loop-i c = search (rules, arith)
 
 pub loop-i-preserved : goal.loop-i-preserved
 loop-i-preserved c =
-    let h = loop_of (value_of c.before.before) in
-    test-next h.loop-i.invariant h.loop-i-test.taken (turn c.before.before ∙ not-false _ (ap not c.if-not-relation_holds.false))
+    test-next c.loop-i.invariant c.loop-i-test.true (turn c.before.before ∙ not-false _ (ap not c.if-not-relation_holds.false))
 
 pub returns : goal.returns
 returns c = rw conditions-every (test-end c.loop-i.invariant c.loop-i-test.false)

@@ -13,6 +13,7 @@ use borrow.Author.Rules.{rules}
 use Rattle.restricted_step.proofs.modes_hold.Goals as goal
 use Rattle.restricted_step.proofs.modes_hold.Lts as lts
 use Rattle.restricted_step.proofs.modes_hold.Reads as reads
+use Rattle.restricted_step.proofs.modes_hold.Tie as tie
 
 pub loop-i-init : goal.loop-i-init
 loop-i-init c = test-start c.wide-count.ensures
@@ -24,7 +25,7 @@ pub offset_bounds-marks-i : goal.offset_bounds-marks-i
 offset_bounds-marks-i c = search (rules, arith)
 
 -- the mode that a condition names is one that a task may declare
-named : (c : lts.After-wide2 reads.Pre reads.Post goal.the-invariant-loop-i goal.the-decreases-loop-i) → c.wide.result < MODES
+named : (c : lts.After-wide2 tie.the-claims reads.Pre reads.Post goal.the-invariant-loop-i goal.the-decreases-loop-i) → c.wide.result < MODES
 named c =
     let i = c.loop-i.i in
     let l : i < natural_at c.args.marks.now mode_condition_count = omega arith in

@@ -12,6 +12,7 @@ use borrow.Author.Rules.{rules}
 use Rattle.restricted_step.proofs.set_all.Goals as goal
 use Rattle.restricted_step.proofs.set_all.Lts as lts
 use Rattle.restricted_step.proofs.set_all.Reads as reads
+use Rattle.restricted_step.proofs.set_all.Tie as tie
 
 pub loop-i-init : goal.loop-i-init
 loop-i-init c = change-start c.wide-count.ensures
@@ -29,7 +30,7 @@ pub offset_bounds-marks-i-in-loop-i : goal.offset_bounds-marks-i-in-loop-i
 offset_bounds-marks-i-in-loop-i c = search (rules, arith)
 
 -- the mode that an effect names is one that a task may declare
-named : (c : lts.After-wide2 reads.Pre reads.Post goal.the-invariant-loop-i goal.the-decreases-loop-i) → c.wide.result < MODES
+named : (c : lts.After-wide2 tie.the-claims reads.Pre reads.Post goal.the-invariant-loop-i goal.the-decreases-loop-i) → c.wide.result < MODES
 named c =
     let i = c.loop-i.i in
     let l : i < natural_at c.args.marks.now mode_effect_count = omega arith in

@@ -22,34 +22,18 @@ use Rattle.source_ready.proofs.prepare.Goals as goal
 use Rattle.source_ready.proofs.prepare.Lts as lts
 use Rattle.source_ready.proofs.prepare.Reads as reads
 
--- the bytes of the file, and how few actions it has
+-- the bytes of the file, and how few it.before has
 bytes_of : (a : lts.After-shared_slice_known reads.Pre reads.Post) → Bytes a.args.file.now
 bytes_of a = bytes-of a.args.file.now (λ i. omega (arith, a.shared_slice_known-1.given i))
 
 few : (a : lts.After-shared_slice_known reads.Pre reads.Post) → a.args.count ≤ 32
 few a = few-actions a.args.file.now a.args.count (bytes_of a) a.requires.0
 
--- what was called before
-abbrev known : lts.After-action_places reads.Pre reads.Post → lts.After-shared_slice_known reads.Pre reads.Post
-known a = a.before.before
-
-abbrev placed : lts.After-find_sums reads.Pre reads.Post → lts.After-action_places reads.Pre reads.Post
-placed f = f.before.before.before.before
-
-abbrev found : lts.After-prepare_actions reads.Pre reads.Post → lts.After-find_sums reads.Pre reads.Post
-found p = p.before.before.before.before
-
-abbrev actions : lts.After-decode_goal reads.Pre reads.Post → lts.After-prepare_actions reads.Pre reads.Post
-actions d = d.before.before.before.before.before.before
-
-abbrev goal : lts.After-goal_from reads.Pre reads.Post → lts.After-decode_goal reads.Pre reads.Post
-goal g = g.before.before
-
 -- where nothing is called yet
 abbrev start : lts.After-prepare_actions reads.Pre reads.Post → lts.After-shared_slice_known reads.Pre reads.Post
-start p = known (placed (found p))
+start p = p.before
 
--- the table of marks, and that of numbers, when the rows of the actions are made
+-- the table of marks, and that of numbers, when the rows of the are.before made
 abbrev marks_then : lts.After-prepare_actions reads.Pre reads.Post → List (List ℕ)
 marks_then p = p.prepare_actions-first.new.marks
 
@@ -58,57 +42,51 @@ numbers_then p = p.prepare_actions-first.new.numbers
 
 -- the place of the goal
 goal-at : (p : lts.After-prepare_actions reads.Pre reads.Post)
-    → let s = (start p).before in natural_at (placed (found p)).action_places.new.places s.args.count ≡ edge_of s.args.file.now s.args.count
+    → let s = (start p).before in natural_at p.action_places.new.places s.args.count ≡ edge_of s.args.file.now s.args.count
 goal-at p =
     let a = start p in
     let s = a.before in
-    ap (λ (l : List ℕ). natural_at l s.args.count) (placed (found p)).action_places.ensures
+    ap (λ (l : List ℕ). natural_at l s.args.count) p.action_places.ensures
     ∙ goal-placed s.args.file.now (bytes_of a) s.args.count s.args.n s.args.lower.now s.args.upper.now s.args.m
     s.args.sizes.now s.requires.0 s.requires.1
 
 -- its bytes
 goal-is : (g : lts.After-goal_from reads.Pre reads.Post)
-    → let s = (start (actions (goal g))).before in g.goal_from.result.now ≡ goal_part s.args.file.now s.args.count
+    → let s = (start g.before.before.before.before.before.before.before.before).before in g.goal_from.result.now ≡ goal_part s.args.file.now s.args.count
 goal-is g =
-    let p = actions (goal g) in
+    let p = g.before.before.before.before.before.before.before.before in
     g.goal_from.ensures ∙ ap (goal_from (start p).before.args.file.now) (goal-at p)
 
 -- its conditions on sums
 named : (o : lts.After-name_own reads.Pre reads.Post)
-    → let p = actions (goal o.before) in
-    let s = (start p).before in
-    OwnNamed (sum_conditions_of (decode_action (goal_part s.args.file.now s.args.count))) p.prepare_actions-first.result o.name_own.new.marks
+    → let s = (start o.before.before.before.before.before.before.before.before.before).before in
+    OwnNamed (sum_conditions_of (decode_action (goal_part s.args.file.now s.args.count))) o.prepare_actions-first.result o.name_own.new.marks
     o.name_own.result
 named o =
-    let p = actions (goal o.before) in
-    subst (λ (z : List ℕ). OwnNamed (sum_conditions_of (decode_action z)) p.prepare_actions-first.result o.name_own.new.marks o.name_own.result)
+    subst (λ (z : List ℕ). OwnNamed (sum_conditions_of (decode_action z)) o.prepare_actions-first.result o.name_own.new.marks o.name_own.result)
     (goal-is o.before) o.name_own.ensures
 
 pub find_sums-total-requires : goal.find_sums-total-requires
 find_sums-total-requires c =
-    let a = known c.before.before.before.before in
-    let s = a.before in (
-      s.requires.0,
+    (
+      c.requires.0,
       λ k l. rw c.action_places.ensures
-          (places_of s.args.file.now (bytes_of a) s.args.count s.args.n s.args.lower.now s.args.upper.now s.args.m
-          s.args.sizes.now s.requires.0 s.requires.1 k l),
-      blank-numbers-at s.requires.3 sums_row (omega arith),
+          (places_of c.args.file.now (bytes_of c.before.before.before.before.before.before) c.args.count c.args.n c.args.lower.now c.args.upper.now c.args.m
+          c.args.sizes.now c.requires.0 c.requires.1 k l),
+      blank-numbers-at c.requires.3 sums_row (omega arith),
     )
 
 pub prepare_actions-first-requires : goal.prepare_actions-first-requires
 prepare_actions-first-requires c =
-    let f = c.before.before.before.before in
-    let a = known (placed f) in
-    let s = a.before in
-    let put = sums-put s.args.numbers.now f.find_sums-total.new.sums (blank-numbers-long s.requires.3) in (
-      s.requires.0,
-      s.requires.1,
-      rw (placed f).action_places.ensures
-          (all_placed s.args.file.now (bytes_of a) s.args.count s.args.n s.args.lower.now s.args.upper.now s.args.m
-          s.args.sizes.now s.requires.0 s.requires.1),
-      blank-but-sums s.requires.2 s.requires.3 f.find_sums-total.new.sums,
-      subst⁻¹ (λ (z : List ℤ). SumsOf s.args.file.now f.find_sums-total.result z) put f.find_sums-total.ensures.0,
-      subst⁻¹ (λ (z : List ℤ). SumsAsk s.args.file.now s.args.count f.find_sums-total.result z) put f.find_sums-total.ensures.1,
+    let put = sums-put c.args.numbers.now c.find_sums-total.new.sums (blank-numbers-long c.requires.3) in (
+      c.requires.0,
+      c.requires.1,
+      rw c.action_places.ensures
+          (all_placed c.args.file.now (bytes_of c.before.before.before.before.before.before.before.before.before.before) c.args.count c.args.n c.args.lower.now c.args.upper.now c.args.m
+          c.args.sizes.now c.requires.0 c.requires.1),
+      blank-but-sums c.requires.2 c.requires.3 c.find_sums-total.new.sums,
+      subst⁻¹ (λ (z : List ℤ). SumsOf c.args.file.now c.find_sums-total.result z) put c.find_sums-total.ensures.0,
+      subst⁻¹ (λ (z : List ℤ). SumsAsk c.args.file.now c.args.count c.find_sums-total.result z) put c.find_sums-total.ensures.1,
     )
 
 pub decode_goal-goal-requires : goal.decode_goal-goal-requires
@@ -117,62 +95,53 @@ decode_goal-goal-requires c =
     (few (start p), goal-at p, refl, refl)
 
 pub offset_bounds-marks-count : goal.offset_bounds-marks-count
-offset_bounds-marks-count c = omega (arith, few (start (actions c.before)))
+offset_bounds-marks-count c = omega (arith, few (start c.before.before.before.before.before.before.before))
 
 pub offset_bounds-places-count : goal.offset_bounds-places-count
-offset_bounds-places-count c = omega (arith, few (start (actions c.before.before)))
+offset_bounds-places-count c = omega (arith, few (start c.before.before.before.before.before.before.before.before))
 
 pub bounds-places-count : goal.bounds-places-count
-bounds-places-count c = omega (arith, few (start (actions c.before.before)))
+bounds-places-count c = omega (arith, few (start c.before.before.before.before.before.before.before.before))
 
 pub name_own-requires : goal.name_own-requires
 name_own-requires c =
-    let p = actions (goal c.before) in
-    let a = start p in
+    let a = start c.before.before.before.before.before.before.before.before.before in
     let s = a.before in (
-      p.prepare_actions-first.ensures.blank.marks_blank s.args.count (omega arith) (omega (arith, few a)),
-      subst⁻¹ (λ (z : List ℕ). OwnBehind (sum_conditions_of (decode_action z)) (found p).find_sums-total.result p.prepare_actions-first.result) (goal-is c.before)
+      c.prepare_actions-first.ensures.blank.marks_blank s.args.count (omega arith) (omega (arith, few a)),
+      subst⁻¹ (λ (z : List ℕ). OwnBehind (sum_conditions_of (decode_action z)) c.find_sums-total.result c.prepare_actions-first.result) (goal-is c.before)
           (goal-behind s.args.file.now (bytes_of a) s.args.count s.args.n s.args.lower.now s.args.upper.now s.args.m
-          s.args.sizes.now s.requires.0 s.requires.1 p.prepare_actions-first.ensures),
+          s.args.sizes.now s.requires.0 s.requires.1 c.prepare_actions-first.ensures),
     )
 
 pub offset_bounds-marks-count-2 : goal.offset_bounds-marks-count-2
-offset_bounds-marks-count-2 c = omega (arith, few (start (actions (goal c.before.before))))
+offset_bounds-marks-count-2 c = omega (arith, few (start c.before.before.before.before.before.before.before.before.before.before))
 
 pub offset_bounds-numbers-count : goal.offset_bounds-numbers-count
-offset_bounds-numbers-count c = omega (arith, few (start (actions (goal c.before.before.before))))
+offset_bounds-numbers-count c = omega (arith, few (start c.before.before.before.before.before.before.before.before.before.before.before))
 
 pub put_row-requires : goal.put_row-requires
 put_row-requires c =
     let o = c.before.before.before.before.before in
-    let d = goal o.before in
-    let p = actions d in
+    let p = c.before.before.before.before.before.before.before.before.before.before.before.before.before.before in
     let a = start p in
     let s = a.before in
     let blank = p.prepare_actions-first.ensures.blank in (
       subst⁻¹ Named (marks-put (marks_then p) s.args.count o.name_own.new.marks blank.marks_long (few a)) (named o).named,
       blank.numbers_blank s.args.count (omega arith) (omega (arith, few a)),
       goal-fits s.args.file.now (bytes_of a) s.args.count s.args.n s.args.lower.now s.args.upper.now s.args.m
-          s.args.sizes.now s.requires.0 s.requires.1 _ _ d.decode_goal-goal.result (named o).own d.decode_goal-goal.ensures (named o).decoded,
+          s.args.sizes.now s.requires.0 s.requires.1 _ _ c.decode_goal-goal.result (named o).own c.decode_goal-goal.ensures (named o).decoded,
     )
-
--- the goal's conditions on sums, where its rows are made
-abbrev own : lts.After-put_row reads.Pre reads.Post → lts.After-name_own reads.Pre reads.Post
-own c = c.before.before.before.before.before
 
 pub shape_of-numbers : goal.shape_of-numbers
 shape_of-numbers c =
-    let p = actions (goal (own c.before).before) in
+    let p = c.before.before.before.before.before.before.before.before.before.before.before.before.before.before.before in
     let s = (start p).before in
     length-set (numbers_then p) s.args.count c.put_row.new.numbers ∙ p.prepare_actions-first.ensures.blank.numbers_long
     ∙ sym (blank-numbers-long s.requires.3)
 
 pub returns : goal.returns
 returns c =
-    let o = own c.before in
-    let d = goal o.before in
-    let p = actions d in
-    let a = start p in
+    let a = start c.before.before.before.before.before.before.before.before.before.before.before.before.before.before.before in
     let s = a.before in
     over s.args.file.now (bytes_of a) s.args.count s.args.n s.args.lower.now s.args.upper.now s.args.m s.args.sizes.now
-    s.requires.0 s.requires.1 p.prepare_actions-first.ensures _ _ d.decode_goal-goal.result d.decode_goal-goal.ensures (named o) _ _ c.put_row.ensures
+    s.requires.0 s.requires.1 c.prepare_actions-first.ensures _ _ c.decode_goal-goal.result c.decode_goal-goal.ensures (named c.before.before.before.before.before.before) _ _ c.put_row.ensures

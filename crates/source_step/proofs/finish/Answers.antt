@@ -14,6 +14,7 @@ use Rattle.source_step.proofs.Results.{pairs-are, one_outside, none-outside}
 use Rattle.source_step.proofs.finish.Goals as goal
 use Rattle.source_step.proofs.finish.Lts as lts
 use Rattle.source_step.proofs.finish.Reads as reads
+use Rattle.source_step.proofs.finish.Tie as tie
 
 pub finish_single-requires : goal.finish_single-requires
 finish_single-requires c =
@@ -21,7 +22,7 @@ finish_single-requires c =
     (c.requires.0, c.requires.1, c.requires.2, c.requires.3, (omega (arith, c.effect_count-count.ensures, c.if-count-lt2.true), λ e. rw (to_z-of_z z) (c.requires.4 0 (omega (arith, e)))))
 
 -- the first result out of bounds
-first : (c : lts.After-first_outside reads.Pre reads.Post) → c.first_outside.result ≡ first_outside c.args.n c.args.marks.now c.args.numbers.now c.args.values.now
+first : (c : lts.After-first_outside tie.the-claims reads.Pre reads.Post) → c.first_outside.result ≡ first_outside c.args.n c.args.marks.now c.args.numbers.now c.args.values.now
 first c = c.first_outside.ensures c.args.n c.args.values.now c.requires.4
 
 pub returns-then-first_outside-count : goal.returns-then-first_outside-count

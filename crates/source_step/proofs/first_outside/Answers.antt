@@ -16,12 +16,13 @@ use mathlib.Core.Bool.{not}
 use Rattle.source_step.proofs.first_outside.Goals as goal
 use Rattle.source_step.proofs.first_outside.Lts as lts
 use Rattle.source_step.proofs.first_outside.Reads as reads
+use Rattle.source_step.proofs.first_outside.Tie as tie
 
 -- the first e results lie within their bounds
-abbrev Are-passed : lts.After-effect_count reads.Pre reads.Post → ℕ → Type 0
+abbrev Are-passed : lts.After-effect_count tie.the-claims reads.Pre reads.Post → ℕ → Type 0
 Are-passed c e = Passed c.args.marks.now c.args.numbers.now c.args.results.now c.effect_count-count.result e
 
-none : (c : lts.After-effect_count reads.Pre reads.Post) → Are-passed c 0
+none : (c : lts.After-effect_count tie.the-claims reads.Pre reads.Post) → Are-passed c 0
 none c = none_passed c.effect_count-count.ensures
 
 pub returns-then-count-lt1 : goal.returns-then-count-lt1
@@ -31,10 +32,10 @@ returns-then-count-lt1 c =
     (λ w. let x : SFits w64 (integer_at c.args.results.now 0) = search rules in
     sym (rw (to_z-of_z x) at w.2.ensures) ∙ not-true _ w.3.taken) c.then-count-lt1.branch)
 
-one : (c : lts.Else2 reads.Pre reads.Post) → Are-passed c.before.before.before.before 1
+one : (c : lts.Else2 tie.the-claims reads.Pre reads.Post) → Are-passed c.before.before.before.before 1
 one c =
     let x : SFits w64 (integer_at c.args.results.now 0) = search rules in
-    one-passed (none c.before.before.before.before) (omega (arith, c.then-count-lt1.false))
+    one-passed (none c.before.before.before.before) (omega (arith, c.if-count-lt1.false))
     (sym (rw (to_z-of_z x) at c.stays.ensures) ∙ not-false _ (ap not c.if-not-stays.false))
 
 pub returns-then-count-lt2 : goal.returns-then-count-lt2
@@ -44,10 +45,10 @@ returns-then-count-lt2 c =
     (λ w. let x : SFits w64 (integer_at c.args.results.now 1) = search rules in
     sym (rw (to_z-of_z x) at w.2.ensures) ∙ not-true _ w.3.taken) c.then-count-lt2.branch)
 
-two : (c : lts.Else4 reads.Pre reads.Post) → Are-passed c.before.before.before.before.before.before.before.before 2
+two : (c : lts.Else4 tie.the-claims reads.Pre reads.Post) → Are-passed c.before.before.before.before.before.before.before.before 2
 two c =
     let x : SFits w64 (integer_at c.args.results.now 1) = search rules in
-    one-passed (one c.before.before.before.before) (omega (arith, c.then-count-lt2.false)) (sym (rw (to_z-of_z x) at c.stays-else-count-lt2.ensures) ∙ not-false _ (ap not c.if-not-stays-2.false))
+    one-passed (one c.before.before.before.before) (omega (arith, c.if-count-lt2.false)) (sym (rw (to_z-of_z x) at c.stays-else-count-lt2.ensures) ∙ not-false _ (ap not c.if-not-stays-2.false))
 
 pub returns-then-count-lt3 : goal.returns-then-count-lt3
 returns-then-count-lt3 c =
@@ -59,5 +60,5 @@ returns-then-count-lt3 c =
 pub returns : goal.returns
 returns c =
     let x : SFits w64 (integer_at c.args.results.now 2) = search rules in
-    stopped (one-passed (two c.before.before.before.before) (omega (arith, c.then-count-lt3.false)) (sym (rw (to_z-of_z x) at c.stays-else-count-lt3.ensures) ∙ not-false _ (ap not c.if-not-stays-3.false)))
+    stopped (one-passed (two c.before.before.before.before) (omega (arith, c.if-count-lt3.false)) (sym (rw (to_z-of_z x) at c.stays-else-count-lt3.ensures) ∙ not-false _ (ap not c.if-not-stays-3.false)))
     (λ l. absurd (omega (arith, l, c.effect_count-count.ensures)))

@@ -10,6 +10,7 @@ use mathlib.Core.Bool.{not}
 use Rattle.source_step.proofs.holds.Goals as goal
 use Rattle.source_step.proofs.holds.Lts as lts
 use Rattle.source_step.proofs.holds.Reads as reads
+use Rattle.source_step.proofs.holds.Tie as tie
 
 pub returns-then-not-ranges_hold : goal.returns-then-not-ranges_hold
 returns-then-not-ranges_hold c =
@@ -17,7 +18,7 @@ returns-then-not-ranges_hold c =
     c.args.modes.now (sym c.ranges_hold.ensures ∙ not-true _ (ap not c.if-not-ranges_hold.true)))
 
 -- the ranges hold
-in-range : (c : lts.Else1 reads.Pre reads.Post) → RangesHold c.args.n c.args.m c.args.marks.now
+in-range : (c : lts.Else1 tie.the-claims reads.Pre reads.Post) → RangesHold c.args.n c.args.m c.args.marks.now
     c.args.numbers.now c.args.values.now c.args.modes.now
 in-range c = record { passes = sym c.ranges_hold.ensures ∙ not-false _ (ap not c.if-not-ranges_hold.false) }
 

@@ -16,9 +16,9 @@ use Rattle.source_step.proofs.linear_value.Given as goal
 abbrev pub invariant-loop-i : goal.invariant-loop-i
 invariant-loop-i l =
     let v = integer_at (take l.n l.values) in
-    Left (terms_at l.marks l.numbers l.e) l.count (λ j. (variable_at l.marks l.e j, weight_at l.numbers l.e j)) l.i (λ ts. linear (to_z w64 l.sum) ts v)
+    Left (terms_at l.marks l.numbers l.e) l.count (λ j. (variable_at l.marks l.e j, weight_at l.numbers l.e j)) l.i (λ ts. linear l.sum ts v)
     (linear (constant_at l.numbers l.e) (terms_at l.marks l.numbers l.e) v)
-    × (nat_abs (to_z w64 l.sum) ≤ 10000 + l.i * 100000000) × (l.count ≤ 4)
+    × (nat_abs l.sum ≤ 10000 + l.i * 100000000) × (l.count ≤ 4)
 
 abbrev pub decreases-loop-i : goal.decreases-loop-i
 decreases-loop-i l = l.count - l.i

@@ -10,6 +10,7 @@ use borrow.Author.Rules.{rules}
 use Rattle.source_step.proofs.result_of.Goals as goal
 use Rattle.source_step.proofs.result_of.Lts as lts
 use Rattle.source_step.proofs.result_of.Reads as reads
+use Rattle.source_step.proofs.result_of.Tie as tie
 
 pub sum-requires : goal.sum-requires
 sum-requires c =
@@ -54,7 +55,7 @@ returns-then-kind-eq-QUOTIENT c =
     (rw v.ensures at (simp (to_z-of_z, a, k) at c.quotient.ensures)))
 
 -- a kind past 2
-past : (c : lts.Else3 reads.Pre reads.Post) → 3 ≤ kind_at c.args.marks.now c.args.e
+past : (c : lts.Else3 tie.the-claims reads.Pre reads.Post) → 3 ≤ kind_at c.args.marks.now c.args.e
 past c = omega (arith, c.if-kind-eq-ADD.false, c.if-kind-eq-LINEAR.false, c.if-kind-eq-QUOTIENT.false)
 
 pub residue-requires : goal.residue-requires

@@ -14,7 +14,7 @@ use Rattle.source_step.proofs.Weighing.{Summing, summing_start, summing-next, su
 use Rattle.source_step.proofs.sum_of.Given as goal
 
 abbrev pub invariant-loop-v : goal.invariant-loop-v
-invariant-loop-v l = Summing l.values l.n l.sums l.j l.v (to_z w64 l.sum)
+invariant-loop-v l = Summing l.values l.n l.sums l.j l.v l.sum
 
 abbrev pub decreases-loop-v : goal.decreases-loop-v
 decreases-loop-v l = l.n - l.v

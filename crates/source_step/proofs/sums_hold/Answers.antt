@@ -11,12 +11,13 @@ use mathlib.Core.Bool.{not}
 use Rattle.source_step.proofs.sums_hold.Goals as goal
 use Rattle.source_step.proofs.sums_hold.Lts as lts
 use Rattle.source_step.proofs.sums_hold.Reads as reads
+use Rattle.source_step.proofs.sums_hold.Tie as tie
 
 -- condition j and those behind it decide what all of them do
-abbrev Are-left : lts.Start reads.Pre reads.Post → ℕ → Type 0
+abbrev Are-left : lts.Start tie.the-claims reads.Pre reads.Post → ℕ → Type 0
 Are-left s j = SumsLeft s.args.n s.args.sums.now s.args.values.now s.args.first s.args.count j
 
-from_first : (s : lts.Start reads.Pre reads.Post) → Are-left s 0
+from_first : (s : lts.Start tie.the-claims reads.Pre reads.Post) → Are-left s 0
 from_first s = all_left s.args.n s.args.sums.now s.args.values.now s.args.first s.args.count
 
 pub returns-then-count-lt1 : goal.returns-then-count-lt1
@@ -31,7 +32,7 @@ returns-then-not-sum_holds c =
     sum-fails (from_first c.before.before.before) (omega (arith, c.if-count-lt1.false))
     (rw (add-zero c.args.first) (sym c.sum_holds.ensures ∙ not-true _ (ap not c.if-not-sum_holds.true)))
 
-from_second : (c : lts.Else2 reads.Pre reads.Post) → Are-left c.before.before.before 1
+from_second : (c : lts.Else2 tie.the-claims reads.Pre reads.Post) → Are-left c.before.before.before 1
 from_second c =
     sum-passes (from_first c.before.before.before) (omega (arith, c.if-count-lt1.false))
     (rw (add-zero c.args.first) (sym c.sum_holds.ensures ∙ not-false _ (ap not c.if-not-sum_holds.false)))
@@ -50,7 +51,7 @@ pub returns-then-not-sum_holds-2 : goal.returns-then-not-sum_holds-2
 returns-then-not-sum_holds-2 c =
     sum-fails (from_second c.before.before.before) (omega (arith, c.if-count-lt2.false)) (sym c.sum_holds-2.ensures ∙ not-true _ (ap not c.if-not-sum_holds-2.true))
 
-from-third : (c : lts.Else4 reads.Pre reads.Post) → Are-left c.before.before.before.before.before.before 2
+from-third : (c : lts.Else4 tie.the-claims reads.Pre reads.Post) → Are-left c.before.before.before.before.before.before 2
 from-third c =
     sum-passes (from_second c.before.before.before) (omega (arith, c.if-count-lt2.false)) (sym c.sum_holds-2.ensures ∙ not-false _ (ap not c.if-not-sum_holds-2.false))
 
@@ -68,7 +69,7 @@ pub returns-then-not-sum_holds-3 : goal.returns-then-not-sum_holds-3
 returns-then-not-sum_holds-3 c =
     sum-fails (from-third c.before.before.before) (omega (arith, c.if-count-lt3.false)) (sym c.sum_holds-3.ensures ∙ not-true _ (ap not c.if-not-sum_holds-3.true))
 
-from-fourth : (c : lts.Else6 reads.Pre reads.Post) → Are-left c.before.before.before.before.before.before.before.before.before 3
+from-fourth : (c : lts.Else6 tie.the-claims reads.Pre reads.Post) → Are-left c.before.before.before.before.before.before.before.before.before 3
 from-fourth c =
     sum-passes (from-third c.before.before.before) (omega (arith, c.if-count-lt3.false)) (sym c.sum_holds-3.ensures ∙ not-false _ (ap not c.if-not-sum_holds-3.false))
 

@@ -16,6 +16,7 @@ use mathlib.Core.Bool.{not}
 use Rattle.source_step.proofs.take_single.Goals as goal
 use Rattle.source_step.proofs.take_single.Lts as lts
 use Rattle.source_step.proofs.take_single.Reads as reads
+use Rattle.source_step.proofs.take_single.Tie as tie
 
 pub returns-then-not-ranges_hold : goal.returns-then-not-ranges_hold
 returns-then-not-ranges_hold c =
@@ -24,11 +25,11 @@ returns-then-not-ranges_hold c =
     c.args.modes.now (sym c.ranges_hold.ensures ∙ not-true _ (ap not c.if-not-ranges_hold.true)))
 
 -- the ranges hold, and there is no condition on a sum
-in-range : (c : lts.Else2 reads.Pre reads.Post) → RangesHold c.args.n c.args.m c.args.marks.now
+in-range : (c : lts.Else2 tie.the-claims reads.Pre reads.Post) → RangesHold c.args.n c.args.m c.args.marks.now
     c.args.numbers.now c.args.values.now c.args.modes.now
 in-range c = record { passes = sym c.ranges_hold.ensures ∙ not-false _ (ap not c.if-not-ranges_hold.false) }
 
-passed : (c : lts.Else2 reads.Pre reads.Post) → held c.args.n c.args.m c.args.marks.now
+passed : (c : lts.Else2 tie.the-claims reads.Pre reads.Post) → held c.args.n c.args.m c.args.marks.now
     c.args.numbers.now c.args.sums.now c.args.values.now c.args.modes.now ≡ true
 passed c =
     let sums = c.args.sums.now in

@@ -22,6 +22,7 @@ use Rattle.source_step.proofs.values_in.Invariants.{test}
 use Rattle.source_step.proofs.values_in.Goals as goal
 use Rattle.source_step.proofs.values_in.Lts as lts
 use Rattle.source_step.proofs.values_in.Reads as reads
+use Rattle.source_step.proofs.values_in.Tie as tie
 
 pub loop-i-init : goal.loop-i-init
 loop-i-init c = left-start (every (λ b. b)) (row-tabulate _ _)
@@ -48,7 +49,7 @@ pub bounds-numbers-i-in-loop-i : goal.bounds-numbers-i-in-loop-i
 bounds-numbers-i-in-loop-i c = search (rules, arith)
 
 -- what one turn tests
-turn : (c : lts.After-is_between reads.Pre reads.Post goal.the-invariant-loop-i goal.the-decreases-loop-i) → test c.args.numbers.now c.args.values.now c.loop-i.i ≡ c.is_between.result
+turn : (c : lts.After-is_between tie.the-claims reads.Pre reads.Post goal.the-invariant-loop-i goal.the-decreases-loop-i) → test c.args.numbers.now c.args.values.now c.loop-i.i ≡ c.is_between.result
 turn c =
     let a : SFits w64 (integer_at c.args.numbers.now c.loop-i.i) = search rules in
     let x : SFits w64 (integer_at c.args.values.now c.loop-i.i) = search rules in
