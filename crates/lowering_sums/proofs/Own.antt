@@ -31,8 +31,8 @@ all-at P (x ∷ xs) (suc i) d (p, ps) l = all-at P xs i d ps (omega arith)
 abbrev pub no_condition : SumCondition
 no_condition = record { relation = 0; constant = pos 0; term_count = 0; terms = [] }
 
-abbrev pub field_own : SumConditions → ℕ → SumCondition
-field_own own i = get_or own.places i no_condition
+abbrev pub own_at : SumConditions → ℕ → SumCondition
+own_at own i = get_or own.places i no_condition
 
 -- ---- the first i are pushed as C, on the variables from v on
 pub record Becoming (marks₀ : List ℕ) (numbers₀ : List ℤ) (v : ℕ) (own : SumConditions) (i : ℕ) (marks : List ℕ) (numbers : List ℤ) : Type 0 where
@@ -74,12 +74,12 @@ module _ {marks₀ : List ℕ} {numbers₀ : List ℤ} {v : ℕ} {own : SumCondi
   })
 
   pub become-next : i < own.count → {marks' : List ℕ} {numbers' : List ℤ}
-      → Says (with_condition (row_is marks numbers) (condition (v + i) (field_own own i).relation (field_own own i).constant)) marks' numbers'
+      → Says (with_condition (row_is marks numbers) (condition (v + i) (own_at own i).relation (own_at own i).constant)) marks' numbers'
       → Becoming marks₀ numbers₀ v own (i + 1) marks' numbers'
   become-next l w =
       let rest = drop (i + 1) (take own.count own.places) in
-      let from : drop i (take own.count own.places) ≡ field_own own i ∷ rest = rest_more no_condition h.here l in
-      let more = condition (v + i) (field_own own i).relation (field_own own i).constant ∷ [] in
+      let from : drop i (take own.count own.places) ≡ own_at own i ∷ rest = rest_more no_condition h.here l in
+      let more = condition (v + i) (own_at own i).relation (own_at own i).constant ∷ [] in
       let next : v + (i + 1) ≡ v + i + 1 = omega arith in
       record {
         here = h.here;

@@ -31,8 +31,8 @@ all-at P (x ∷ xs) (suc i) d (p, ps) l = all-at P xs i d ps (omega arith)
 abbrev pub no_condition : SumCondition
 no_condition = record { relation = 0; constant = pos 0; term_count = 0; terms = [] }
 
-abbrev pub field_own : SumConditions → ℕ → SumCondition
-field_own own i = get_or own.places i no_condition
+abbrev pub own_at : SumConditions → ℕ → SumCondition
+own_at own i = get_or own.places i no_condition
 
 abbrev pub terms_of : SumCondition → List (ℕ × ℤ)
 terms_of k = terms_is k.term_count k.terms
@@ -41,18 +41,18 @@ module _ (own : SumConditions) (all : own.count ≤ length own.places) where
   pub terms-long : length (sum_terms_is own) ≡ own.count
   terms-long = length-map (take own.count own.places) terms_of ∙ length-take-le own.count own.places all
 
-  pub terms-at : (i : ℕ) → i < own.count → get_or (sum_terms_is own) i [] ≡ terms_of (field_own own i)
+  pub terms-at : (i : ℕ) → i < own.count → get_or (sum_terms_is own) i [] ≡ terms_of (own_at own i)
   terms-at i l = get_or-map terms_of (take own.count own.places) i no_condition ∙ ap terms_of (get_or-take own.count own.places i no_condition l)
 
   pub sums-long : length (sums_is own) ≡ own.count
   sums-long = length-map (take own.count own.places) sum_is ∙ length-take-le own.count own.places all
 
-  pub sum-at : (i : ℕ) → i < own.count → get_or (sums_is own) i (sum_is no_condition) ≡ sum_is (field_own own i)
+  pub sum-at : (i : ℕ) → i < own.count → get_or (sums_is own) i (sum_is no_condition) ≡ sum_is (own_at own i)
   sum-at i l = get_or-map sum_is (take own.count own.places) i no_condition ∙ ap sum_is (get_or-take own.count own.places i no_condition l)
 
   -- each is one of a source file
-  pub own_at : OwnSmall own → (i : ℕ) → i < own.count → SumSmall (field_own own i)
-  own_at h i l = record {
+  pub own_at_lem : OwnSmall own → (i : ℕ) → i < own.count → SumSmall (own_at own i)
+  own_at_lem h i l = record {
     few = all-at (λ (k : SumCondition). k.term_count ≤ term_room) own.places i no_condition h.terms_few (omega arith);
     terms = subst (All PartSmall) (terms-at i l) (all-at (All PartSmall) (sum_terms_is own) i [] h.terms (omega (arith, terms-long)));
     constant = subst (λ (k : NumericCondition ℕ). nat_abs k.constant ≤ source_limits.sum_constant) (sum-at i l)

@@ -10,9 +10,10 @@ use borrow.Author.Rules.{rules}
 use Rattle.listing.proofs.begin.Goals as goal
 use Rattle.listing.proofs.begin.Lts as lts
 use Rattle.listing.proofs.begin.Reads as reads
+use Rattle.listing.proofs.begin.Tie as tie
 
 -- what is ready
-ready : (c : lts.After-t reads.Pre reads.Post) → let o = c.«open» in let s = c.args in
+ready : (c : lts.After-t tie.the-claims reads.Pre reads.Post) → let o = c.«open» in let s = c.args in
     Started s.file.now s.plan.now c.in-Ready.t o.new.1.1.0 o.new.1.1.1.0 o.new.1.1.1.1.0 o.new.1.1.1.1.1.0
 ready c = rw c.in-Ready.is at c.«open».ensures
 
@@ -27,11 +28,10 @@ judge-requires c =
 pub returns-in-Refused : goal.returns-in-Refused
 returns-in-Refused c =
     let s = c.args in
-    let e = c.number.given in
-    let o = rw e.1 at c.«open».ensures in
-    let text = refused-listing s.file.now s.plan.now e.0.0 e.0.1.0 o.0 in
-    let fits = rw e.1 at c.«open».type_inv in
-    let few = refused-most e.0.0 e.0.1.0 (omega (arith, fits)) (omega (arith, fits)) in
+    let o = rw c.in-Refused.is at c.«open».ensures in
+    let text = refused-listing s.file.now s.plan.now c.in-Refused.number c.in-Refused.place o.0 in
+    let fits = rw c.in-Refused.is at c.«open».type_inv in
+    let few = refused-most c.in-Refused.number c.in-Refused.place (omega (arith, fits)) (omega (arith, fits)) in
     record { left = text; pending = tt; short = omega (arith, few, ap length text) }
 
 pub returns-in-Ready : goal.returns-in-Ready

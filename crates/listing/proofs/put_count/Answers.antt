@@ -10,8 +10,9 @@ use borrow.Author.Rules.{rules}
 use Rattle.listing.proofs.put_count.Goals as goal
 use Rattle.listing.proofs.put_count.Lts as lts
 use Rattle.listing.proofs.put_count.Reads as reads
+use Rattle.listing.proofs.put_count.Tie as tie
 
-parts : (s : lts.Start reads.Pre reads.Post) → Left s.args.out.now s.args.at (field (pos s.args.n)) s.args.out.now s.args.at ((32 ∷ []) ∷ decimal s.args.n ∷ [])
+parts : (s : lts.Start tie.the-claims reads.Pre reads.Post) → Left s.args.out.now s.args.at (field (pos s.args.n)) s.args.out.now s.args.at ((32 ∷ []) ∷ decimal s.args.n ∷ [])
 parts s = start _ _ (ap (λ (z : List _). 32 ∷ z) (natural s.args.n ∙ sym (append-nil (decimal s.args.n))))
 
 pub put_number-behind-requires : goal.put_number-behind-requires

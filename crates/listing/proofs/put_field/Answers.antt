@@ -9,8 +9,9 @@ use borrow.Author.Rules.{rules}
 use Rattle.listing.proofs.put_field.Goals as goal
 use Rattle.listing.proofs.put_field.Lts as lts
 use Rattle.listing.proofs.put_field.Reads as reads
+use Rattle.listing.proofs.put_field.Tie as tie
 
-parts : (s : lts.Start reads.Pre reads.Post) → Left s.args.out.now s.args.at (field s.args.z) s.args.out.now s.args.at ((32 ∷ []) ∷ decimal_signed s.args.z ∷ [])
+parts : (s : lts.Start tie.the-claims reads.Pre reads.Post) → Left s.args.out.now s.args.at (field s.args.z) s.args.out.now s.args.at ((32 ∷ []) ∷ decimal_signed s.args.z ∷ [])
 parts s = start _ _ (ap (λ (z : List _). 32 ∷ z) (sym (append-nil (decimal_signed s.args.z))))
 
 pub put_number-behind-requires : goal.put_number-behind-requires

@@ -11,15 +11,16 @@ use Rattle.listing.proofs.Lines.{fields-are, room-either, room-for-either}
 use Rattle.listing.proofs.put_fields.Goals as goal
 use Rattle.listing.proofs.put_fields.Lts as lts
 use Rattle.listing.proofs.put_fields.Reads as reads
+use Rattle.listing.proofs.put_fields.Tie as tie
 
 -- what is left to write, from the first call on
-abbrev Stage : lts.Start reads.Pre reads.Post → List ℕ → ℕ → List (List ℕ) → Type 0
+abbrev Stage : lts.Start tie.the-claims reads.Pre reads.Post → List ℕ → ℕ → List (List ℕ) → Type 0
 Stage s after place parts = Left s.args.out.now s.args.at (fields_of (take s.args.n s.args.values.now)) after place parts
 
-l₀ : (s : lts.Start reads.Pre reads.Post) → Stage s s.args.out.now s.args.at (flat_map field (take s.args.n s.args.values.now) ∷ (10 ∷ []) ∷ [])
+l₀ : (s : lts.Start tie.the-claims reads.Pre reads.Post) → Stage s s.args.out.now s.args.at (flat_map field (take s.args.n s.args.values.now) ∷ (10 ∷ []) ∷ [])
 l₀ s = start _ _ (fields-are _)
 
-l₁ : (c : lts.After-put_values reads.Pre reads.Post) → Stage c.before.before.before c.put_values-end.new.out c.put_values-end.result (drop 1 (flat_map field (take c.args.n c.args.values.now) ∷ (10 ∷ []) ∷ []))
+l₁ : (c : lts.After-put_values tie.the-claims reads.Pre reads.Post) → Stage c.before.before.before c.put_values-end.new.out c.put_values-end.result (drop 1 (flat_map field (take c.args.n c.args.values.now) ∷ (10 ∷ []) ∷ []))
 l₁ c = step (l₀ c.before.before.before) c.put_values-end.ensures.0
 
 pub put_values-end-requires : goal.put_values-end-requires

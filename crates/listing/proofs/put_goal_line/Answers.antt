@@ -13,18 +13,19 @@ use Rattle.listing.proofs.Lines.{count_most, room-either}
 use Rattle.listing.proofs.put_goal_line.Goals as goal
 use Rattle.listing.proofs.put_goal_line.Lts as lts
 use Rattle.listing.proofs.put_goal_line.Reads as reads
+use Rattle.listing.proofs.put_goal_line.Tie as tie
 
 -- what is left to write, from the first call on
-abbrev Stage : lts.Start reads.Pre reads.Post → List ℕ → ℕ → List (List ℕ) → Type 0
+abbrev Stage : lts.Start tie.the-claims reads.Pre reads.Post → List ℕ → ℕ → List (List ℕ) → Type 0
 Stage s after place parts = Left s.args.out.now s.args.at (goal_line s.args.total) after place parts
 
-l₀ : (s : lts.Start reads.Pre reads.Post) → Stage s s.args.out.now s.args.at ((103 ∷ 111 ∷ 97 ∷ 108 ∷ []) ∷ field (pos s.args.total) ∷ (10 ∷ []) ∷ [])
+l₀ : (s : lts.Start tie.the-claims reads.Pre reads.Post) → Stage s s.args.out.now s.args.at ((103 ∷ 111 ∷ 97 ∷ 108 ∷ []) ∷ field (pos s.args.total) ∷ (10 ∷ []) ∷ [])
 l₀ s = start _ _ refl
 
-l₁ : (c : lts.After-put_bytes reads.Pre reads.Post) → Stage c.before.before.before.before.before c.put_bytes-total_at.new.out c.put_bytes-total_at.result (drop 1 ((103 ∷ 111 ∷ 97 ∷ 108 ∷ []) ∷ field (pos c.args.total) ∷ (10 ∷ []) ∷ []))
+l₁ : (c : lts.After-put_bytes tie.the-claims reads.Pre reads.Post) → Stage c.before.before.before.before.before c.put_bytes-total_at.new.out c.put_bytes-total_at.result (drop 1 ((103 ∷ 111 ∷ 97 ∷ 108 ∷ []) ∷ field (pos c.args.total) ∷ (10 ∷ []) ∷ []))
 l₁ c = step (l₀ c.before.before.before.before.before) c.put_bytes-total_at.ensures
 
-l₂ : (c : lts.After-put_count reads.Pre reads.Post) → Stage c.before.before.before.before.before.before.before.before.before c.put_count-end.new.out c.put_count-end.result (drop 2 ((103 ∷ 111 ∷ 97 ∷ 108 ∷ []) ∷ field (pos c.args.total) ∷ (10 ∷ []) ∷ []))
+l₂ : (c : lts.After-put_count tie.the-claims reads.Pre reads.Post) → Stage c.before.before.before.before.before.before.before.before.before c.put_count-end.new.out c.put_count-end.result (drop 2 ((103 ∷ 111 ∷ 97 ∷ 108 ∷ []) ∷ field (pos c.args.total) ∷ (10 ∷ []) ∷ []))
 l₂ c = step (l₁ c.before.before.before.before) c.put_count-end.ensures
 
 pub put_bytes-total_at-requires : goal.put_bytes-total_at-requires

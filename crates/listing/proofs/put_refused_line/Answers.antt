@@ -13,25 +13,26 @@ use Rattle.listing.proofs.Lines.{count_most, room-either}
 use Rattle.listing.proofs.put_refused_line.Goals as goal
 use Rattle.listing.proofs.put_refused_line.Lts as lts
 use Rattle.listing.proofs.put_refused_line.Reads as reads
+use Rattle.listing.proofs.put_refused_line.Tie as tie
 
 -- what is left to write, from the first call on
-abbrev Stage : lts.Start reads.Pre reads.Post → List ℕ → ℕ → List (List ℕ) → Type 0
+abbrev Stage : lts.Start tie.the-claims reads.Pre reads.Post → List ℕ → ℕ → List (List ℕ) → Type 0
 Stage s after place parts = Left s.args.out.now s.args.at (refused_line s.args.number s.args.place) after place parts
 
-l₀ : (s : lts.Start reads.Pre reads.Post) → Stage s s.args.out.now s.args.at ((114 ∷ 101 ∷ 102 ∷ 117 ∷ 115 ∷ 101 ∷ 100 ∷ []) ∷ field (pos s.args.number) ∷ field (pos s.args.place) ∷ (10 ∷ []) ∷ [])
+l₀ : (s : lts.Start tie.the-claims reads.Pre reads.Post) → Stage s s.args.out.now s.args.at ((114 ∷ 101 ∷ 102 ∷ 117 ∷ 115 ∷ 101 ∷ 100 ∷ []) ∷ field (pos s.args.number) ∷ field (pos s.args.place) ∷ (10 ∷ []) ∷ [])
 l₀ s = start _ _ refl
 
-l₁ : (c : lts.After-put_bytes reads.Pre reads.Post) → Stage c.before.before.before.before.before c.put_bytes-number_at.new.out c.put_bytes-number_at.result (drop 1 ((114 ∷ 101 ∷ 102 ∷ 117 ∷ 115 ∷ 101 ∷ 100 ∷ []) ∷ field (pos c.args.number) ∷ field (pos c.args.place) ∷ (10 ∷ []) ∷ []))
+l₁ : (c : lts.After-put_bytes tie.the-claims reads.Pre reads.Post) → Stage c.before.before.before.before.before c.put_bytes-number_at.new.out c.put_bytes-number_at.result (drop 1 ((114 ∷ 101 ∷ 102 ∷ 117 ∷ 115 ∷ 101 ∷ 100 ∷ []) ∷ field (pos c.args.number) ∷ field (pos c.args.place) ∷ (10 ∷ []) ∷ []))
 l₁ c = step (l₀ c.before.before.before.before.before) c.put_bytes-number_at.ensures
 
-l₂ : (c : lts.After-put_count reads.Pre reads.Post) → Stage c.before.before.before.before.before.before.before.before.before c.put_count-place_at.new.out c.put_count-place_at.result (drop 2 ((114 ∷ 101 ∷ 102 ∷ 117 ∷ 115 ∷ 101 ∷ 100 ∷ []) ∷ field (pos c.args.number) ∷ field (pos c.args.place) ∷ (10 ∷ []) ∷ []))
+l₂ : (c : lts.After-put_count tie.the-claims reads.Pre reads.Post) → Stage c.before.before.before.before.before.before.before.before.before c.put_count-place_at.new.out c.put_count-place_at.result (drop 2 ((114 ∷ 101 ∷ 102 ∷ 117 ∷ 115 ∷ 101 ∷ 100 ∷ []) ∷ field (pos c.args.number) ∷ field (pos c.args.place) ∷ (10 ∷ []) ∷ []))
 l₂ c = step (l₁ c.before.before.before.before) c.put_count-place_at.ensures
 
-l₃ : (c : lts.After-put_count2 reads.Pre reads.Post) → Stage c.before.before.before.before.before.before.before.before.before.before.before.before.before c.put_count-end.new.out c.put_count-end.result (drop 3 ((114 ∷ 101 ∷ 102 ∷ 117 ∷ 115 ∷ 101 ∷ 100 ∷ []) ∷ field (pos c.args.number) ∷ field (pos c.args.place) ∷ (10 ∷ []) ∷ []))
+l₃ : (c : lts.After-put_count2 tie.the-claims reads.Pre reads.Post) → Stage c.before.before.before.before.before.before.before.before.before.before.before.before.before c.put_count-end.new.out c.put_count-end.result (drop 3 ((114 ∷ 101 ∷ 102 ∷ 117 ∷ 115 ∷ 101 ∷ 100 ∷ []) ∷ field (pos c.args.number) ∷ field (pos c.args.place) ∷ (10 ∷ []) ∷ []))
 l₃ c = step (l₂ c.before.before.before.before) c.put_count-end.ensures
 
 -- how far the two numbers go
-bound : (c : lts.After-put_count2 reads.Pre reads.Post) → c.put_count-end.result ≤ c.args.at + 49
+bound : (c : lts.After-put_count2 tie.the-claims reads.Pre reads.Post) → c.put_count-end.result ≤ c.args.at + 49
 bound c =
     let number = count_most c.args.number (omega arith) in
     let place = count_most c.args.place (omega arith) in

@@ -13,25 +13,26 @@ use Rattle.listing.proofs.Lines.{count_most, room-either, room-for-either}
 use Rattle.listing.proofs.put_step_line.Goals as goal
 use Rattle.listing.proofs.put_step_line.Lts as lts
 use Rattle.listing.proofs.put_step_line.Reads as reads
+use Rattle.listing.proofs.put_step_line.Tie as tie
 
 -- what is left to write, from the first call on
-abbrev Stage : lts.Start reads.Pre reads.Post → List ℕ → ℕ → List (List ℕ) → Type 0
+abbrev Stage : lts.Start tie.the-claims reads.Pre reads.Post → List ℕ → ℕ → List (List ℕ) → Type 0
 Stage s after place parts = Left s.args.out.now s.args.at (line_of s.args.i s.args.k s.args.price (take s.args.n s.args.values.now)) after place parts
 
-l₀ : (s : lts.Start reads.Pre reads.Post) → Stage s s.args.out.now s.args.at (decimal s.args.i ∷ field (pos s.args.k) ∷ field (pos s.args.price) ∷ fields_of (take s.args.n s.args.values.now) ∷ [])
+l₀ : (s : lts.Start tie.the-claims reads.Pre reads.Post) → Stage s s.args.out.now s.args.at (decimal s.args.i ∷ field (pos s.args.k) ∷ field (pos s.args.price) ∷ fields_of (take s.args.n s.args.values.now) ∷ [])
 l₀ s = start _ _ (rw append-nil)
 
-l₁ : (c : lts.After-put_natural reads.Pre reads.Post) → Stage c.before.before.before c.put_natural-action_at.new.out c.put_natural-action_at.result (drop 1 (decimal c.args.i ∷ field (pos c.args.k) ∷ field (pos c.args.price) ∷ fields_of (take c.args.n c.args.values.now) ∷ []))
+l₁ : (c : lts.After-put_natural tie.the-claims reads.Pre reads.Post) → Stage c.before.before.before c.put_natural-action_at.new.out c.put_natural-action_at.result (drop 1 (decimal c.args.i ∷ field (pos c.args.k) ∷ field (pos c.args.price) ∷ fields_of (take c.args.n c.args.values.now) ∷ []))
 l₁ c = step (l₀ c.before.before.before) c.put_natural-action_at.ensures
 
-l₂ : (c : lts.After-put_count reads.Pre reads.Post) → Stage c.before.before.before.before.before.before.before c.put_count-price_at.new.out c.put_count-price_at.result (drop 2 (decimal c.args.i ∷ field (pos c.args.k) ∷ field (pos c.args.price) ∷ fields_of (take c.args.n c.args.values.now) ∷ []))
+l₂ : (c : lts.After-put_count tie.the-claims reads.Pre reads.Post) → Stage c.before.before.before.before.before.before.before c.put_count-price_at.new.out c.put_count-price_at.result (drop 2 (decimal c.args.i ∷ field (pos c.args.k) ∷ field (pos c.args.price) ∷ fields_of (take c.args.n c.args.values.now) ∷ []))
 l₂ c = step (l₁ c.before.before.before.before) c.put_count-price_at.ensures
 
-l₃ : (c : lts.After-put_count2 reads.Pre reads.Post) → Stage c.before.before.before.before.before.before.before.before.before.before.before c.put_count-values_at.new.out c.put_count-values_at.result (drop 3 (decimal c.args.i ∷ field (pos c.args.k) ∷ field (pos c.args.price) ∷ fields_of (take c.args.n c.args.values.now) ∷ []))
+l₃ : (c : lts.After-put_count2 tie.the-claims reads.Pre reads.Post) → Stage c.before.before.before.before.before.before.before.before.before.before.before c.put_count-values_at.new.out c.put_count-values_at.result (drop 3 (decimal c.args.i ∷ field (pos c.args.k) ∷ field (pos c.args.price) ∷ fields_of (take c.args.n c.args.values.now) ∷ []))
 l₃ c = step (l₂ c.before.before.before.before) c.put_count-values_at.ensures
 
 -- how far the numbers before the values go
-bound : (c : lts.After-put_count2 reads.Pre reads.Post) → c.put_count-values_at.result ≤ c.args.at + 62
+bound : (c : lts.After-put_count2 tie.the-claims reads.Pre reads.Post) → c.put_count-values_at.result ≤ c.args.at + 62
 bound c =
     omega (arith, c.put_natural-action_at.ensures.place, c.put_count-price_at.ensures.place, c.put_count-values_at.ensures.place, at_most 19 c.args.i (omega arith), count_most c.args.k (omega arith), count_most c.args.price (omega arith))
 

@@ -12,8 +12,7 @@ lower_accepted-requires c = (subst (λ (w : Verdict). AcceptedWith w c.in-Accept
 
 pub returns-in-Rejected : goal.returns-in-Rejected
 returns-in-Rejected c =
-    let e = c.number.given in
-    refusal (refused-lowers c.args.file.now e.0.0 e.0.1.0 (rw e.1 at c.check_source.ensures))
+    refusal (refused-lowers c.args.file.now c.in-Rejected.number c.in-Rejected.place (rw c.in-Rejected.is at c.check_source.ensures))
 
 pub returns-in-Accepted : goal.returns-in-Accepted
 returns-in-Accepted c = c.lower_accepted.ensures

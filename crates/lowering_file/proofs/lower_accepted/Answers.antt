@@ -19,7 +19,12 @@ pub count_task-counted-requires : goal.count_task-counted-requires
 count_task-counted-requires c =
     let d = c.read_declarations-declared.ensures in
     let file = c.args.file.now in
-    let keeps = kept_of_lem d.held c.find_sums-sums.ensures.0 c.first_kept-first.ensures.0 c.first_kept-first.ensures.1 in record { accepted_with = (c.requires, d, c.find_places-places.ensures); marks_len = ((refl, refl, keeps), room-count refl (omega (arith, same-long file, task-short file d.held.is))); room =  }
+    let keeps = kept_of_lem d.held c.find_sums-sums.ensures.0 c.first_kept-first.ensures.0 c.first_kept-first.ensures.1 in
+    record {
+      accepted_with = (c.requires, d, c.find_places-places.ensures);
+      marks_len = (refl, refl, keeps);
+      room = room-count refl (omega (arith, same-long file, task-short file d.held.is));
+    }
 
 pub returns-then-out-need : goal.returns-then-out-need
 returns-then-out-need c =
@@ -33,7 +38,12 @@ put_task-requires c =
     let file = c.args.file.now in
     let keeps = kept_of_lem d.held c.find_sums-sums.ensures.0 c.first_kept-first.ensures.0 c.first_kept-first.ensures.1 in
     let e = c.count_task-counted.ensures in
-    let fits = counted-room _ (accepted-lowers file d.held.is) (same-long file) e.rows.wrote c.if-out-need.false in record { accepted_with = (c.requires, d, c.find_places-places.ensures); marks_len = ((e.rows.marks_long, e.rows.numbers_long, e.told, keeps), room_as (sym (file-is file)) fits); room =  }
+    let fits = counted-room _ (accepted-lowers file d.held.is) (same-long file) e.rows.wrote c.if-out-need.false in
+    record {
+      accepted_with = (c.requires, d, c.find_places-places.ensures);
+      marks_len = (e.rows.marks_long, e.rows.numbers_long, e.told, keeps);
+      room = room_as (sym (file-is file)) fits;
+    }
 
 pub returns : goal.returns
 returns c =

@@ -25,14 +25,19 @@ pub push_own-own-requires : goal.push_own-own-requires
 push_own-own-requires c =
     let walk = c.loop-k.invariant.0.walk in
     let below = c.loop-k-test.true in
-    let decoded = c.decode_action-effects.ensures in record { places_of = (c.requires.accepted_with.2, below, few-actions walk.held); k_value = (walk_none walk c.requires.accepted_with.0 below, (own_room walk c.requires.accepted_with.0 below decoded, decoded.parts.numbers_long, numbers-low walk)); parts_fit =  }
+    let decoded = c.decode_action-effects.ensures in
+    record {
+      places_of = (c.requires.accepted_with.2, below, few-actions walk.held);
+      k_value = walk_none walk c.requires.accepted_with.0 below;
+      parts_fit = (own_room walk c.requires.accepted_with.0 below decoded, decoded.parts.numbers_long, numbers-low walk);
+    }
 
 pub put_macro-place-requires : goal.put_macro-place-requires
 put_macro-place-requires c =
     let own = c.push_own-own.ensures in
     let inv = c.loop-k.invariant in
     let below = c.loop-k-test.true in
-    let r = c.decode_action-effects in record { lowerable = macro-ready inv.0.walk below _ _ r.result own.own r.ensures own.decoded own.says; room = (putting-room below _ _ r.result r.ensures own (length (stages_in c.args.shape r.result)) refl inv.0 c.requires.room,) }
+    let r = c.decode_action-effects in record { lowerable = macro-ready inv.0.walk below _ _ r.result own.own r.ensures own.decoded own.says; room = putting-room below _ _ r.result r.ensures own (length (stages_in c.args.shape r.result)) refl inv.0 c.requires.room }
 
 pub stage_count-requires : goal.stage_count-requires
 stage_count-requires c =

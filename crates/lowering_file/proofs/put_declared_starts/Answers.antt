@@ -18,9 +18,10 @@ use borrow.Author.Rules.{rules}
 use Rattle.lowering_file.proofs.put_declared_starts.Goals as goal
 use Rattle.lowering_file.proofs.put_declared_starts.Lts as lts
 use Rattle.lowering_file.proofs.put_declared_starts.Reads as reads
+use Rattle.lowering_file.proofs.put_declared_starts.Tie as tie
 
 -- the U that a turn writes
-coded : (c : lts.After-bits reads.Pre reads.Post goal.the-invariant-loop-i goal.the-decreases-loop-i) → start_bytes (get_or c.args.starts.now c.loop-i.i (pos 0)) ≡ encode (Start c.bits-bits.result)
+coded : (c : lts.After-bits tie.the-claims reads.Pre reads.Post goal.the-invariant-loop-i goal.the-decreases-loop-i tie.handed_clauses) → start_bytes (get_or c.args.starts.now c.loop-i.i (pos 0)) ≡ encode (Start c.bits-bits.result)
 coded c =
     let b : SFits w64 (get_or c.args.starts.now c.loop-i.i (pos 0)) = search rules in
     ap (λ (k : ℕ). encode (Start k)) (sym (rw (to_z-of_z b) at c.bits-bits.ensures))

@@ -31,7 +31,7 @@ put_row-end-requires c =
             mode_effects = z.mode_effects;
             additions = z.additions;
           })
-          (record { constants = c.requires.goal_writable.fit.constants; amounts = c.requires.goal_writable.fit.amounts }); room = (room_as (sym (ap bytes says.is)) (room c.requires.room (goal-begun _ _ _)),) }
+          (record { constants = c.requires.goal_writable.fit.constants; amounts = c.requires.goal_writable.fit.amounts }); room = room_as (sym (ap bytes says.is)) (room c.requires.room (goal-begun _ _ _)) }
 
 pub put_end-requires : goal.put_end-requires
 put_end-requires c =

@@ -14,8 +14,9 @@ use borrow.Author.Rules.{rules}
 use Rattle.lowering_file.proofs.read_goal.Goals as goal
 use Rattle.lowering_file.proofs.read_goal.Lts as lts
 use Rattle.lowering_file.proofs.read_goal.Reads as reads
+use Rattle.lowering_file.proofs.read_goal.Tie as tie
 
-module _ (c : lts.After-shared_slice_known reads.Pre reads.Post) where
+module _ (c : lts.After-shared_slice_known tie.the-claims reads.Pre reads.Post tie.handed_clauses) where
   bytes : Bytes c.args.file.now
   bytes = bytes-of c.args.file.now (λ i. omega (arith, c.shared_slice_known-1.given i))
 

@@ -10,9 +10,10 @@ use Rattle.lowering_rows.proofs.Adding.{stroke-added}
 use Rattle.lowering_rows.proofs.added_by.Goals as goal
 use Rattle.lowering_rows.proofs.added_by.Lts as lts
 use Rattle.lowering_rows.proofs.added_by.Reads as reads
+use Rattle.lowering_rows.proofs.added_by.Tie as tie
 
 -- an amount as the code has it
-fits : (s : lts.Start reads.Pre reads.Post) (i : ℕ) → SFits w64 (integer_at s.args.s.amounts i)
+fits : (s : lts.Start tie.the-claims reads.Pre reads.Post) (i : ℕ) → SFits w64 (integer_at s.args.s.amounts i)
 fits s i = amount-fits (s.requires.amounts i)
 
 pub signed_by-first-requires : goal.signed_by-first-requires

@@ -15,9 +15,10 @@ use Rattle.lowering_rows.proofs.Adding.{nothing-added, something-added}
 use Rattle.lowering_rows.proofs.put_addition.Goals as goal
 use Rattle.lowering_rows.proofs.put_addition.Lts as lts
 use Rattle.lowering_rows.proofs.put_addition.Reads as reads
+use Rattle.lowering_rows.proofs.put_addition.Tie as tie
 
 -- where it is not 0, its command
-command : (c : lts.After-bits reads.Pre reads.Post) → flat_map addition_bytes (addition c.args.variable c.args.d) ≡ encode (Add c.args.variable c.bits-bits.result)
+command : (c : lts.After-bits tie.the-claims reads.Pre reads.Post tie.handed_clauses) → flat_map addition_bytes (addition c.args.variable c.args.d) ≡ encode (Add c.args.variable c.bits-bits.result)
 command c =
     something-added c.args.variable c.args.d c.bits-bits.result (λ q. c.if-d-eq0.false (ap (of_z w64) q))
     (rw (to_z-of_z c.ranges.d) at c.bits-bits.ensures)

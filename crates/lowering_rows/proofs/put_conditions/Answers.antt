@@ -56,7 +56,10 @@ put_condition-place-requires c =
     let b : SFits w64 (integer_at c.args.numbers.now i) = search rules in
     let k : i < natural_at c.args.marks.now 0 = omega (arith, c.loop-i-test.true, c.loop-i.invariant.0) in
     let e = four_coded (natural_at c.args.marks.now (1 + i)) (natural_at c.args.marks.now (25 + i)) (integer_at c.args.numbers.now i) _ c.low-variable.ensures in
-    rw (to_z-of_z b) (c.requires.writable.constants i k, room_as e (writing-room c.loop-i.invariant.2 k (room_as (four-all (conditions_in c.args.marks.now c.args.numbers.now)) c.requires.room)))
+    rw (to_z-of_z b) (record {
+      constant = c.requires.writable.constants i k;
+      room = room_as e (writing-room c.loop-i.invariant.2 k (room_as (four-all (conditions_in c.args.marks.now c.args.numbers.now)) c.requires.room));
+    })
 
 pub overflow_add-i-in-loop-i-2 : goal.overflow_add-i-in-loop-i-2
 overflow_add-i-in-loop-i-2 c = search (rules, arith)

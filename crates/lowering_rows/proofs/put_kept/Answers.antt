@@ -46,10 +46,10 @@ put_addition-place-requires c =
     let a = c.args in
     let b : SFits w64 c.kept_amount-d.result = search rules in
     let k = c.loop-j-test.true in
-    rw (to_z-of_z b, c.kept_amount-d.ensures.0) (
-      kept-amount-fits (added_is a.added) a.sums (weights_in a.weights.now) a.first c.requires.keeps.2 c.loop-j.j k,
-      writing-room c.loop-j.invariant k (room_as (whole a.added a.first a.sums a.weights.now) c.requires.room),
-    )
+    rw (to_z-of_z b, c.kept_amount-d.ensures.0) (record {
+      d_bound = kept-amount-fits (added_is a.added) a.sums (weights_in a.weights.now) a.first c.requires.keeps.2 c.loop-j.j k;
+      room = writing-room c.loop-j.invariant k (room_as (whole a.added a.first a.sums a.weights.now) c.requires.room);
+    })
 
 pub overflow_add-j : goal.overflow_add-j
 overflow_add-j c = search (rules, arith)

@@ -16,30 +16,31 @@ use Rattle.lowering_rows.proofs.Stages.{row-ready, row_written, follow-ready, fo
 use Rattle.lowering_rows.proofs.put_opening.Goals as goal
 use Rattle.lowering_rows.proofs.put_opening.Lts as lts
 use Rattle.lowering_rows.proofs.put_opening.Reads as reads
+use Rattle.lowering_rows.proofs.put_opening.Tie as tie
 
 -- the opening, the sums, and what is left to write of it
-abbrev opened : lts.Start reads.Pre reads.Post → RestrictedAction
+abbrev opened : lts.Start tie.the-claims reads.Pre reads.Post tie.handed_clauses → RestrictedAction
 opened s = opening_in s.args.shape s.args.next (effects_is s.args.effects) (row_is s.args.marks.now s.args.numbers.now)
 
-abbrev sums : lts.Start reads.Pre reads.Post → List (List (ℕ × ℤ))
+abbrev sums : lts.Start tie.the-claims reads.Pre reads.Post tie.handed_clauses → List (List (ℕ × ℤ))
 sums s = sums_in s.args.sums s.args.weights.now
 
-abbrev ToWrite : lts.Start reads.Pre reads.Post → List ℕ → ℕ → List (List ℕ) → Type 0
+abbrev ToWrite : lts.Start tie.the-claims reads.Pre reads.Post tie.handed_clauses → List ℕ → ℕ → List (List ℕ) → Type 0
 ToWrite s out place parts = Left s.args.out.now s.args.at (kept_bytes s.args.first (sums s) (opened s)) out place parts
 
-begun : (s : lts.Start reads.Pre reads.Post) → ToWrite s s.args.out.now s.args.at (plain_bytes (opened s) ∷ follow_bytes s.args.first (sums s) (opened s) ∷ [])
+begun : (s : lts.Start tie.the-claims reads.Pre reads.Post tie.handed_clauses) → ToWrite s s.args.out.now s.args.at (plain_bytes (opened s) ∷ follow_bytes s.args.first (sums s) (opened s) ∷ [])
 begun s = kept-begun s.args.first (sums s) _ _ (opened s)
 
-abbrev s₂ : lts.After-added_in reads.Pre reads.Post → lts.Start reads.Pre reads.Post
-s₂ c = c.before
+abbrev s₂ : lts.After-added_in tie.the-claims reads.Pre reads.Post tie.handed_clauses → lts.Start tie.the-claims reads.Pre reads.Post tie.handed_clauses
+s₂ c = c.before.before.before.before.before.before.before.before.before.before.before.before
 
 -- its row is written
-plain : (c : lts.After-put_row reads.Pre reads.Post) → let s = c.before.before.before.before.before.before.before.before in
+plain : (c : lts.After-put_row tie.the-claims reads.Pre reads.Post tie.handed_clauses) → let s = c.before.before.before.before.before.before.before.before in
     ToWrite s c.put_row-behind.new.out c.put_row-behind.result (follow_bytes s.args.first (sums s) (opened s) ∷ [])
 plain c = step (begun c.before.before.before.before.before.before.before.before) (row_written c.push_opening.ensures c.put_row-behind.ensures)
 
 -- what it adds
-added : (c : lts.After-added_in reads.Pre reads.Post) → (added_is c.added_in.result ≡ (opened (s₂ c)).additions) × AddedSmall c.added_in.result
+added : (c : lts.After-added_in tie.the-claims reads.Pre reads.Post tie.handed_clauses) → (added_is c.added_in.result ≡ (opened (s₂ c)).additions) × AddedSmall c.added_in.result
 added c =
     let says = c.push_opening.ensures in
     (c.added_in.ensures.0 ∙ ap (λ (x : RestrictedAction). x.additions) says.is, c.added_in.ensures.1)
@@ -52,8 +53,9 @@ push_opening-requires c =
 pub put_row-behind-requires : goal.put_row-behind-requires
 put_row-behind-requires c =
     let s = c.before.before.before.before.before.before.before in
-    row-ready c.push_opening.ensures (opened-sized s.requires.lowerable.0 s.args.next)
-    (plain-fit s.args.first (sums s) (opened s) s.requires.fit) (room s.requires.room (begun s))
+    let ready = row-ready c.push_opening.ensures (opened-sized s.requires.lowerable.0 s.args.next)
+        (plain-fit s.args.first (sums s) (opened s) s.requires.fit) (room s.requires.room (begun s)) in
+    record { writable = ready.0; room = ready.1 }
 
 pub added_in-requires : goal.added_in-requires
 added_in-requires c =
@@ -62,8 +64,9 @@ added_in-requires c =
 pub follow-requires : goal.follow-requires
 follow-requires c =
     let s = s₂ c in
-    follow-ready s.args.first s.args.sums s.args.weights.now (opened s) (added c) s.requires.lowerable.1 s.requires.fit
-    (room s.requires.room (plain c.before.before.before.before))
+    let ready = follow-ready s.args.first s.args.sums s.args.weights.now (opened s) (added c) s.requires.lowerable.1 s.requires.fit
+        (room s.requires.room (plain c.before.before.before.before)) in
+    record { keeps = ready.0; room = ready.1 }
 
 pub returns : goal.returns
 returns c =
@@ -71,7 +74,7 @@ returns c =
     let s = s₂ a in
     let says = c.push_opening.ensures in
     record {
-      wrote = done (step (plain a.before.before.before.before.before.before)
+      wrote = done (step (plain a.before.before.before.before)
           (follow-written s.args.first s.args.sums s.args.weights.now (opened s) (added a) c.follow.ensures));
       marks_long = says.marks_long;
       numbers_long = says.numbers_long;

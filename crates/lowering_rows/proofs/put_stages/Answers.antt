@@ -24,7 +24,7 @@ loop-j-init c = (staging-start c.requires.all_fit, refl, refl)
 pub stage_at-stage-requires : goal.stage_at-stage-requires
 stage_at-stage-requires c =
     let p = c.requires in
-    (p.0.0.variables_few, p.0.1, p.0.0, omega (arith, c.loop-j-test.true, p.1.0.0))
+    (p.bounded.0.variables_few, p.bounded.1, p.bounded.0, omega (arith, c.loop-j-test.true, p.count_value.0))
 
 pub overflow_add-j : goal.overflow_add-j
 overflow_add-j c = omega (arith, c.loop-j-test.true, c.requires.count_value.1)
@@ -39,7 +39,6 @@ next_stage-next-requires c = omega (
   c.loop-j-test.true,
   c.requires.count_value.1,
   c.requires.count_value.3,
-
 )
 
 pub put_stage-place-requires : goal.put_stage-place-requires
@@ -58,11 +57,13 @@ put_stage-place-requires c =
     let on : next ≡ next_number n (length ds - (j + 1)) = c.next_stage-next.ensures ∙ ap (λ (z : ℕ). next_number n (z - (j + 1))) size in
     let high : 0 < n = omega (arith, loop.invariant.0.number_is, c.requires.count_value.2) in
     let turns = subst (λ (z : ℕ). eqb n z ≡ false) (sym c.next_stage-next.ensures) (turns-on n (c.args.count - (j + 1)) high) in
-    let sums = sums_in c.args.sums c.args.weights.now in record { marks_len = (loop.invariant.1, loop.invariant.2, stands.small, c.requires.bounded.2); all_fit = (
-        subst AllFit (sym (rows_are_lem c.args.first sums h.variables h.modes n next stands turns)) (staging-fit loop.invariant.0 d is below next on),
-        room_as (sym (stage_is c.args.first sums h.variables h.modes n next stands turns))
-            (staging-room loop.invariant.0 d is below next on c.requires.room),
-      ); room =  }
+    let sums = sums_in c.args.sums c.args.weights.now in
+    record {
+      marks_len = (loop.invariant.1, loop.invariant.2, stands.small, c.requires.bounded.2);
+      all_fit = subst AllFit (sym (rows_are_lem c.args.first sums h.variables h.modes n next stands turns)) (staging-fit loop.invariant.0 d is below next on);
+      room = room_as (sym (stage_is c.args.first sums h.variables h.modes n next stands turns))
+          (staging-room loop.invariant.0 d is below next on c.requires.room);
+    }
 
 pub overflow_add-number : goal.overflow_add-number
 overflow_add-number c = omega (
@@ -71,7 +72,6 @@ overflow_add-number c = omega (
   c.loop-j-test.true,
   c.requires.count_value.1,
   c.requires.count_value.3,
-
 )
 
 pub loop-j-smaller : goal.loop-j-smaller

@@ -9,10 +9,10 @@ pub returns-in-None : goal.returns-in-None
 returns-in-None c = rw c.in-None.is
 
 pub returns-in-Add : goal.returns-in-Add
-returns-in-Add c = let e = c.effect.given in let k : SFits w64 e.0.1.0 = search rules in rw (e.1, to_z-of_z k)
+returns-in-Add c = let k : SFits w64 c.in-Add.c = search rules in rw (c.in-Add.is, to_z-of_z k)
 
 pub returns-in-Linear : goal.returns-in-Linear
-returns-in-Linear c = let e = c.effect-in-Linear-1.given in let k : SFits w64 e.0.1.0 = search rules in rw (e.1, to_z-of_z k)
+returns-in-Linear c = let k : SFits w64 c.in-Linear.w = search rules in rw (c.in-Linear.is, to_z-of_z k)
 
 pub returns-in-Quotient : goal.returns-in-Quotient
 returns-in-Quotient c = rw c.in-Quotient.is

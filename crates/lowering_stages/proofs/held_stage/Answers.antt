@@ -20,16 +20,17 @@ use Rattle.lowering_stages.proofs.Rows.{known}
 use Rattle.lowering_stages.proofs.held_stage.Goals as goal
 use Rattle.lowering_stages.proofs.held_stage.Lts as lts
 use Rattle.lowering_stages.proofs.held_stage.Reads as reads
+use Rattle.lowering_stages.proofs.held_stage.Tie as tie
 
 -- there are as many places as there is room for
-long : (s : lts.Start reads.Pre reads.Post) → length s.args.effects.places ≡ 3
+long : (s : lts.Start tie.the-claims reads.Pre reads.Post tie.handed_clauses) → length s.args.effects.places ≡ 3
 long s = search (rules, length-mapped)
 
 -- effect e is the one that is read
-here : (s : lts.Start reads.Pre reads.Post) → s.args.e < length s.args.effects.places
+here : (s : lts.Start tie.the-claims reads.Pre reads.Post tie.handed_clauses) → s.args.e < length s.args.effects.places
 here s = omega (arith, long s, s.requires.a_bound.2, s.requires.a_bound.1.few.few)
 
-is : (s : lts.Start reads.Pre reads.Post) → drop s.args.e (effects_is s.args.effects) ≡ numeric_is (get_or s.args.effects.places s.args.e no_place) ∷ drop (suc s.args.e)
+is : (s : lts.Start tie.the-claims reads.Pre reads.Post tie.handed_clauses) → drop s.args.e (effects_is s.args.effects) ≡ numeric_is (get_or s.args.effects.places s.args.e no_place) ∷ drop (suc s.args.e)
     (effects_is s.args.effects)
 is s = effects-from s.args.effects s.args.e (here s) s.requires.a_bound.2
 

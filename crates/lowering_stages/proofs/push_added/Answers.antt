@@ -12,41 +12,42 @@ use Rattle.lowering_stages.proofs.Rows.{Adding, adding-start, adding-room, addin
 use Rattle.lowering_stages.proofs.push_added.Goals as goal
 use Rattle.lowering_stages.proofs.push_added.Lts as lts
 use Rattle.lowering_stages.proofs.push_added.Reads as reads
+use Rattle.lowering_stages.proofs.push_added.Tie as tie
 
-abbrev s₂ : lts.After-push_amount2 reads.Pre reads.Post → lts.Start reads.Pre reads.Post
-s₂ c = c.before
+abbrev s₂ : lts.After-push_amount2 tie.the-claims reads.Pre reads.Post → lts.Start tie.the-claims reads.Pre reads.Post
+s₂ c = c.before.before.before.before.before.before.before.before.before.before.before.before
 
-abbrev s₃ : lts.After-push_amount3 reads.Pre reads.Post → lts.Start reads.Pre reads.Post
+abbrev s₃ : lts.After-push_amount3 tie.the-claims reads.Pre reads.Post → lts.Start tie.the-claims reads.Pre reads.Post
 s₃ c = s₂ c.before.before.before.before.before.before
 
-abbrev s₄ : lts.After-push_amount4 reads.Pre reads.Post → lts.Start reads.Pre reads.Post
+abbrev s₄ : lts.After-push_amount4 tie.the-claims reads.Pre reads.Post → lts.Start tie.the-claims reads.Pre reads.Post
 s₄ c = s₃ c.before.before.before.before.before.before
 
 -- the first i additions are made
-abbrev Made : lts.Start reads.Pre reads.Post → ℕ → List ℕ → List ℤ → Type 0
+abbrev Made : lts.Start tie.the-claims reads.Pre reads.Post → ℕ → List ℕ → List ℤ → Type 0
 Made s i marks numbers = Adding s.args.marks.now s.args.numbers.now s.args.falls s.args.s s.args.s.added i marks numbers
 
 -- an amount as the code has it
-fits : (s : lts.Start reads.Pre reads.Post) (i : ℕ) → SFits w64 (integer_at s.args.s.amounts i)
+fits : (s : lts.Start tie.the-claims reads.Pre reads.Post) (i : ℕ) → SFits w64 (integer_at s.args.s.amounts i)
 fits s i = amount-fits (s.requires.2.amounts i)
 
-none : (s : lts.Start reads.Pre reads.Post) → Made s 0 s.args.marks.now s.args.numbers.now
+none : (s : lts.Start tie.the-claims reads.Pre reads.Post) → Made s 0 s.args.marks.now s.args.numbers.now
 none s = adding-start s.args.falls s.args.s s.requires.0.long s.requires.1
 
-one : (c : lts.After-push_amount reads.Pre reads.Post) → Made c.before.before.before.before.before.before 1 c.push_amount.new.marks c.push_amount.new.numbers
+one : (c : lts.After-push_amount tie.the-claims reads.Pre reads.Post) → Made c.before.before.before.before.before.before 1 c.push_amount.new.marks c.push_amount.new.numbers
 one c = adding-next (none c.before.before.before.before.before.before) c.if-count-lt1.false (rw (to_z-of_z (fits c.before.before.before.before.before.before 0)) at c.push_amount.ensures)
 
-two : (c : lts.After-push_amount2 reads.Pre reads.Post) → Made (s₂ c) 2 c.push_amount-2.new.marks c.push_amount-2.new.numbers
+two : (c : lts.After-push_amount2 tie.the-claims reads.Pre reads.Post) → Made (s₂ c) 2 c.push_amount-2.new.marks c.push_amount-2.new.numbers
 two c =
     adding-next (one c.before.before.before.before.before.before) c.if-count-lt2.false
     (rw (to_z-of_z (fits (s₂ c) 1)) at c.push_amount-2.ensures)
 
-three : (c : lts.After-push_amount3 reads.Pre reads.Post) → Made (s₃ c) 3 c.push_amount-3.new.marks c.push_amount-3.new.numbers
+three : (c : lts.After-push_amount3 tie.the-claims reads.Pre reads.Post) → Made (s₃ c) 3 c.push_amount-3.new.marks c.push_amount-3.new.numbers
 three c =
     adding-next (two c.before.before.before.before.before.before) c.if-count-lt3.false
     (rw (to_z-of_z (fits (s₃ c) 2)) at c.push_amount-3.ensures)
 
-four : (c : lts.After-push_amount4 reads.Pre reads.Post) → Made (s₄ c) 4 c.push_amount-4.new.marks c.push_amount-4.new.numbers
+four : (c : lts.After-push_amount4 tie.the-claims reads.Pre reads.Post) → Made (s₄ c) 4 c.push_amount-4.new.marks c.push_amount-4.new.numbers
 four c =
     adding-next (three c.before.before.before.before.before.before) c.if-count-lt4.false
     (rw (to_z-of_z (fits (s₄ c) 3)) at c.push_amount-4.ensures)

@@ -21,12 +21,13 @@ use Rattle.lowering_stages.proofs.Openings.{nothing-more, several-more}
 use Rattle.lowering_stages.proofs.push_numeric.Goals as goal
 use Rattle.lowering_stages.proofs.push_numeric.Lts as lts
 use Rattle.lowering_stages.proofs.push_numeric.Reads as reads
+use Rattle.lowering_stages.proofs.push_numeric.Tie as tie
 
 -- there are as many places as there is room for
-long : (s : lts.Start reads.Pre reads.Post) → length s.args.effects.places ≡ 3
+long : (s : lts.Start tie.the-claims reads.Pre reads.Post) → length s.args.effects.places ≡ 3
 long s = search (rules, length-mapped)
 
-abbrev row : lts.Start reads.Pre reads.Post → RestrictedAction
+abbrev row : lts.Start tie.the-claims reads.Pre reads.Post → RestrictedAction
 row s = row_is s.args.marks.now s.args.numbers.now
 
 pub returns-then-count-eq0 : goal.returns-then-count-eq0

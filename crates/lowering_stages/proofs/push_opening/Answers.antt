@@ -13,12 +13,13 @@ use Rattle.lowering_stages.proofs.Openings.{asked-room, opened-room, single-is, 
 use Rattle.lowering_stages.proofs.push_opening.Goals as goal
 use Rattle.lowering_stages.proofs.push_opening.Lts as lts
 use Rattle.lowering_stages.proofs.push_opening.Reads as reads
+use Rattle.lowering_stages.proofs.push_opening.Tie as tie
 
 -- what the rows say before, and an action with what effects need and add
-abbrev row : lts.Start reads.Pre reads.Post → RestrictedAction
+abbrev row : lts.Start tie.the-claims reads.Pre reads.Post → RestrictedAction
 row s = row_is s.args.marks.now s.args.numbers.now
 
-abbrev more : lts.Start reads.Pre reads.Post → RestrictedAction → List Effect → RestrictedAction
+abbrev more : lts.Start tie.the-claims reads.Pre reads.Post → RestrictedAction → List Effect → RestrictedAction
 more s x es = with_numeric s.args.a (lower_of s.args.shape) (upper_of s.args.shape) es x
 
 pub push_numeric-requires : goal.push_numeric-requires

@@ -19,9 +19,10 @@ use Rattle.lowering_stages.proofs.Openings.{nothing-more, add-more, linear-more,
 use Rattle.lowering_stages.proofs.push_single.Goals as goal
 use Rattle.lowering_stages.proofs.push_single.Lts as lts
 use Rattle.lowering_stages.proofs.push_single.Reads as reads
+use Rattle.lowering_stages.proofs.push_single.Tie as tie
 
 -- the rows stay where the effect needs and adds nothing
-unchanged : (s : lts.Start reads.Pre reads.Post) → added_bound (lower_of s.args.shape) (upper_of s.args.shape) (numeric_is s.args.place ∷ []) ≡ []
+unchanged : (s : lts.Start tie.the-claims reads.Pre reads.Post) → added_bound (lower_of s.args.shape) (upper_of s.args.shape) (numeric_is s.args.place ∷ []) ≡ []
     → opening_additions (numeric_is s.args.place ∷ []) ≡ []
     → Says (with_numeric s.args.a (lower_of s.args.shape) (upper_of s.args.shape) (numeric_is s.args.place ∷ [])
     (row_is s.args.marks.now s.args.numbers.now)) s.args.marks.now s.args.numbers.now
@@ -32,15 +33,14 @@ unchanged s f g =
 
 pub push_bound-requires : goal.push_bound-requires
 push_bound-requires c =
-    let e = c.effect.given in
-    let k : SFits w64 e.0.1.0 = search rules in
+    let k : SFits w64 c.in-Add.c = search rules in
     let l : SFits w64 c.lower_of-lower.result = search rules in
     let m : SFits w64 c.upper_of-upper.result = search rules in
     rw (to_z-of_z k, to_z-of_z l, to_z-of_z m, c.lower_of-lower.ensures, c.upper_of-upper.ensures) (
       room-less c.requires.0 (lit≤ tt) (lit≤ tt) (lit≤ tt) (lit≤ tt),
       c.requires.1,
-      (c.requires.2.lower_in e.0.0, c.requires.2.upper_in e.0.0),
-      (rw e.1 at c.requires.3).1.1,
+      (c.requires.2.lower_in c.in-Add.t, c.requires.2.upper_in c.in-Add.t),
+      (rw c.in-Add.is at c.requires.3).1.1,
     )
 
 pub push_addition-requires : goal.push_addition-requires
@@ -54,8 +54,7 @@ returns-in-None c =
 
 pub returns-in-Add : goal.returns-in-Add
 returns-in-Add c =
-    let e = c.effect.given in
-    let k : SFits w64 e.0.1.0 = search rules in
+    let k : SFits w64 c.in-Add.c = search rules in
     let l : SFits w64 c.lower_of-lower.result = search rules in
     let m : SFits w64 c.upper_of-upper.result = search rules in
     let one = rw (
@@ -65,18 +64,17 @@ returns-in-Add c =
       c.lower_of-lower.ensures,
       c.upper_of-upper.ensures,
     ) at c.push_bound.ensures in
-    rw e.1
-    (said (add-more c.args.a (lower_of c.args.shape) (upper_of c.args.shape) e.0.0 e.0.1.0
+    rw c.in-Add.is
+    (said (add-more c.args.a (lower_of c.args.shape) (upper_of c.args.shape) c.in-Add.t c.in-Add.c
     (row_is c.args.marks.now c.args.numbers.now))
     (pushed one with_addition (rw (to_z-of_z k) at c.push_addition.ensures)))
 
 pub returns-in-Linear : goal.returns-in-Linear
 returns-in-Linear c =
-    let e = c.effect-in-Linear-1.given in
     let p = c.args.place in
-    let k : SFits w64 e.0.1.0 = search rules in
-    rw e.1
-    (said (linear-more c.args.a (lower_of c.args.shape) (upper_of c.args.shape) e.0.0 e.0.1.0 (terms_is p.term_count p.terms)
+    let k : SFits w64 c.in-Linear.w = search rules in
+    rw c.in-Linear.is
+    (said (linear-more c.args.a (lower_of c.args.shape) (upper_of c.args.shape) c.in-Linear.field-0 c.in-Linear.w (terms_is p.term_count p.terms)
     (row_is c.args.marks.now c.args.numbers.now))
     (rw (to_z-of_z k) at c.push_given.ensures))
 

@@ -11,9 +11,10 @@ use borrow.Author.Rules.{rules}
 use Rattle.lowering_stages.proofs.push_turn.Goals as goal
 use Rattle.lowering_stages.proofs.push_turn.Lts as lts
 use Rattle.lowering_stages.proofs.push_turn.Reads as reads
+use Rattle.lowering_stages.proofs.push_turn.Tie as tie
 
 -- the least that the turn leaves
-least_fits : (c : lts.After-difference reads.Pre reads.Post) → SFits w64 c.difference-least.result
+least_fits : (c : lts.After-difference tie.the-claims reads.Pre reads.Post) → SFits w64 c.difference-least.result
 least_fits c = search rules
 
 pub push_mode_condition-requires : goal.push_mode_condition-requires

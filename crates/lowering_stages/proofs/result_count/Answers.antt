@@ -9,7 +9,6 @@ use Rattle.lowering_stages.proofs.result_count.Goals as goal
 
 pub returns-in-Linear : goal.returns-in-Linear
 returns-in-Linear c =
-    let e = c.enum_told-in-Linear-1.given in
     let p = c.args.place in
     let l : length p.terms ≡ 4 = search (rules, length-mapped) in
-    (rw e.1 (sym (linear-length p.term_count p.terms (omega (arith, c.requires)))), omega (arith, c.requires))
+    (rw c.in-Linear.is (sym (linear-length p.term_count p.terms (omega (arith, c.requires)))), omega (arith, c.requires))

@@ -23,30 +23,27 @@ same y emptied j d e h = subst (λ (x : ℤ). get_elem? (drain y (pos 1) ∷ ref
 
 pub linear_stage-requires : goal.linear_stage-requires
 linear_stage-requires c =
-    let e = c.enum_told-in-Linear-1.given in
     let p = c.args.place in
     let l : length p.terms ≡ 4 = search (rules, length-mapped) in
     let ok = c.requires.1 in
     let few : p.term_count ≤ length p.terms = omega (arith, ok.terms_few) in
-    let below = rw e.1 at c.requires.2 in (
+    let below = rw c.in-Linear.is at c.requires.2 in (
       c.requires.0,
       ok.terms_few,
       omega (arith, below, linear-length p.term_count p.terms few),
       weights-small c.args.a p.term_count
-          p.terms few (rw e.1 at ok.effect_ok).3.0,
+          p.terms few (rw c.in-Linear.is at ok.effect_ok).3.0,
     )
 
 pub division_stage-requires : goal.division_stage-requires
 division_stage-requires c =
-    let e = c.effect-in-Quotient-1.given in
-    let k : SFits w64 e.0.1.1.0 = search rules in
-    rw (to_z-of_z k) (c.requires.0, (rw e.1 at c.requires.1.effect_ok).2)
+    let k : SFits w64 c.in-Quotient.c = search rules in
+    rw (to_z-of_z k) (c.requires.0, (rw c.in-Quotient.is at c.requires.1.effect_ok).2)
 
 pub division_stage-requires-in-Residue : goal.division_stage-requires-in-Residue
 division_stage-requires-in-Residue c =
-    let e = c.effect-in-Residue-1.given in
-    let k : SFits w64 e.0.1.1.0 = search rules in
-    rw (to_z-of_z k) (c.requires.0, (rw e.1 at c.requires.1.effect_ok).2)
+    let k : SFits w64 c.in-Residue.c = search rules in
+    rw (to_z-of_z k) (c.requires.0, (rw c.in-Residue.is at c.requires.1.effect_ok).2)
 
 pub returns-in-None : goal.returns-in-None
 returns-in-None c =
@@ -55,24 +52,20 @@ returns-in-None c =
 
 pub returns-in-Add : goal.returns-in-Add
 returns-in-Add c =
-    let e = c.effect.given in
-    rw e.1 c.term_stage.ensures
+    rw c.in-Add.is c.term_stage.ensures
 
 pub returns-in-Linear : goal.returns-in-Linear
 returns-in-Linear c =
-    let e = c.enum_told-in-Linear-1.given in
-    rw e.1 c.linear_stage.ensures
+    rw c.in-Linear.is c.linear_stage.ensures
 
 pub returns-in-Quotient : goal.returns-in-Quotient
 returns-in-Quotient c =
     let s = c.args in
-    let e = c.effect-in-Quotient-1.given in
-    let k : SFits w64 e.0.1.1.0 = search rules in
-    rw e.1 (λ d f. c.division_stage.ensures helper_a refl d (same e.0.1.0 helper_a s.j d (sym (to_z-of_z k)) f))
+    let k : SFits w64 c.in-Quotient.c = search rules in
+    rw c.in-Quotient.is (λ d f. c.division_stage.ensures helper_a refl d (same c.in-Quotient.y helper_a s.j d (sym (to_z-of_z k)) f))
 
 pub returns-in-Residue : goal.returns-in-Residue
 returns-in-Residue c =
     let s = c.args in
-    let e = c.effect-in-Residue-1.given in
-    let k : SFits w64 e.0.1.1.0 = search rules in
-    rw e.1 (λ d f. c.division_stage-in-Residue.ensures helper_b (add-one s.a) d (same e.0.1.0 helper_b s.j d (sym (to_z-of_z k)) f))
+    let k : SFits w64 c.in-Residue.c = search rules in
+    rw c.in-Residue.is (λ d f. c.division_stage-in-Residue.ensures helper_b (add-one s.a) d (same c.in-Residue.y helper_b s.j d (sym (to_z-of_z k)) f))

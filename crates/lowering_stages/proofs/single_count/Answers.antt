@@ -20,16 +20,15 @@ returns-in-Add c = ((λ lower upper. rw c.in-Add.is), lit≤ tt)
 
 pub returns-in-Linear : goal.returns-in-Linear
 returns-in-Linear c =
-    let e = c.enum_told-in-Linear-1.given in
     let p = c.args.place in
     let l : length p.terms ≡ 4 = search (rules, length-mapped) in
     let n = linear-length p.term_count p.terms (omega (arith, c.requires)) in (
-      (λ lower upper. rw e.1
+      (λ lower upper. rw c.in-Linear.is
           (omega (
             arith,
             n,
-            result-length (linear_effect e.0.0 e.0.1.0 (terms_is p.term_count p.terms))
-                (set_stages lower upper helper_a e.0.0 []),
+            result-length (linear_effect c.in-Linear.field-0 c.in-Linear.field-1 (terms_is p.term_count p.terms))
+                (set_stages lower upper helper_a c.in-Linear.field-0 []),
           ))),
       omega (arith, c.requires),
     )

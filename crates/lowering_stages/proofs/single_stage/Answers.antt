@@ -13,9 +13,10 @@ use Rattle.lowering_stages.proofs.Effects.{single-sets, result-at, result-past}
 use Rattle.lowering_stages.proofs.single_stage.Goals as goal
 use Rattle.lowering_stages.proofs.single_stage.Lts as lts
 use Rattle.lowering_stages.proofs.single_stage.Reads as reads
+use Rattle.lowering_stages.proofs.single_stage.Tie as tie
 
 -- its stages before Clear stand in front
-parted : (s : lts.Start reads.Pre reads.Post) → single_stages (lower_of s.args.shape) (upper_of s.args.shape) (numeric_is s.args.place)
+parted : (s : lts.Start tie.the-claims reads.Pre reads.Post) → single_stages (lower_of s.args.shape) (upper_of s.args.shape) (numeric_is s.args.place)
     ≡ result_stages (numeric_is s.args.place)
     (set_stages (lower_of s.args.shape) (upper_of s.args.shape) (result_in (numeric_is s.args.place)) (target (numeric_is s.args.place)) [])
 parted s = single-sets (lower_of s.args.shape) (upper_of s.args.shape) (numeric_is s.args.place) s.args.j s.requires.3

@@ -15,13 +15,14 @@ use Rattle.lowering_stages.proofs.Holds.{no-stages, one-alone, found-held, found
 use Rattle.lowering_stages.proofs.stage_at.Goals as goal
 use Rattle.lowering_stages.proofs.stage_at.Lts as lts
 use Rattle.lowering_stages.proofs.stage_at.Reads as reads
+use Rattle.lowering_stages.proofs.stage_at.Tie as tie
 
 -- there are as many places as there is room for
-long : (s : lts.Start reads.Pre reads.Post) → length s.args.effects.places ≡ 3
+long : (s : lts.Start tie.the-claims reads.Pre reads.Post tie.handed_clauses) → length s.args.effects.places ≡ 3
 long s = search (rules, length-mapped)
 
 -- an action that has stages has an effect
-counted : (s : lts.Start reads.Pre reads.Post) → s.args.effects.count < 2 → s.args.effects.count ≡ 1
+counted : (s : lts.Start tie.the-claims reads.Pre reads.Post tie.handed_clauses) → s.args.effects.count < 2 → s.args.effects.count ≡ 1
 counted s few = by s.args.effects.count refl
   where
     by : (n : ℕ) → n ≡ s.args.effects.count → s.args.effects.count ≡ 1
@@ -30,10 +31,10 @@ counted s few = by s.args.effects.count refl
         absurd (omega (arith, s.requires.3, ap length none))
     by (suc n) e = omega arith
 
-single : (s : lts.Start reads.Pre reads.Post) → s.args.effects.count < 2 → effects_is s.args.effects ≡ numeric_is (get_or s.args.effects.places 0 no_place) ∷ []
+single : (s : lts.Start tie.the-claims reads.Pre reads.Post tie.handed_clauses) → s.args.effects.count < 2 → effects_is s.args.effects ≡ numeric_is (get_or s.args.effects.places 0 no_place) ∷ []
 single s few = one-alone s.args.effects (omega (arith, long s)) (counted s few)
 
-many : (s : lts.Start reads.Pre reads.Post) → 2 ≤ s.args.effects.count → 2 ≤ length (effects_is s.args.effects)
+many : (s : lts.Start tie.the-claims reads.Pre reads.Post tie.handed_clauses) → 2 ≤ s.args.effects.count → 2 ≤ length (effects_is s.args.effects)
 many s h = omega (arith, effects-length s.args.effects, long s)
 
 pub single_stage-requires : goal.single_stage-requires

@@ -15,9 +15,10 @@ use Rattle.lowering_stages.proofs.Holds.{no-stages, several-stages, one-alone}
 use Rattle.lowering_stages.proofs.stage_count.Goals as goal
 use Rattle.lowering_stages.proofs.stage_count.Lts as lts
 use Rattle.lowering_stages.proofs.stage_count.Reads as reads
+use Rattle.lowering_stages.proofs.stage_count.Tie as tie
 
 -- there are as many places as there is room for
-long : (s : lts.Start reads.Pre reads.Post) → length s.args.effects.places ≡ 3
+long : (s : lts.Start tie.the-claims reads.Pre reads.Post) → length s.args.effects.places ≡ 3
 long s = search (rules, length-mapped)
 
 pub returns-then-count-eq0 : goal.returns-then-count-eq0

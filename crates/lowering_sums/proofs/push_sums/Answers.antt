@@ -12,9 +12,10 @@ use Rattle.lowering_sums.proofs.Own.{Becoming, own_at, become-start, become-room
 use Rattle.lowering_sums.proofs.push_sums.Goals as goal
 use Rattle.lowering_sums.proofs.push_sums.Lts as lts
 use Rattle.lowering_sums.proofs.push_sums.Reads as reads
+use Rattle.lowering_sums.proofs.push_sums.Tie as tie
 
 -- there are as many places as there is room for
-long : (s : lts.Start reads.Pre reads.Post goal.the-invariant-loop-i goal.the-decreases-loop-i) → length s.args.own.places ≡ 4
+long : (s : lts.Start tie.the-claims reads.Pre reads.Post goal.the-invariant-loop-i goal.the-decreases-loop-i) → length s.args.own.places ≡ 4
 long s = search (rules, length-mapped)
 
 pub loop-i-init : goal.loop-i-init

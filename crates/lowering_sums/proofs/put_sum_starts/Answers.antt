@@ -18,9 +18,10 @@ use Rattle.lowering_sums.proofs.Starting.{sum_start, starts-are, starts-there, s
 use Rattle.lowering_sums.proofs.put_sum_starts.Goals as goal
 use Rattle.lowering_sums.proofs.put_sum_starts.Lts as lts
 use Rattle.lowering_sums.proofs.put_sum_starts.Reads as reads
+use Rattle.lowering_sums.proofs.put_sum_starts.Tie as tie
 
 -- the U that a turn writes
-coded : (c : lts.After-bits reads.Pre reads.Post goal.the-invariant-loop-j goal.the-decreases-loop-j)
+coded : (c : lts.After-bits tie.the-claims reads.Pre reads.Post goal.the-invariant-loop-j goal.the-decreases-loop-j tie.handed_clauses)
     → (sum_start (take c.args.n c.args.starts.now) (get_or (sums_in c.args.sums c.args.weights.now) c.loop-j.j [])
     ≡ encode (Start c.bits-bits.result))
 coded c =

@@ -10,39 +10,33 @@ use Rattle.plan_expand.specs.Expanding.{length_of}
 use Rattle.plan_expand.proofs.Answering.{expansion_answer, expandable, answers}
 use borrow.Author.Rules.{rules}
 use Rattle.plan_expand.proofs.expand.Goals as goal
-use Rattle.plan_expand.proofs.expand.Lts as lts
-use Rattle.plan_expand.proofs.expand.Reads as reads
 
 pub open-requires : goal.open-requires
 open-requires c = (refl, refl, refl, refl)
 
--- what is ready
-ready : (c : lts.After-t reads.Pre reads.Post) → let o = c.«open» in
-    Started c.args.file.now c.args.plan.now c.in-Ready.t o.new.1.1.0 o.new.1.1.1.0 o.new.1.1.1.1.0
-    o.new.1.1.1.1.1.0
-ready c = rw c.in-Ready.is at c.«open».ensures
-
 pub judge_steps-judged-requires : goal.judge_steps-judged-requires
 judge_steps-judged-requires c =
-    let S = ready c.before.before.before.before.before.before in
+    let o = c.«open» in
+    let S : Started c.args.file.now c.args.plan.now c.in-Ready.t o.new.marks o.new.numbers o.new.values o.new.modes = rw c.in-Ready.is at o.ensures in
     (usables S.rows, S.plan_is.steps_are, S.plan_is.few, S.inside.shaped.modes_long)
 
 pub write_expansion-requires : goal.write_expansion-requires
 write_expansion-requires c =
-    let S = ready c.before.before.before.before.before.before.before.before.before.before.before.before.before in
+    let o = c.«open» in
+    let S : Started c.args.file.now c.args.plan.now c.in-Ready.t o.new.marks o.new.numbers o.new.values o.new.modes = rw c.in-Ready.is at o.ensures in
     let l = c.length_of in
-    let j = c.judge_steps-judged in record { usables = (usables S.rows, S.plan_is.steps_are, S.plan_is.few, S.inside.shaped.modes_long); expandable = (expandable S l.result (l.ensures ∙ ap (λ (d : Judging). length_of d.verdict d.price d.passing) j.ensures),) }
+    let j = c.judge_steps-judged in record { usables = (usables S.rows, S.plan_is.steps_are, S.plan_is.few, S.inside.shaped.modes_long); expandable = expandable S l.result (l.ensures ∙ ap (λ (d : Judging). length_of d.verdict d.price d.passing) j.ensures) }
 
 pub returns-in-Refused : goal.returns-in-Refused
 returns-in-Refused c =
     let s = c.args in
-    let e = c.number.given in
-    let o = rw e.1 at c.«open».ensures in
-    refusal (refused-both expansion_answer s.file.now s.plan.now e.0.0 e.0.1.0 o.0)
+    let o = rw c.in-Refused.is at c.«open».ensures in
+    refusal (refused-both expansion_answer s.file.now s.plan.now c.in-Refused.number c.in-Refused.place o.0)
 
 pub returns-in-Ready : goal.returns-in-Ready
 returns-in-Ready c =
-    let j = c.before in
-    answers (ready j.before.before.before.before.before.before)
-    (c.length_of.ensures ∙ ap (λ (d : Judging). length_of d.verdict d.price d.passing) j.judge_steps-judged.ensures)
+    let o = c.«open» in
+    let S : Started c.args.file.now c.args.plan.now c.in-Ready.t o.new.marks o.new.numbers o.new.values o.new.modes = rw c.in-Ready.is at o.ensures in
+    answers S
+    (c.length_of.ensures ∙ ap (λ (d : Judging). length_of d.verdict d.price d.passing) c.judge_steps-judged.ensures)
     c.write_expansion.ensures

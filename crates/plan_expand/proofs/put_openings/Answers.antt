@@ -13,14 +13,15 @@ use borrow.Author.Rules.{rules}
 use Rattle.plan_expand.proofs.put_openings.Goals as goal
 use Rattle.plan_expand.proofs.put_openings.Lts as lts
 use Rattle.plan_expand.proofs.put_openings.Reads as reads
+use Rattle.plan_expand.proofs.put_openings.Tie as tie
 
 -- a turn of the loop, from the number of its step on
-module _ (w : lts.After-wide16 reads.Pre reads.Post goal.the-invariant-loop-i goal.the-decreases-loop-i) where
-  abbrev s : lts.Start reads.Pre reads.Post goal.the-invariant-loop-i goal.the-decreases-loop-i
+module _ (w : lts.After-wide16 tie.the-claims reads.Pre reads.Post goal.the-invariant-loop-i goal.the-decreases-loop-i) where
+  abbrev s : lts.Start tie.the-claims reads.Pre reads.Post goal.the-invariant-loop-i goal.the-decreases-loop-i
   s = w.before.before.before.before.before.before
 
   within : w.loop-i.i < length (plan_numbers s.args.plan.now)
-  within = omega (arith, w.loop-i-test.taken, s.requires.0)
+  within = omega (arith, w.loop-i-test.true, s.requires.0)
 
   is : w.wide16-k.result ≡ get_or (plan_numbers s.args.plan.now) w.loop-i.i 0
   is = w.wide16-k.ensures ∙ w.action_of.ensures

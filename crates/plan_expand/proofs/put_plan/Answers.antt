@@ -16,10 +16,11 @@ use borrow.Author.Rules.{rules}
 use Rattle.plan_expand.proofs.put_plan.Goals as goal
 use Rattle.plan_expand.proofs.put_plan.Lts as lts
 use Rattle.plan_expand.proofs.put_plan.Reads as reads
+use Rattle.plan_expand.proofs.put_plan.Tie as tie
 
 -- a turn of the loop, from the number of its step on
-module _ (w : lts.After-wide16 reads.Pre reads.Post goal.the-invariant-loop-i goal.the-decreases-loop-i) where
-  abbrev s : lts.Start reads.Pre reads.Post goal.the-invariant-loop-i goal.the-decreases-loop-i
+module _ (w : lts.After-wide16 tie.the-claims reads.Pre reads.Post goal.the-invariant-loop-i goal.the-decreases-loop-i tie.handed_clauses) where
+  abbrev s : lts.Start tie.the-claims reads.Pre reads.Post goal.the-invariant-loop-i goal.the-decreases-loop-i tie.handed_clauses
   s = w.before.before.before.before.before.before
 
   abbrev T : Table
@@ -34,7 +35,7 @@ module _ (w : lts.After-wide16 reads.Pre reads.Post goal.the-invariant-loop-i go
   going = w.loop-i.invariant.0
 
   within : w.loop-i.i < length (plan_numbers s.args.plan.now)
-  within = omega (arith, w.loop-i-test.taken, s.requires.usables.2)
+  within = omega (arith, w.loop-i-test.true, s.requires.usables.2)
 
   is : w.wide16-k.result ≡ get_or (plan_numbers s.args.plan.now) w.loop-i.i 0
   is = w.wide16-k.ensures ∙ w.action_of.ensures
@@ -59,32 +60,34 @@ pub action_of-requires : goal.action_of-requires
 action_of-requires c = omega (arith, halves_long c.args.plan.now, c.loop-i-test.true, c.requires.usables.2)
 
 pub bounds-openings-k : goal.bounds-openings-k
-bounds-openings-k c = let w = c.before.before.before in omega (arith, below w, (usable w).actions_few)
+bounds-openings-k c = let w = c.before.before in omega (arith, below w, (usable w).actions_few)
 
 pub bounds-marks-k : goal.bounds-marks-k
-bounds-marks-k c = let w = c.before.before.before.before in omega (arith, below w, (usable w).actions_few, (usable w).marks_long)
+bounds-marks-k c = let w = c.before.before.before in omega (arith, below w, (usable w).actions_few, (usable w).marks_long)
 
 pub bounds-numbers-k : goal.bounds-numbers-k
-bounds-numbers-k c = let w = c.before.before.before.before in omega (arith, below w, (usable w).actions_few, (usable w).numbers_long)
+bounds-numbers-k c = let w = c.before.before.before in omega (arith, below w, (usable w).actions_few, (usable w).numbers_long)
 
 pub put_turn-place-requires : goal.put_turn-place-requires
 put_turn-place-requires c =
-    let w = c.before.before.before.before.before.before.before in
+    let w = c.before.before.before.before.before.before in
     let u = usable w in
     let l = c.loop-i in
-    let k = w.wide16-k.result in record { opening_bound = ((s w).requires.usables.1 k (below w), u.variables_few, u.modes_few, (going w).long, l.invariant.1); keep_or_set = (
-        ((row w).keeps, read-when-held (s w).args.m l.values l.modes u.variables_few (row w) (holds (going w) (within w) k (is w))),
-        has_room (going w) (within w) k (is w) (s w).requires.room,
-      ); room =  }
+    let k = w.wide16-k.result in
+    record {
+      opening_bound = ((s w).requires.usables.1 k (below w), u.variables_few, u.modes_few, (going w).long, l.invariant.1);
+      keep_or_set = ((row w).keeps, read-when-held (s w).args.m l.values l.modes u.variables_few (row w) (holds (going w) (within w) k (is w)));
+      room = has_room (going w) (within w) k (is w) (s w).requires.room
+    }
 
 pub overflow_add-i : goal.overflow_add-i
 overflow_add-i c = search (rules, arith)
 
 pub loop-i-preserved : goal.loop-i-preserved
 loop-i-preserved c =
-    let w = c.before.before.before.before.before.before.before.before.before.before in
+    let w = c.before.before.before.before.before.before.before.before.before in
     let t = c.put_turn-place.ensures in
-    (goes_on_lem (going w) (within w) w.wide16-k.result (is w) (usable w) t.1.0 t.0, t.1.1)
+    (goes_on_lem (going w) (within w) w.wide16-k.result (is w) (usable w) t.turn_taken t.wrote, t.times_len)
 
 pub shape_of-out : goal.shape_of-out
 shape_of-out c = as_long c.loop-i.invariant.0

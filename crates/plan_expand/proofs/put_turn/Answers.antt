@@ -24,4 +24,4 @@ finish-requires c =
 pub returns : goal.returns
 returns c =
     let l = c.put_strokes-count.ensures.listed in
-    (wrote_as (ap (λ (zs : List ℤ). plan_bytes_of (step_numbers c.args.opening zs)) l.is) c.put_step-place.ensures, (turn-taken c.finish.ensures, l.long))
+    record { wrote = wrote_as (ap (λ (zs : List ℤ). plan_bytes_of (step_numbers c.args.opening zs)) l.is) c.put_step-place.ensures; turn_taken = turn-taken c.finish.ensures; times_len = l.long }

@@ -3,49 +3,45 @@ use native.Mathlib.Omega.{arith}
 use mathlib.Core.Path.{refl}
 use Rattle.model.specs.Plans.{plan_numbers}
 use Rattle.source_step.specs.Step.{state}
-use Rattle.source_step.specs.Table.{Table, table}
+use Rattle.source_step.specs.Table.{table}
 use Rattle.plan_expand.specs.Expanding.{Expands}
 use Rattle.plan_expand.proofs.Expanding.{named-all}
 use Rattle.plan_expand.proofs.Writing.{expansion-room, expanded-short, expanded, expanded-alone}
 use borrow.Author.Rules.{rules}
 use Rattle.plan_expand.proofs.write_expansion.Goals as goal
-use Rattle.plan_expand.proofs.write_expansion.Lts as lts
-use Rattle.plan_expand.proofs.write_expansion.Reads as reads
-
--- the table of the rows, and what was counted
-abbrev T : lts.Start reads.Pre reads.Post → Table
-T s = table s.args.count s.args.marks.now s.args.numbers.now s.args.n s.args.m
-
-counted : (c : lts.After-needed2 reads.Pre reads.Post) → Expands (T c.before.before.before) (plan_numbers c.args.plan.now) (state c.args.values.now c.args.modes.now) c.in-Bytes.bytes
-counted c = rw c.in-Bytes.is at c.requires.expandable
 
 pub returns-then-out-bytes : goal.returns-then-out-bytes
-returns-then-out-bytes c = let o = c.openings_of-openings in rw c.in-Bytes.is (expanded-short (T c.before.before.before.before.before.before.before) (counted c.before.before.before.before.before) o.result.numbers o.ensures c.if-out-bytes.true)
+returns-then-out-bytes c =
+    let e : Expands (table c.args.count c.args.marks.now c.args.numbers.now c.args.n c.args.m) (plan_numbers c.args.plan.now) (state c.args.values.now c.args.modes.now) c.in-Bytes.bytes = rw c.in-Bytes.is at c.requires.expandable in
+    let o = c.openings_of-openings in
+    rw c.in-Bytes.is (expanded-short (table c.args.count c.args.marks.now c.args.numbers.now c.args.n c.args.m) e o.result.numbers o.ensures c.if-out-bytes.true)
 
 pub overflow_mul-steps : goal.overflow_mul-steps
 overflow_mul-steps c = search (rules, arith)
 
 pub put_openings-requires : goal.put_openings-requires
 put_openings-requires c =
-    let e = counted c.before.before.before.before.before.before.before.before in
-    (c.requires.usables.1, (λ i l. let k = named-all (T c.before.before.before.before.before.before.before.before.before.before) (plan_numbers c.args.plan.now) _ e.goes i l in omega (arith, k, c.requires.usables.0.actions_few)), omega (arith, c.if-out-bytes.false, c.if-bytes-steps.true))
+    let e : Expands (table c.args.count c.args.marks.now c.args.numbers.now c.args.n c.args.m) (plan_numbers c.args.plan.now) (state c.args.values.now c.args.modes.now) c.in-Bytes.bytes = rw c.in-Bytes.is at c.requires.expandable in
+    (c.requires.usables.1, (λ i l. let k = named-all (table c.args.count c.args.marks.now c.args.numbers.now c.args.n c.args.m) (plan_numbers c.args.plan.now) _ e.goes i l in omega (arith, k, c.requires.usables.0.actions_few)), omega (arith, c.if-out-bytes.false, c.if-bytes-steps.true))
 
 pub returns-then-bytes-steps : goal.returns-then-bytes-steps
 returns-then-bytes-steps c =
+    let e : Expands (table c.args.count c.args.marks.now c.args.numbers.now c.args.n c.args.m) (plan_numbers c.args.plan.now) (state c.args.values.now c.args.modes.now) c.in-Bytes.bytes = rw c.in-Bytes.is at c.requires.expandable in
     let o = c.openings_of-openings in
     rw c.in-Bytes.is
-    (expanded-alone (T c.before.before.before.before.before.before.before.before.before.before.before.before.before) (counted c.before.before.before.before.before.before.before.before.before.before.before) o.result.numbers o.ensures (omega (arith, c.if-out-bytes.false)) (omega (arith, c.if-bytes-steps.true, c.requires.usables.1)) c.put_openings.ensures)
+    (expanded-alone (table c.args.count c.args.marks.now c.args.numbers.now c.args.n c.args.m) e o.result.numbers o.ensures (omega (arith, c.if-out-bytes.false)) (omega (arith, c.if-bytes-steps.true, c.requires.usables.1)) c.put_openings.ensures)
 
 pub put_plan-requires : goal.put_plan-requires
 put_plan-requires c =
-    let e = counted c.before.before.before.before.before.before.before.before.before.before in
+    let e : Expands (table c.args.count c.args.marks.now c.args.numbers.now c.args.n c.args.m) (plan_numbers c.args.plan.now) (state c.args.values.now c.args.modes.now) c.in-Bytes.bytes = rw c.in-Bytes.is at c.requires.expandable in
     let o = c.openings_of-openings in
-    ((c.requires.usables.0, (λ k l. let few = o.ensures.few k (omega (arith, l)) in omega (arith, few, l, c.requires.usables.0.actions_few)), c.requires.usables.1, c.requires.usables.3), (e.goes, expansion-room (T c.before.before.before.before.before.before.before.before.before.before.before.before) e o.result.numbers o.ensures (omega (arith, c.if-out-bytes.false))))
+    record { usables = (c.requires.usables.0, (λ k l. let few = o.ensures.few k (omega (arith, l)) in omega (arith, few, l, c.requires.usables.0.actions_few)), c.requires.usables.1, c.requires.usables.3); modes_value = e.goes; room = expansion-room (table c.args.count c.args.marks.now c.args.numbers.now c.args.n c.args.m) e o.result.numbers o.ensures (omega (arith, c.if-out-bytes.false)) }
 
 pub returns-in-Refused : goal.returns-in-Refused
 returns-in-Refused c = rw c.in-Refused.is (refl, refl)
 
 pub returns-else-bytes-steps : goal.returns-else-bytes-steps
 returns-else-bytes-steps c =
+    let e : Expands (table c.args.count c.args.marks.now c.args.numbers.now c.args.n c.args.m) (plan_numbers c.args.plan.now) (state c.args.values.now c.args.modes.now) c.in-Bytes.bytes = rw c.in-Bytes.is at c.requires.expandable in
     let o = c.openings_of-openings in
-    rw c.in-Bytes.is (expanded (T c.before.before.before.before.before.before.before.before.before.before.before.before.before.before.before) (counted c.before.before.before.before.before.before.before.before.before.before.before.before.before) o.result.numbers o.ensures (omega (arith, c.if-out-bytes.false)) c.put_plan.ensures)
+    rw c.in-Bytes.is (expanded (table c.args.count c.args.marks.now c.args.numbers.now c.args.n c.args.m) e o.result.numbers o.ensures (omega (arith, c.if-out-bytes.false)) c.put_plan.ensures)

@@ -24,50 +24,51 @@ use mathlib.Core.Bool.{not}
 use Rattle.plan_project.proofs.advance_macro.Goals as goal
 use Rattle.plan_project.proofs.advance_macro.Lts as lts
 use Rattle.plan_project.proofs.advance_macro.Reads as reads
+use Rattle.plan_project.proofs.advance_macro.Tie as tie
 
-abbrev plan_of : lts.Start reads.Pre reads.Post → List ℕ
+abbrev plan_of : lts.Start tie.the-claims reads.Pre reads.Post tie.handed_clauses → List ℕ
 plan_of s = plan_numbers s.args.plan.now
 
-abbrev numbers_of : lts.Start reads.Pre reads.Post → List ℕ
+abbrev numbers_of : lts.Start tie.the-claims reads.Pre reads.Post tie.handed_clauses → List ℕ
 numbers_of s = numbers_at s.args.n s.args.m s.args.marks.now s.args.numbers.now s.args.sums.now s.args.values.now
     s.args.modes.now s.args.opening
 
-abbrev strokes_in : lts.Start reads.Pre reads.Post → List ℤ
+abbrev strokes_in : lts.Start tie.the-claims reads.Pre reads.Post tie.handed_clauses → List ℤ
 strokes_in s = strokes_of (effects_at s.args.marks.now s.args.numbers.now) (integer_at (take s.args.n s.args.values.now))
 
 pub returns-then-not-holds : goal.returns-then-not-holds
 returns-then-not-holds c = record { advanced = macro-refused c.args.n c.args.m c.args.marks.now c.args.numbers.now c.args.sums.now c.args.values.now
-          c.args.modes.now c.args.total c.args.at (plan_of c.before.before.before.before) c.args.opening c.requires.macro_is.0
-          (sym c.holds.ensures ∙ not-true _ (ap not c.if-not-holds.true)); times_len = (c.requires.n_bound.3,) }
+          c.args.modes.now c.args.total c.args.at (plan_of c.before.before.before) c.args.opening c.requires.macro_is.0
+          (sym c.holds.ensures ∙ not-true _ (ap not c.if-not-holds.true)); times_len = c.requires.n_bound.3 }
 
 -- the rows' test passed
-module _ (c : lts.Else1 reads.Pre reads.Post) where
-  abbrev s : lts.Start reads.Pre reads.Post
-  s = c.before.before.before.before.before
+module _ (c : lts.Else1 tie.the-claims reads.Pre reads.Post tie.handed_clauses) where
+  abbrev s : lts.Start tie.the-claims reads.Pre reads.Post tie.handed_clauses
+  s = c.before.before.before
 
   passed : held s.args.n s.args.m s.args.marks.now s.args.numbers.now s.args.sums.now s.args.values.now s.args.modes.now
       ≡ true
   passed = sym c.holds.ensures ∙ not-false _ (ap not c.if-not-holds.false)
 
-  reads : Reads s.args.n s.args.values.now s.args.marks.now s.args.numbers.now
-  reads = read-when-held s.args.m s.args.values.now s.args.modes.now s.requires.n_bound.0 s.requires.usable passed
+  row_reads : Reads s.args.n s.args.values.now s.args.marks.now s.args.numbers.now
+  row_reads = read-when-held s.args.m s.args.values.now s.args.modes.now s.requires.n_bound.0 s.requires.usable passed
 
 pub put_strokes-count-requires : goal.put_strokes-count-requires
-put_strokes-count-requires c = let e = c.before.before.before in ((s e).requires.n_bound.3, refl, reads e)
+put_strokes-count-requires c = let e = c.before.before in ((s e).requires.n_bound.3, refl, row_reads e)
 
 pub matches_step-matched-requires : goal.matches_step-matched-requires
 matches_step-matched-requires c =
     let l = c.put_strokes-count.ensures.listed in
-    let a = s c.before.before.before.before in
+    let a = s c.before.before.before in
     (a.requires.macro_is.3, l.few, l.long, omega (arith, a.requires.macro_is))
 
 -- the strokes were compared
-module _ (f : lts.After-matches_step reads.Pre reads.Post) where
-  abbrev strokes_put : lts.After-put_strokes reads.Pre reads.Post
-  strokes_put = f.before.before
+module _ (f : lts.After-matches_step tie.the-claims reads.Pre reads.Post tie.handed_clauses) where
+  abbrev strokes_put : lts.After-put_strokes tie.the-claims reads.Pre reads.Post tie.handed_clauses
+  strokes_put = f.before
 
-  abbrev test : lts.Else1 reads.Pre reads.Post
-  test = strokes_put.before.before.before.before
+  abbrev test : lts.Else1 tie.the-claims reads.Pre reads.Post tie.handed_clauses
+  test = f.before.before.before.before
 
   matched-is : f.matches_step-matched.result ≡ agreeing (numbers_of (s test)) (drop (s test).args.at (plan_of (s test)))
   matched-is =
@@ -83,16 +84,16 @@ module _ (f : lts.After-matches_step reads.Pre reads.Post) where
 
 pub finish-requires : goal.finish-requires
 finish-requires c =
-    let f = c.before.before.before.before in
+    let f = c.before.before.before in
     let a = s (test f) in
     (a.requires.n_bound.0, a.requires.n_bound.1, a.requires.n_bound.2, a.requires.usable.keeps, (strokes_put f).put_strokes-count.ensures.results_are)
 
 pub price_of-size-requires : goal.price_of-size-requires
 price_of-size-requires c =
-    let l = (strokes_put c.before.before.before.before.before.before).put_strokes-count.ensures.listed in (l.few, l.long, rw l.is l.within)
+    let l = (strokes_put c.before.before.before.before.before).put_strokes-count.ensures.listed in (l.few, l.long, rw l.is l.within)
 
 -- all of them were priced
-size_is : (p : lts.After-price_of reads.Pre reads.Post) → p.price_of-size.result ≡ length (numbers_of (s (test p.before.before.before.before.before.before)))
+size_is : (p : lts.After-price_of tie.the-claims reads.Pre reads.Post tie.handed_clauses) → p.price_of-size.result ≡ length (numbers_of (s (test p.before.before.before.before.before.before)))
 size_is p =
     let f = p.before.before.before.before.before.before in
     p.price_of-size.ensures.0
@@ -101,34 +102,34 @@ size_is p =
 
 pub past_macro-requires : goal.past_macro-requires
 past_macro-requires c =
-    let f = c.before.before.before.before.before.before.before in
-    ((fits f).0, (fits f).1, omega (arith, size_is c.before))
+    let f = c.before.before.before.before.before.before in
+    ((fits f).0, (fits f).1, omega (arith, size_is c))
 
 pub returns-then-finish : goal.returns-then-finish
 returns-then-finish c =
-    let f = c.before.before.before.before.before.before.before.before in
+    let f = c.before.before.before.before.before.before.before in
     let a = s (test f) in record { advanced = macro-past a.args.n a.args.m a.args.marks.now a.args.numbers.now a.args.sums.now a.args.values.now
           a.args.modes.now a.args.total a.args.at (plan_of a) a.args.opening a.requires.macro_is.0
-          (passed (test f)) (matched-is f) c.finish.ensures c.if-finish.true (size_is c.before.before) c.past_macro.ensures.answers c.past_macro.ensures.further; times_len = ((strokes_put f).put_strokes-count.ensures.listed.long,) }
+          (passed (test f)) (matched-is f) c.finish.ensures c.if-finish.true (size_is c.before) c.past_macro.ensures.answers c.past_macro.ensures.further; times_len = (strokes_put f).put_strokes-count.ensures.listed.long }
 
 -- where it hangs
-first-is : (o : lts.After-first_outside reads.Pre reads.Post) → let a = s (test o.before.before.before.before.before.before.before) in
+first-is : (o : lts.After-first_outside tie.the-claims reads.Pre reads.Post tie.handed_clauses) → let a = s (test o.before.before.before.before.before.before.before) in
     o.first_outside-first.result ≡ first_outside a.args.n a.args.marks.now a.args.numbers.now a.args.values.now
 first-is o =
     let f = o.before.before.before.before.before.before.before in
     let a = s (test f) in
     o.first_outside-first.ensures a.args.n a.args.values.now (strokes_put f).put_strokes-count.ensures.results_are
 
-first-there : (c : lts.After-effect_count reads.Pre reads.Post) → c.first_outside-first.result < c.effect_count.result
+first-there : (c : lts.After-effect_count tie.the-claims reads.Pre reads.Post tie.handed_clauses) → c.first_outside-first.result < c.effect_count.result
 first-there c =
     omega (arith, first-is c.before, c.effect_count.ensures, one_outside c.finish.ensures c.if-finish.false)
 
 pub strokes_walked-walked-requires : goal.strokes_walked-walked-requires
 strokes_walked-walked-requires c =
-    let f = c.before.before.before.before.before.before.before.before.before in
+    let f = c.before.before.before.before.before.before.before.before in
     let a = s (test f) in
     let l = (strokes_put f).put_strokes-count.ensures.listed in (
-      first-there c.before,
+      first-there c,
       omega (arith, c.effect_count.ensures),
       omega (
         arith,
@@ -141,23 +142,23 @@ strokes_walked-walked-requires c =
     )
 
 -- the strokes up to there
-module _ (w : lts.After-strokes_walked reads.Pre reads.Post) where
-  abbrev put : lts.After-put_strokes reads.Pre reads.Post
+module _ (w : lts.After-strokes_walked tie.the-claims reads.Pre reads.Post tie.handed_clauses) where
+  abbrev put : lts.After-put_strokes tie.the-claims reads.Pre reads.Post tie.handed_clauses
   put = strokes_put w.before.before.before.before.before.before.before.before.before
 
   few : w.strokes_walked-walked.result ≤ put.put_strokes-count.result
   few = omega (arith, w.strokes_walked-walked.ensures)
 
 pub price_of-size-requires-2 : goal.price_of-size-requires-2
-price_of-size-requires-2 c = let w = c.before in front-priced (put w).put_strokes-count.ensures.listed w.strokes_walked-walked.result (few w)
+price_of-size-requires-2 c = let w = c in front-priced (put w).put_strokes-count.ensures.listed w.strokes_walked-walked.result (few w)
 
 -- how many of the strokes of a step are gone through where it hangs
-abbrev walked_in : lts.Start reads.Pre reads.Post → ℕ
+abbrev walked_in : lts.Start tie.the-claims reads.Pre reads.Post tie.handed_clauses → ℕ
 walked_in a =
     strokes_walked (length (strokes_in a)) (effect_count_at a.args.marks.now)
     (first_outside a.args.n a.args.marks.now a.args.numbers.now a.args.values.now)
 
-walked-size : (p : lts.After-price_of2 reads.Pre reads.Post) → let a = s (test p.before.before.before.before.before.before.before.before.before.before) in
+walked-size : (p : lts.After-price_of2 tie.the-claims reads.Pre reads.Post tie.handed_clauses) → let a = s (test p.before.before.before.before.before.before.before.before.before.before) in
     p.price_of-size-2.result ≡ price_of_strokes (take (walked_in a) (strokes_in a))
 walked-size p =
     let w = p.before in
@@ -170,12 +171,12 @@ walked-size p =
 
 pub into_macro-requires : goal.into_macro-requires
 into_macro-requires c =
-    let f = c.before.before.before.before.before.before.before.before.before.before.before in
+    let f = c.before.before.before.before.before.before.before.before.before.before in
     ((fits f).0, (fits f).1, omega (arith, c.price_of-size-2.ensures.0))
 
 pub returns : goal.returns
 returns c =
-    let f = c.before.before.before.before.before.before.before.before.before.before.before.before in
+    let f = c.before.before.before.before.before.before.before.before.before.before.before in
     let a = s (test f) in record { advanced = macro-into a.args.n a.args.m a.args.marks.now a.args.numbers.now a.args.sums.now a.args.values.now
           a.args.modes.now a.args.total a.args.at (plan_of a) a.args.opening a.requires.macro_is.0
-          (passed (test f)) (matched-is f) c.finish.ensures c.if-finish.false (walked-size c.before.before) c.into_macro.ensures.answers c.into_macro.ensures.further; times_len = ((strokes_put f).put_strokes-count.ensures.listed.long,) }
+          (passed (test f)) (matched-is f) c.finish.ensures c.if-finish.false (walked-size c.before) c.into_macro.ensures.answers c.into_macro.ensures.further; times_len = (strokes_put f).put_strokes-count.ensures.listed.long }

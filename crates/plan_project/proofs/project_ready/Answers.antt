@@ -9,36 +9,28 @@ use Rattle.source_step.proofs.Tables.{usables}
 use Rattle.plan_project.proofs.Agreeing.{openable, below, kept, projected-so}
 use borrow.Author.Rules.{rules}
 use Rattle.plan_project.proofs.project_ready.Goals as goal
-use Rattle.plan_project.proofs.project_ready.Lts as lts
-use Rattle.plan_project.proofs.project_ready.Reads as reads
-
-rows-ready : (s : lts.Start reads.Pre reads.Post) → Usables (table s.args.count s.args.marks.now s.args.numbers.now s.args.n s.args.m)
-rows-ready s = usables s.requires.posed.rows
-
-few : (s : lts.Start reads.Pre reads.Post) → s.args.count ≤ 32
-few s = (rows-ready s).actions_few
 
 pub openings_of-openings-requires : goal.openings_of-openings-requires
 openings_of-openings-requires c = let s = c.before.before.before in (few s, omega (arith, few s, (rows-ready s).marks_long))
 
 pub offset_bounds-openings-count : goal.offset_bounds-openings-count
-offset_bounds-openings-count c = let h = few c.before.before.before.before in search (rules, arith)
+offset_bounds-openings-count c = let h = (usables c.requires.posed.rows).actions_few in search (rules, arith)
 
 pub bounds-openings-count : goal.bounds-openings-count
-bounds-openings-count c = let h = few c.before.before.before.before in search (rules, arith)
+bounds-openings-count c = let h = (usables c.requires.posed.rows).actions_few in search (rules, arith)
 
 pub put_openers-requires : goal.put_openers-requires
-put_openers-requires c = (refl, openable c.openings_of-openings.ensures (few c.before.before.before.before.before.before.before.before.before))
+put_openers-requires c = (refl, openable c.openings_of-openings.ensures (usables c.requires.posed.rows).actions_few)
 
 pub project_rows-requires : goal.project_rows-requires
 project_rows-requires c =
     let P = c.requires.posed in record { usables = (
-        rows-ready c.before.before.before.before.before.before.before.before.before.before.before.before.before.before,
+        usables P.rows,
         below P.rows c.openings_of-openings.ensures c.put_openers.ensures c.wide16-total.ensures,
         c.requires.steps_value.0,
         P.inside.shaped.modes_long,
-      ); kept = (kept P.rows c.openings_of-openings.ensures c.put_openers.ensures c.wide16-total.ensures P.inside P.start (plan_numbers c.args.plan.now)
-          (omega (arith, c.requires.steps_value)),) }
+      ); kept = kept P.rows c.openings_of-openings.ensures c.put_openers.ensures c.wide16-total.ensures P.inside P.start (plan_numbers c.args.plan.now)
+          (omega (arith, c.requires.steps_value)) }
 
 pub returns : goal.returns
 returns c =

@@ -12,7 +12,7 @@ pub returns-then-out-needed : goal.returns-then-out-needed
 returns-then-out-needed c = when-short c.follow_to_goal-followed.ensures c.args.out.now c.in-Ended.is c.if-out-needed.true
 
 pub put_found-requires : goal.put_found-requires
-put_found-requires c = record { room = (puttable c.follow_to_goal-followed.ensures c.args.out.now c.in-Ended.is c.if-out-needed.false c.requires.kept, c.requires.usables.2); notes = (noted-so c.follow_to_goal-followed.ensures c.args.out.now c.in-Ended.is c.if-out-needed.false c.requires.kept,) }
+put_found-requires c = record { room = (puttable c.follow_to_goal-followed.ensures c.args.out.now c.in-Ended.is c.if-out-needed.false c.requires.kept, c.requires.usables.2); notes = noted-so c.follow_to_goal-followed.ensures c.args.out.now c.in-Ended.is c.if-out-needed.false c.requires.kept }
 
 pub returns-in-Stopped : goal.returns-in-Stopped
 returns-in-Stopped c = when-stopped c.follow_to_goal-followed.ensures c.args.out.now c.in-Stopped.is

@@ -11,14 +11,15 @@ use borrow.Author.Rules.{rules}
 use Rattle.plan_project.proofs.put_sources.Goals as goal
 use Rattle.plan_project.proofs.put_sources.Lts as lts
 use Rattle.plan_project.proofs.put_sources.Reads as reads
+use Rattle.plan_project.proofs.put_sources.Tie as tie
 
-abbrev start_of : lts.After-source_of reads.Pre reads.Post goal.the-invariant-loop-at goal.the-decreases-loop-at → lts.Start reads.Pre reads.Post goal.the-invariant-loop-at goal.the-decreases-loop-at
-start_of w = w.before.before.before.before
+abbrev start_of : lts.After-source_of tie.the-claims reads.Pre reads.Post goal.the-invariant-loop-at goal.the-decreases-loop-at → lts.Start tie.the-claims reads.Pre reads.Post goal.the-invariant-loop-at goal.the-decreases-loop-at
+start_of w = w.before.before.before.before.before
 
-number_is_lem : (w : lts.After-source_of reads.Pre reads.Post goal.the-invariant-loop-at goal.the-decreases-loop-at) → w.action_of-number.result ≡ get_or (plan_numbers (start_of w).args.plan.now) w.loop-at.at 0
+number_is_lem : (w : lts.After-source_of tie.the-claims reads.Pre reads.Post goal.the-invariant-loop-at goal.the-decreases-loop-at) → w.action_of-number.result ≡ get_or (plan_numbers (start_of w).args.plan.now) w.loop-at.at 0
 number_is_lem w = w.action_of-number.ensures
 
-inside : (w : lts.After-source_of reads.Pre reads.Post goal.the-invariant-loop-at goal.the-decreases-loop-at) → w.loop-at.at < length (plan_numbers (start_of w).args.plan.now)
+inside : (w : lts.After-source_of tie.the-claims reads.Pre reads.Post goal.the-invariant-loop-at goal.the-decreases-loop-at) → w.loop-at.at < length (plan_numbers (start_of w).args.plan.now)
 inside w = omega (arith, w.loop-at-test.true, (start_of w).requires.1)
 
 pub loop-at-init : goal.loop-at-init
@@ -41,7 +42,7 @@ pub loop-at-preserved-then-source-lt-NONE : goal.loop-at-preserved-then-source-l
 loop-at-preserved-then-source-lt-NONE c = let w = c.before.before.before.before.before.before in
     puts c.loop-at.invariant (number_is_lem w) (inside w) w.source_of-source.ensures c.if-source-lt-NONE.true c.put_number-place.ensures
 
-past-run : (c : lts.After-matches_run reads.Pre reads.Post goal.the-invariant-loop-at goal.the-decreases-loop-at) → (1 ≤ c.matches_run-at.result) × (c.loop-at.at + c.matches_run-at.result ≤ length (plan_numbers (start_of c.before.before.before).args.plan.now))
+past-run : (c : lts.After-matches_run tie.the-claims reads.Pre reads.Post goal.the-invariant-loop-at goal.the-decreases-loop-at) → (1 ≤ c.matches_run-at.result) × (c.loop-at.at + c.matches_run-at.result ≤ length (plan_numbers (start_of c.before.before.before).args.plan.now))
 past-run c = let w = c.before.before.before in
     further c.loop-at.invariant (number_is_lem w) (inside w) w.source_of-source.ensures c.if-source-lt-NONE.false (start_of w).args.steps (omega (arith, (start_of w).requires.1)) c.matches_run-at.ensures
 

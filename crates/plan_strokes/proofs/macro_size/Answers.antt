@@ -15,6 +15,7 @@ use mathlib.Core.Bool.{not}
 use Rattle.plan_strokes.proofs.macro_size.Goals as goal
 use Rattle.plan_strokes.proofs.macro_size.Lts as lts
 use Rattle.plan_strokes.proofs.macro_size.Reads as reads
+use Rattle.plan_strokes.proofs.macro_size.Tie as tie
 
 pub returns-then-not-makes_macro : goal.returns-then-not-makes_macro
 returns-then-not-makes_macro c =
@@ -39,10 +40,10 @@ loop-e-preserved c =
     (summing-next l.0 (omega (arith, l.1, c.loop-e-test.true)) c.effect_size-size.ensures, l.1)
 
 -- its action becomes a macro
-macro : (c : lts.Else1 reads.Pre reads.Post goal.the-invariant-loop-e goal.the-decreases-loop-e) → MacroIs c.args.marks.now true
+macro : (c : lts.Else1 tie.the-claims reads.Pre reads.Post goal.the-invariant-loop-e goal.the-decreases-loop-e) → MacroIs c.args.marks.now true
 macro c = subst (MacroIs c.args.marks.now) (not-false _ (ap not c.if-not-makes_macro.false)) c.makes_macro.ensures
 
-ones : (c : lts.Then2 reads.Pre reads.Post goal.the-invariant-loop-e goal.the-decreases-loop-e) → (3 ≤ c.loop-e.size) × Sized c.args.marks.now (c.loop-e.size - 3)
+ones : (c : lts.Then2 tie.the-claims reads.Pre reads.Post goal.the-invariant-loop-e goal.the-decreases-loop-e) → (3 ≤ c.loop-e.size) × Sized c.args.marks.now (c.loop-e.size - 3)
 ones c =
     let l = c.loop-e.invariant in
     one-sized l.0 (omega (arith, l.1, c.loop-e-test.false)) (macro c.before.before.before.before) (sym l.1 ∙ c.if-count-eq1.true)

@@ -23,7 +23,8 @@ pub overflow_add-at : goal.overflow_add-at
 overflow_add-at c = omega (arith, c.loop-i.invariant.there, length-halves c.args.plan.now)
 
 pub matches_stage-stage-requires : goal.matches_stage-stage-requires
-matches_stage-stage-requires c = (run_of-run-requires c.before.before tt, c.loop-i.invariant.there)
+matches_stage-stage-requires c =
+    (omega (arith, c.loop-i.invariant.numbered, c.loop-i.invariant.bound, c.requires.0, c.requires.1), c.loop-i.invariant.there)
 
 pub overflow_add-matched : goal.overflow_add-matched
 overflow_add-matched c =

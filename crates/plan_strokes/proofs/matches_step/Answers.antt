@@ -13,10 +13,11 @@ use borrow.Author.Rules.{rules}
 use Rattle.plan_strokes.proofs.matches_step.Goals as goal
 use Rattle.plan_strokes.proofs.matches_step.Lts as lts
 use Rattle.plan_strokes.proofs.matches_step.Reads as reads
+use Rattle.plan_strokes.proofs.matches_step.Tie as tie
 
 -- the opening's law, over what was found
-module _ (c : lts.After-matches_run reads.Pre reads.Post) where
-  abbrev s : lts.Start reads.Pre reads.Post
+module _ (c : lts.After-matches_run tie.the-claims reads.Pre reads.Post) where
+  abbrev s : lts.Start tie.the-claims reads.Pre reads.Post
   s = c.before.before
 
   abbrev xs : List ℕ

@@ -13,13 +13,14 @@ use borrow.Author.Rules.{rules}
 use Rattle.plan_strokes.proofs.price_of.Goals as goal
 use Rattle.plan_strokes.proofs.price_of.Lts as lts
 use Rattle.plan_strokes.proofs.price_of.Reads as reads
+use Rattle.plan_strokes.proofs.price_of.Tie as tie
 
 pub loop-i-init : goal.loop-i-init
 loop-i-init c = pricing-start c.args.times.now c.args.count (omega (arith, c.requires.0, c.requires.1))
 
 -- what one turn adds
-module _ (c : lts.After-magnitude reads.Pre reads.Post goal.the-invariant-loop-i goal.the-decreases-loop-i) where
-  abbrev l : lts.At-loop reads.Pre reads.Post goal.the-invariant-loop-i goal.the-decreases-loop-i
+module _ (c : lts.After-magnitude tie.the-claims reads.Pre reads.Post goal.the-invariant-loop-i goal.the-decreases-loop-i) where
+  abbrev l : lts.At-loop tie.the-claims reads.Pre reads.Post goal.the-invariant-loop-i goal.the-decreases-loop-i
   l = c.before.before.before
 
   added : c.magnitude.result ≡ nat_abs (get_or l.args.times.now l.loop-i.i (pos 0))

@@ -19,8 +19,9 @@ use borrow.Author.Rules.{rules}
 use Rattle.plan_strokes.proofs.put_divided.Goals as goal
 use Rattle.plan_strokes.proofs.put_divided.Lts as lts
 use Rattle.plan_strokes.proofs.put_divided.Reads as reads
+use Rattle.plan_strokes.proofs.put_divided.Tie as tie
 
-module _ (s : lts.Start reads.Pre reads.Post) where
+module _ (s : lts.Start tie.the-claims reads.Pre reads.Post) where
   abbrev operand : ℤ
   operand = integer_at (take s.args.n s.args.values.now) (operand_at s.args.marks.now s.args.e)
 
@@ -46,12 +47,18 @@ quotient-quotient-requires c =
     (record { within = omega (arith, operand-near s) }, record { within = omega (arith, constant-near s) }, omega (arith, divides s))
 
 pub residue-residue-requires : goal.residue-residue-requires
-residue-residue-requires c = quotient-quotient-requires c.before.before κs
+residue-residue-requires c =
+    let s = c.before.before.before.before.before.before in
+    let v = c.value_of-y in
+    let a : SFits w64 v.result = search rules in
+    let b : SFits w64 (constant s) = search rules in
+    rw (to_z-of_z a, to_z-of_z b, v.ensures)
+    (record { within = omega (arith, operand-near s) }, record { within = omega (arith, constant-near s) }, omega (arith, divides s))
 
 -- what was found
-module _ (c : lts.After-residue reads.Pre reads.Post) where
-  abbrev s₀ : lts.Start reads.Pre reads.Post
-  s₀ = c.before.before.before.before.before
+module _ (c : lts.After-residue tie.the-claims reads.Pre reads.Post) where
+  abbrev s₀ : lts.Start tie.the-claims reads.Pre reads.Post
+  s₀ = c.before.before.before.before.before.before
 
   operand-is : c.value_of-y.result ≡ operand s₀
   operand-is = c.value_of-y.ensures
@@ -88,7 +95,7 @@ put_one-divided-requires c =
     (omega (arith, m.counted, (s₀ c.before.before.before.before.before).requires.0), m.long)
 
 -- the strokes up to Divide's
-divided : (c : lts.After-put_one reads.Pre reads.Post) → let s = s₀ c.before.before.before.before.before in
+divided : (c : lts.After-put_one tie.the-claims reads.Pre reads.Post) → let s = s₀ c.before.before.before.before.before in
     More s.args.times.now s.args.at (operand s ∷ operand s ∷ floor (operand s) (unit_less (constant s)) ∷ []) c.put_one-divided.new.times
     c.put_one-divided.result
 divided c =
@@ -104,7 +111,7 @@ divided c =
     let e : d.result ≡ floor (operand s) (unit_less (constant s)) = (simp (to_z-of_z, b, f) at d.ensures) (operand s) (quotient_is r) in
     then (rw (operand-is r) at (simp (to_z-of_z, a) at c.put_two-drained.ensures)) (rw e at (simp (to_z-of_z, g) at c.put_one-divided.ensures))
 
-room : (c : lts.After-put_one reads.Pre reads.Post) → (c.put_one-divided.result + 1 < 33) × (length c.put_one-divided.new.times ≡ 33)
+room : (c : lts.After-put_one tie.the-claims reads.Pre reads.Post) → (c.put_one-divided.result + 1 < 33) × (length c.put_one-divided.new.times ≡ 33)
 room c = let m = divided c in (omega (arith, m.counted, (s₀ c.before.before.before.before.before).requires.0), m.long)
 
 pub put_two-requires : goal.put_two-requires

@@ -12,6 +12,7 @@ use borrow.Author.Rules.{rules}
 use Rattle.plan_strokes.proofs.put_held.Goals as goal
 use Rattle.plan_strokes.proofs.put_held.Lts as lts
 use Rattle.plan_strokes.proofs.put_held.Reads as reads
+use Rattle.plan_strokes.proofs.put_held.Tie as tie
 
 pub loop-e-init : goal.loop-e-init
 loop-e-init c =
@@ -23,7 +24,7 @@ put_result-place-requires c =
     (omega (arith, g.few, c.loop-e-test.true, c.requires.3), g.long, c.requires.2, omega (arith, c.loop-e-test.true, c.requires.3))
 
 -- the last stroke is one of the times
-last : (c : lts.After-put_result reads.Pre reads.Post goal.the-invariant-loop-e goal.the-decreases-loop-e) → (1 ≤ c.put_result-place.result) × (c.put_result-place.result ≤ 33)
+last : (c : lts.After-put_result tie.the-claims reads.Pre reads.Post goal.the-invariant-loop-e goal.the-decreases-loop-e) → (1 ≤ c.put_result-place.result) × (c.put_result-place.result ≤ 33)
 last c =
     holding-last c.loop-e.invariant (omega (arith, c.loop-e-test.true, c.requires.3)) c.put_result-place.ensures
 
@@ -39,7 +40,7 @@ bounds-times-last c = omega (arith, (last c).0, (last c).1)
 pub loop-e-preserved : goal.loop-e-preserved
 loop-e-preserved c =
     let p = c.put_result-place in
-    let a : SFits w64 (get_or p.new.0 (p.result - 1) (pos 0)) = search rules in
+    let a : SFits w64 (get_or p.new.times (p.result - 1) (pos 0)) = search rules in
     rw (to_z-of_z a) (holding-next c.loop-e.invariant (omega (arith, c.loop-e-test.true, c.requires.3)) p.ensures)
 
 pub returns : goal.returns

@@ -18,10 +18,11 @@ use borrow.Author.Rules.{rules}
 use Rattle.plan_strokes.proofs.put_single.Goals as goal
 use Rattle.plan_strokes.proofs.put_single.Lts as lts
 use Rattle.plan_strokes.proofs.put_single.Reads as reads
+use Rattle.plan_strokes.proofs.put_single.Tie as tie
 
 -- the strokes before Clear, and what the effect gives
-module _ (c : lts.After-put_result reads.Pre reads.Post) where
-  abbrev s : lts.Start reads.Pre reads.Post
+module _ (c : lts.After-put_result tie.the-claims reads.Pre reads.Post) where
+  abbrev s : lts.Start tie.the-claims reads.Pre reads.Post
   s = c.before.before
 
   begun : Holding s.args.n s.args.marks.now s.args.numbers.now s.args.values.now s.args.times.now s.args.results.now 0 0

@@ -16,6 +16,7 @@ use mathlib.Core.Bool.{not}
 use Rattle.plan_strokes.proofs.put_strokes.Goals as goal
 use Rattle.plan_strokes.proofs.put_strokes.Lts as lts
 use Rattle.plan_strokes.proofs.put_strokes.Reads as reads
+use Rattle.plan_strokes.proofs.put_strokes.Tie as tie
 
 pub returns-then-not-makes_macro : goal.returns-then-not-makes_macro
 returns-then-not-makes_macro c =
@@ -25,7 +26,7 @@ returns-then-not-makes_macro c =
     rw (to_z-of_z z) (none_made c.requires.2 m c.requires.0 given)
 
 -- its action becomes a macro
-macro : (c : lts.Else1 reads.Pre reads.Post) → MacroIs c.args.marks.now true
+macro : (c : lts.Else1 tie.the-claims reads.Pre reads.Post) → MacroIs c.args.marks.now true
 macro c = subst (MacroIs c.args.marks.now) (not-false _ (ap not c.if-not-makes_macro.false)) c.makes_macro.ensures
 
 pub put_single-requires : goal.put_single-requires

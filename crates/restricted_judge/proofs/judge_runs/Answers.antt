@@ -15,27 +15,28 @@ use borrow.Author.Rules.{rules}
 use Rattle.restricted_judge.proofs.judge_runs.Goals as goal
 use Rattle.restricted_judge.proofs.judge_runs.Lts as lts
 use Rattle.restricted_judge.proofs.judge_runs.Reads as reads
+use Rattle.restricted_judge.proofs.judge_runs.Tie as tie
 
 -- the number is an action's
-known : (e : lts.Else1 reads.Pre reads.Post goal.the-invariant-loop-i goal.the-decreases-loop-i) → e.action_of-k.result < e.args.count
+known : (e : lts.Else1 tie.the-claims reads.Pre reads.Post goal.the-invariant-loop-i goal.the-decreases-loop-i tie.handed_clauses) → e.action_of-k.result < e.args.count
 known e = omega (arith, e.wide16-number.ensures, e.if-count-number.false)
 
 -- the slot, and what stands there
-abbrev slot_of : lts.After-keep_action reads.Pre reads.Post goal.the-invariant-loop-i goal.the-decreases-loop-i → ℕ
+abbrev slot_of : lts.After-keep_action tie.the-claims reads.Pre reads.Post goal.the-invariant-loop-i goal.the-decreases-loop-i tie.handed_clauses → ℕ
 slot_of k = k.slot_of-slot.result
 
-abbrev marks_of : lts.After-keep_action reads.Pre reads.Post goal.the-invariant-loop-i goal.the-decreases-loop-i → List ℕ
+abbrev marks_of : lts.After-keep_action tie.the-claims reads.Pre reads.Post goal.the-invariant-loop-i goal.the-decreases-loop-i tie.handed_clauses → List ℕ
 marks_of k = get_or k.keep_action.new.marks (slot_of k) []
 
-abbrev numbers_of : lts.After-keep_action reads.Pre reads.Post goal.the-invariant-loop-i goal.the-decreases-loop-i → List ℤ
+abbrev numbers_of : lts.After-keep_action tie.the-claims reads.Pre reads.Post goal.the-invariant-loop-i goal.the-decreases-loop-i tie.handed_clauses → List ℤ
 numbers_of k = get_or k.keep_action.new.numbers (slot_of k) []
 
 -- where a slot's row begins is said by 64 bits: a slice has fewer than 2^63 bytes
-fits-marks : (k : lts.After-keep_action reads.Pre reads.Post goal.the-invariant-loop-i goal.the-decreases-loop-i) → Fits w64 (slot_of k * 232)
-fits-marks k = omega (arith, k.slot_of-slot.ensures, k.loop-i.invariant.2, k.requires.in_bounds.1.marks_long, k.good.1.1.1.1.1.1.1.1.0)
+fits-marks : (k : lts.After-keep_action tie.the-claims reads.Pre reads.Post goal.the-invariant-loop-i goal.the-decreases-loop-i tie.handed_clauses) → Fits w64 (slot_of k * 232)
+fits-marks k = omega (arith, k.slot_of-slot.ensures, k.loop-i.invariant.2, k.requires.in_bounds.1.marks_long, k.well_formed.1.1.1.1.1.1.1.1.0)
 
-fits-numbers : (k : lts.After-keep_action reads.Pre reads.Post goal.the-invariant-loop-i goal.the-decreases-loop-i) → Fits w64 (slot_of k * 320)
-fits-numbers k = omega (arith, k.slot_of-slot.ensures, k.loop-i.invariant.2, k.requires.in_bounds.1.numbers_long, k.good.1.1.1.1.1.1.1.1.1.0)
+fits-numbers : (k : lts.After-keep_action tie.the-claims reads.Pre reads.Post goal.the-invariant-loop-i goal.the-decreases-loop-i tie.handed_clauses) → Fits w64 (slot_of k * 320)
+fits-numbers k = omega (arith, k.slot_of-slot.ensures, k.loop-i.invariant.2, k.requires.in_bounds.1.numbers_long, k.well_formed.1.1.1.1.1.1.1.1.1.0)
 
 pub loop-i-init : goal.loop-i-init
 loop-i-init c = (walk_start c.requires.accepted_plan.0 c.requires.accepted_plan.1 c.requires.accepted_plan.2, c.requires.in_bounds.1, refl)
@@ -70,7 +71,7 @@ offset_bounds-numbers-slot c = fits-numbers c.before.before.before.before.before
 
 pub take_run-run-requires : goal.take_run-run-requires
 take_run-run-requires c = let k = c.before.before.before.before.before.before.before.before.before in
-    walk_can c.loop-i.invariant.0 c.action_of-k.result c.action_of-k.ensures c.loop-i-test.taken (known c.before.before.before.before.before.before.before.before.before.before.before.before.before.before) (marks_of k) (numbers_of k) k.keep_action.ensures.is
+    walk_can c.loop-i.invariant.0 c.action_of-k.result c.action_of-k.ensures c.loop-i-test.true (known c.before.before.before.before.before.before.before.before.before.before.before.before.before.before) (marks_of k) (numbers_of k) k.keep_action.ensures.is
 
 pub shape_of-tags-in-Stopped : goal.shape_of-tags-in-Stopped
 shape_of-tags-in-Stopped c = c.keep_action.ensures.slots_are ∙ c.loop-i.invariant.2
@@ -83,16 +84,16 @@ shape_of-numbers-in-Stopped c = omega (arith, c.keep_action.ensures.held.numbers
 
 pub returns-in-Stopped : goal.returns-in-Stopped
 returns-in-Stopped c = let k = c.before.before.before.before.before.before.before.before.before.before.before in
-    walk-stops c.loop-i.invariant.0 c.action_of-k.result c.action_of-k.ensures c.loop-i-test.taken (known c.before.before.before.before.before.before.before.before.before.before.before.before.before.before.before.before) (marks_of k) (numbers_of k) k.keep_action.ensures.is (rw c.in-Stopped.is at c.take_run-run.ensures) _
+    walk-stops c.loop-i.invariant.0 c.action_of-k.result c.action_of-k.ensures c.loop-i-test.true (known c.before.before.before.before.before.before.before.before.before.before.before.before.before.before.before.before) (marks_of k) (numbers_of k) k.keep_action.ensures.is (rw c.in-Stopped.is at c.take_run-run.ensures) _
 
 pub loop-i-smaller : goal.loop-i-smaller
 loop-i-smaller c = let R = rw c.in-Until.is at c.take_run-run.ensures in
-    omega (arith, R.onward, R.bound, c.loop-i-test.taken)
+    omega (arith, R.onward, R.bound, c.loop-i-test.true)
 
 pub loop-i-preserved : goal.loop-i-preserved
 loop-i-preserved c = let k = c.before.before.before.before.before.before.before.before.before.before.before in
     (
-      walk-next c.loop-i.invariant.0 c.action_of-k.result c.action_of-k.ensures c.loop-i-test.taken (known c.before.before.before.before.before.before.before.before.before.before.before.before.before.before.before.before) (marks_of k) (numbers_of k) k.keep_action.ensures.is (rw c.in-Until.is at c.take_run-run.ensures),
+      walk-next c.loop-i.invariant.0 c.action_of-k.result c.action_of-k.ensures c.loop-i-test.true (known c.before.before.before.before.before.before.before.before.before.before.before.before.before.before.before.before) (marks_of k) (numbers_of k) k.keep_action.ensures.is (rw c.in-Until.is at c.take_run-run.ensures),
       k.keep_action.ensures.held,
       k.keep_action.ensures.slots_are ∙ c.loop-i.invariant.2,
     )

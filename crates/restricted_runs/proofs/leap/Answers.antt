@@ -17,7 +17,7 @@ pub returns-then-holds : goal.returns-then-holds
 returns-then-holds c =
     let added = c.add_times in
     let set = c.set_all in
-    leapt (row_is c.args.marks.now c.args.numbers.now) c.args.times (state_of c.args.values.now c.args.modes.now) (state_of added.new.0 set.new.0)
+    leapt (row_is c.args.marks.now c.args.numbers.now) c.args.times (state_of c.args.values.now c.args.modes.now) (state_of added.new.values set.new.modes)
     (rw c.if-add_times.true at added.ensures) set.ensures
     (conditions-plain c.args.marks.now c.args.numbers.now) c.requires.0 c.requires.2.within
     (sym c.holds.ensures ∙ not-false _ (ap not c.if-not-holds.false))

@@ -8,8 +8,9 @@ use borrow.Author.Rules.{rules}
 use Rattle.restricted_state.proofs.step_accepted.Goals as goal
 use Rattle.restricted_state.proofs.step_accepted.Lts as lts
 use Rattle.restricted_state.proofs.step_accepted.Reads as reads
+use Rattle.restricted_state.proofs.step_accepted.Tie as tie
 
-file-bytes : (r : lts.After-read_restricted reads.Pre reads.Post) → Bytes r.args.file.now
+file-bytes : (r : lts.After-read_restricted tie.the-claims reads.Pre reads.Post) → Bytes r.args.file.now
 file-bytes r = bytes-of r.args.file.now (λ i. omega (arith, r.shared_slice_known-1.given i))
 
 pub step-stepped-requires : goal.step-stepped-requires

@@ -14,11 +14,12 @@ use mathlib.Core.Bool.{not}
 use Rattle.restricted_state.proofs.try_step.Goals as goal
 use Rattle.restricted_state.proofs.try_step.Lts as lts
 use Rattle.restricted_state.proofs.try_step.Reads as reads
+use Rattle.restricted_state.proofs.try_step.Tie as tie
 
-within : (e : lts.Else2 reads.Pre reads.Post) → let s = e.args in values_within figure (take s.n s.values.now) ≡ true
+within : (e : lts.Else2 tie.the-claims reads.Pre reads.Post) → let s = e.args in values_within figure (take s.n s.values.now) ≡ true
 within e = sym e.values_within.ensures ∙ not-false _ (ap not e.if-not-values_within.false)
 
-below : (e : lts.Else2 reads.Pre reads.Post) → let s = e.args in modes_below_sizes (take s.m s.sizes.now) (take s.m s.modes.now) ≡ true
+below : (e : lts.Else2 tie.the-claims reads.Pre reads.Post) → let s = e.args in modes_below_sizes (take s.m s.sizes.now) (take s.m s.modes.now) ≡ true
 below e = sym e.modes_below.ensures ∙ not-false _ (ap not e.if-not-modes_below.false)
 
 pub returns-then-not-values_within : goal.returns-then-not-values_within
@@ -40,7 +41,7 @@ returns-then-not-take c =
     (rw c.copy_front.ensures at (rw (not-true c.take.result (ap not c.if-not-take.true)) at c.take.ensures))
 
 -- the step by rows was taken
-went : (c : lts.Else3 reads.Pre reads.Post) → some (state_of c.take.new.values c.take.new.modes) ≡ step_by (row_is c.args.marks.now c.args.numbers.now) (state_of (front c.args.n c.args.values.now) c.args.modes.now)
+went : (c : lts.Else3 tie.the-claims reads.Pre reads.Post) → some (state_of c.take.new.values c.take.new.modes) ≡ step_by (row_is c.args.marks.now c.args.numbers.now) (state_of (front c.args.n c.args.values.now) c.args.modes.now)
 went c =
     rw c.copy_front.ensures at (rw (not-false c.take.result (ap not c.if-not-take.false)) at c.take.ensures)
 

@@ -18,6 +18,7 @@ use mathlib.Core.Bool.{not}
 use Rattle.restricted_state.proofs.values_within.Goals as goal
 use Rattle.restricted_state.proofs.values_within.Lts as lts
 use Rattle.restricted_state.proofs.values_within.Reads as reads
+use Rattle.restricted_state.proofs.values_within.Tie as tie
 
 pub loop-i-init : goal.loop-i-init
 loop-i-init c = scan-start (there-all _ _ c.requires.1)
@@ -26,7 +27,7 @@ pub offset_bounds-values-i : goal.offset_bounds-values-i
 offset_bounds-values-i c = search (rules, arith)
 
 -- one turn tests one value
-turn : (c : lts.After-is_within reads.Pre reads.Post goal.the-invariant-loop-i goal.the-decreases-loop-i) → within_limit figure (get_or c.args.values.now c.loop-i.i (pos 0)) ≡ c.is_within.result
+turn : (c : lts.After-is_within tie.the-claims reads.Pre reads.Post goal.the-invariant-loop-i goal.the-decreases-loop-i) → within_limit figure (get_or c.args.values.now c.loop-i.i (pos 0)) ≡ c.is_within.result
 turn c =
     let v : SFits w64 (get_or c.args.values.now c.loop-i.i (pos 0)) = search rules in
     sym (simp (to_z-of_z v) at c.is_within.ensures)

@@ -17,27 +17,23 @@ returns-in-None c =
 pub returns-in-Add : goal.returns-in-Add
 unfolding effect_of_kind
 returns-in-Add c =
-    let e = c.effect.given in
-    let k : SFits w64 e.0.1.0 = search rules in
-    record { is = λ terms. rw (e.1, to_z-of_z k) refl }
+    let k : SFits w64 c.in-Add.c = search rules in
+    record { is = λ terms. rw (c.in-Add.is, to_z-of_z k) refl }
 
 pub returns-in-Linear : goal.returns-in-Linear
 unfolding effect_of_kind
 returns-in-Linear c =
-    let e = c.effect-in-Linear-1.given in
-    let k : SFits w64 e.0.1.0 = search rules in
-    record { is = λ terms. rw (e.1, to_z-of_z k) refl }
+    let k : SFits w64 c.in-Linear.c = search rules in
+    record { is = λ terms. rw (c.in-Linear.is, to_z-of_z k) refl }
 
 pub returns-in-Quotient : goal.returns-in-Quotient
 unfolding effect_of_kind
 returns-in-Quotient c =
-    let e = c.effect-in-Quotient-1.given in
-    let k : SFits w64 e.0.1.1.0 = search rules in
-    record { is = λ terms. rw (e.1, to_z-of_z k) refl }
+    let k : SFits w64 c.in-Quotient.c = search rules in
+    record { is = λ terms. rw (c.in-Quotient.is, to_z-of_z k) refl }
 
 pub returns-in-Residue : goal.returns-in-Residue
 unfolding effect_of_kind
 returns-in-Residue c =
-    let e = c.effect-in-Residue-1.given in
-    let k : SFits w64 e.0.1.1.0 = search rules in
-    record { is = λ terms. rw (e.1, to_z-of_z k) refl }
+    let k : SFits w64 c.in-Residue.c = search rules in
+    record { is = λ terms. rw (c.in-Residue.is, to_z-of_z k) refl }

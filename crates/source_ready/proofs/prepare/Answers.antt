@@ -21,27 +21,28 @@ use borrow.Author.Rules.{rules}
 use Rattle.source_ready.proofs.prepare.Goals as goal
 use Rattle.source_ready.proofs.prepare.Lts as lts
 use Rattle.source_ready.proofs.prepare.Reads as reads
+use Rattle.source_ready.proofs.prepare.Tie as tie
 
--- the bytes of the file, and how few it.before has
-bytes_of : (a : lts.After-shared_slice_known reads.Pre reads.Post) → Bytes a.args.file.now
+-- the bytes of the file, and how few actions it has
+bytes_of : (a : lts.After-shared_slice_known tie.the-claims reads.Pre reads.Post) → Bytes a.args.file.now
 bytes_of a = bytes-of a.args.file.now (λ i. omega (arith, a.shared_slice_known-1.given i))
 
-few : (a : lts.After-shared_slice_known reads.Pre reads.Post) → a.args.count ≤ 32
+few : (a : lts.After-shared_slice_known tie.the-claims reads.Pre reads.Post) → a.args.count ≤ 32
 few a = few-actions a.args.file.now a.args.count (bytes_of a) a.requires.0
 
 -- where nothing is called yet
-abbrev start : lts.After-prepare_actions reads.Pre reads.Post → lts.After-shared_slice_known reads.Pre reads.Post
-start p = p.before
+abbrev start : lts.After-prepare_actions tie.the-claims reads.Pre reads.Post → lts.After-shared_slice_known tie.the-claims reads.Pre reads.Post
+start p = p.before.before.before.before.before.before.before.before.before.before
 
--- the table of marks, and that of numbers, when the rows of the are.before made
-abbrev marks_then : lts.After-prepare_actions reads.Pre reads.Post → List (List ℕ)
+-- the table of marks, and that of numbers, when the rows of the actions are made
+abbrev marks_then : lts.After-prepare_actions tie.the-claims reads.Pre reads.Post → List (List ℕ)
 marks_then p = p.prepare_actions-first.new.marks
 
-abbrev numbers_then : lts.After-prepare_actions reads.Pre reads.Post → List (List ℤ)
+abbrev numbers_then : lts.After-prepare_actions tie.the-claims reads.Pre reads.Post → List (List ℤ)
 numbers_then p = p.prepare_actions-first.new.numbers
 
 -- the place of the goal
-goal-at : (p : lts.After-prepare_actions reads.Pre reads.Post)
+goal-at : (p : lts.After-prepare_actions tie.the-claims reads.Pre reads.Post)
     → let s = (start p).before in natural_at p.action_places.new.places s.args.count ≡ edge_of s.args.file.now s.args.count
 goal-at p =
     let a = start p in
@@ -51,14 +52,14 @@ goal-at p =
     s.args.sizes.now s.requires.0 s.requires.1
 
 -- its bytes
-goal-is : (g : lts.After-goal_from reads.Pre reads.Post)
+goal-is : (g : lts.After-goal_from tie.the-claims reads.Pre reads.Post)
     → let s = (start g.before.before.before.before.before.before.before.before).before in g.goal_from.result.now ≡ goal_part s.args.file.now s.args.count
 goal-is g =
     let p = g.before.before.before.before.before.before.before.before in
     g.goal_from.ensures ∙ ap (goal_from (start p).before.args.file.now) (goal-at p)
 
 -- its conditions on sums
-named : (o : lts.After-name_own reads.Pre reads.Post)
+named : (o : lts.After-name_own tie.the-claims reads.Pre reads.Post)
     → let s = (start o.before.before.before.before.before.before.before.before.before).before in
     OwnNamed (sum_conditions_of (decode_action (goal_part s.args.file.now s.args.count))) o.prepare_actions-first.result o.name_own.new.marks
     o.name_own.result

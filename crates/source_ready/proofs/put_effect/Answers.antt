@@ -9,12 +9,13 @@ use borrow.Author.Rules.{rules}
 use Rattle.source_ready.proofs.put_effect.Goals as goal
 use Rattle.source_ready.proofs.put_effect.Lts as lts
 use Rattle.source_ready.proofs.put_effect.Reads as reads
+use Rattle.source_ready.proofs.put_effect.Tie as tie
 
 -- there are four terms, and no more of them count
-terms-long : (s : lts.Start reads.Pre reads.Post) → length s.args.place.terms ≡ 4
+terms-long : (s : lts.Start tie.the-claims reads.Pre reads.Post) → length s.args.place.terms ≡ 4
 terms-long s = search (rules, length-mapped)
 
-few : (c : lts.After-counted reads.Pre reads.Post) → c.counted-count.result ≤ 4
+few : (c : lts.After-counted tie.the-claims reads.Pre reads.Post) → c.counted-count.result ≤ 4
 few c = terms-few c.head_of-head.result.kind c.args.place.term_count c.counted-count.result c.counted-count.ensures
 
 pub put_terms-requires : goal.put_terms-requires

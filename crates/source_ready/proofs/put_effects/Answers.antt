@@ -15,19 +15,20 @@ use borrow.Author.Rules.{rules}
 use Rattle.source_ready.proofs.put_effects.Goals as goal
 use Rattle.source_ready.proofs.put_effects.Lts as lts
 use Rattle.source_ready.proofs.put_effects.Reads as reads
+use Rattle.source_ready.proofs.put_effects.Tie as tie
 
 -- there are three places
-places-long : (s : lts.Start reads.Pre reads.Post goal.the-invariant-loop-e goal.the-decreases-loop-e) → length s.args.effects.places ≡ 3
+places-long : (s : lts.Start tie.the-claims reads.Pre reads.Post goal.the-invariant-loop-e goal.the-decreases-loop-e) → length s.args.effects.places ≡ 3
 places-long s = search (rules, length-mapped)
 
 -- what a place says that holds none
 abbrev none : NumericEffect
 none = record { effect = None; term_count = 0; terms = [] }
 
-few : (s : lts.Start reads.Pre reads.Post goal.the-invariant-loop-e goal.the-decreases-loop-e) → s.args.effects.count ≤ length s.args.effects.places
+few : (s : lts.Start tie.the-claims reads.Pre reads.Post goal.the-invariant-loop-e goal.the-decreases-loop-e) → s.args.effects.count ≤ length s.args.effects.places
 few s = omega (arith, places-long s, s.requires.2)
 
-counted : (s : lts.Start reads.Pre reads.Post goal.the-invariant-loop-e goal.the-decreases-loop-e) → length (effects_is s.args.effects) ≡ s.args.effects.count
+counted : (s : lts.Start tie.the-claims reads.Pre reads.Post goal.the-invariant-loop-e goal.the-decreases-loop-e) → length (effects_is s.args.effects) ≡ s.args.effects.count
 counted s = said-counted numeric_is none s.args.effects.count s.args.effects.places (few s)
 
 pub overflow_cast-marks : goal.overflow_cast-marks

@@ -11,11 +11,12 @@ use mathlib.Core.Bool.{not}
 use Rattle.source_state.proofs.price_accepted.Goals as goal
 use Rattle.source_state.proofs.price_accepted.Lts as lts
 use Rattle.source_state.proofs.price_accepted.Reads as reads
+use Rattle.source_state.proofs.price_accepted.Tie as tie
 
-values-long : (s : lts.Start reads.Pre reads.Post) → length s.args.state.values ≡ 8
+values-long : (s : lts.Start tie.the-claims reads.Pre reads.Post tie.handed_clauses) → length s.args.state.values ≡ 8
 values-long s = search rules
 
-modes-long : (s : lts.Start reads.Pre reads.Post) → length s.args.state.modes ≡ 4
+modes-long : (s : lts.Start tie.the-claims reads.Pre reads.Post tie.handed_clauses) → length s.args.state.modes ≡ 4
 modes-long s = search rules
 
 pub returns-then-not-applies : goal.returns-then-not-applies
@@ -25,15 +26,15 @@ returns-then-not-applies c =
     record { meets = λ k e. not-priced row _ _ k e (values-long s) (modes-long s) c.applies.ensures (not-true _ (ap not c.if-not-applies.true)) }
 
 -- the step applies
-module _ (f : lts.Else1 reads.Pre reads.Post) where
-  abbrev a : lts.After-applies reads.Pre reads.Post
+module _ (f : lts.Else1 tie.the-claims reads.Pre reads.Post tie.handed_clauses) where
+  abbrev a : lts.After-applies tie.the-claims reads.Pre reads.Post tie.handed_clauses
   a = f.before
 
-  abbrev s : lts.Start reads.Pre reads.Post
+  abbrev s : lts.Start tie.the-claims reads.Pre reads.Post tie.handed_clauses
   s = a.before.before.before.before.before.before.before.before.before.before
 
   applied : a.applies.result ≡ true
-  applied = not-false _ f.if-not-applies.left
+  applied = not-false _ (ap not f.if-not-applies.false)
 
 pub put_strokes-count-requires : goal.put_strokes-count-requires
 put_strokes-count-requires c =

@@ -3,7 +3,6 @@
 use native.Mathlib.Omega.{arith}
 use mathlib.Core.Path.{sym, ◌∙◌}
 use Prim.Native.Nat.{ℕ}
-use mathlib.Core.Logic.{⊎_elim}
 use mir.Facts.{to_z-of_z}
 use mir.Syntax.{w64}
 use mir.Val.{SFits}
@@ -14,6 +13,7 @@ use borrow.Author.Rules.{rules}
 use mathlib.Core.Path.{ap}
 use mathlib.Core.Bool.{not}
 use Rattle.source_step.proofs.first_outside.Goals as goal
+use Rattle.source_step.proofs.first_outside.Goals.{then-count-lt1-via-then-count-lt1, then-count-lt1-via-else-count-lt1+then-not-stays, then-count-lt2-via-then-count-lt2, then-count-lt2-via-else-count-lt2+then-not-stays-2, then-count-lt3-via-then-count-lt3, then-count-lt3-via-else-count-lt3+then-not-stays-3}
 use Rattle.source_step.proofs.first_outside.Lts as lts
 use Rattle.source_step.proofs.first_outside.Reads as reads
 use Rattle.source_step.proofs.first_outside.Tie as tie
@@ -28,9 +28,12 @@ none c = none_passed c.effect_count-count.ensures
 pub returns-then-count-lt1 : goal.returns-then-count-lt1
 returns-then-count-lt1 c =
     stopped (none c.before)
-    (λ l. ⊎_elim (λ w. absurd (omega (arith, l, w.taken)))
-    (λ w. let x : SFits w64 (integer_at c.args.results.now 0) = search rules in
-    sym (rw (to_z-of_z x) at w.2.ensures) ∙ not-true _ w.3.taken) c.then-count-lt1.branch)
+    (λ l. elim c.then-count-lt1.branch [
+      then-count-lt1-via-then-count-lt1 w ↦ absurd (omega (arith, l, w.if-count-lt1.true))
+      | then-count-lt1-via-else-count-lt1+then-not-stays w ↦
+        let x : SFits w64 (integer_at c.args.results.now 0) = search rules in
+        sym (rw (to_z-of_z x) at w.stays.ensures) ∙ w.if-not-stays.true
+    ])
 
 one : (c : lts.Else2 tie.the-claims reads.Pre reads.Post) → Are-passed c.before.before.before.before 1
 one c =
@@ -41,9 +44,12 @@ one c =
 pub returns-then-count-lt2 : goal.returns-then-count-lt2
 returns-then-count-lt2 c =
     stopped (one c.before)
-    (λ l. ⊎_elim (λ w. absurd (omega (arith, l, w.taken)))
-    (λ w. let x : SFits w64 (integer_at c.args.results.now 1) = search rules in
-    sym (rw (to_z-of_z x) at w.2.ensures) ∙ not-true _ w.3.taken) c.then-count-lt2.branch)
+    (λ l. elim c.then-count-lt2.branch [
+      then-count-lt2-via-then-count-lt2 w ↦ absurd (omega (arith, l, w.if-count-lt2.true))
+      | then-count-lt2-via-else-count-lt2+then-not-stays-2 w ↦
+        let x : SFits w64 (integer_at c.args.results.now 1) = search rules in
+        sym (rw (to_z-of_z x) at w.stays-else-count-lt2.ensures) ∙ w.if-not-stays-2.true
+    ])
 
 two : (c : lts.Else4 tie.the-claims reads.Pre reads.Post) → Are-passed c.before.before.before.before.before.before.before.before 2
 two c =
@@ -53,9 +59,12 @@ two c =
 pub returns-then-count-lt3 : goal.returns-then-count-lt3
 returns-then-count-lt3 c =
     stopped (two c.before)
-    (λ l. ⊎_elim (λ w. absurd (omega (arith, l, w.taken)))
-    (λ w. let x : SFits w64 (integer_at c.args.results.now 2) = search rules in
-    sym (rw (to_z-of_z x) at w.2.ensures) ∙ not-true _ w.3.taken) c.then-count-lt3.branch)
+    (λ l. elim c.then-count-lt3.branch [
+      then-count-lt3-via-then-count-lt3 w ↦ absurd (omega (arith, l, w.if-count-lt3.true))
+      | then-count-lt3-via-else-count-lt3+then-not-stays-3 w ↦
+        let x : SFits w64 (integer_at c.args.results.now 2) = search rules in
+        sym (rw (to_z-of_z x) at w.stays-else-count-lt3.ensures) ∙ w.if-not-stays-3.true
+    ])
 
 pub returns : goal.returns
 returns c =

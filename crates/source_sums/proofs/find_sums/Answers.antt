@@ -17,19 +17,20 @@ use Rattle.source_sums.proofs.Gathering.{all_found, all-ask, none_found, none-as
 use borrow.Author.Rules.{rules}
 use mathlib.Core.Path.{ap}
 use mathlib.Core.Bool.{not}
-use Rattle.source_sums.proofs.find_sums.Goals as goal
+use Rattle.source_sums.proofs.find_sums.Goals as goals
 use Rattle.source_sums.proofs.find_sums.Lts as lts
 use Rattle.source_sums.proofs.find_sums.Reads as reads
+use Rattle.source_sums.proofs.find_sums.Tie as tie
 
 -- the K's of the goal, which stands at the place behind the actions
-goal : (c : lts.After-goal_sums reads.Pre reads.Post goal.the-invariant-loop-k goal.the-decreases-loop-k) → (SumsDecoded (sum_conditions_of (decode_action (goal_part c.args.file.now c.args.count))) c.goal_sums-own.result)
+goal : (c : lts.After-goal_sums tie.the-claims reads.Pre reads.Post goals.the-invariant-loop-k goals.the-decreases-loop-k) → (SumsDecoded (sum_conditions_of (decode_action (goal_part c.args.file.now c.args.count))) c.goal_sums-own.result)
 goal c = rw (c.requires.1 c.args.count (omega arith)) at c.goal_sums-own.ensures
 
 -- the file is one of bytes
-bytes : (c : lts.After-has_sum reads.Pre reads.Post goal.the-invariant-loop-k goal.the-decreases-loop-k) → Bytes c.args.file.now
+bytes : (c : lts.After-has_sum tie.the-claims reads.Pre reads.Post goals.the-invariant-loop-k goals.the-decreases-loop-k) → Bytes c.args.file.now
 bytes c = bytes-of c.args.file.now (λ i. omega (arith, c.shared_slice_known-1.given i))
 
-pub returns-then-not-has_sum : goal.returns-then-not-has_sum
+pub returns-then-not-has_sum : goals.returns-then-not-has_sum
 returns-then-not-has_sum c =
     let file = c.args.file.now in
     let none = no-sum-in-file file (sym c.has_sum.ensures ∙ not-true _ (ap not c.if-not-has_sum.true)) in (
@@ -37,14 +38,14 @@ returns-then-not-has_sum c =
       none-ask file c.args.count (bytes c.before.before) c.requires.0 none c.requires.2,
     )
 
-pub loop-k-init : goal.loop-k-init
+pub loop-k-init : goals.loop-k-init
 loop-k-init c = gathered-start (bytes c.before.before) c.requires.2
 
-pub action_sums-own-requires : goal.action_sums-own-requires
+pub action_sums-own-requires : goals.action_sums-own-requires
 action_sums-own-requires c =
     (c.requires.1, c.loop-k-test.true, few-actions c.args.file.now c.args.count c.loop-k.invariant.bytes c.requires.0)
 
-pub put_sums-requires : goal.put_sums-requires
+pub put_sums-requires : goals.put_sums-requires
 put_sums-requires c =
     let file = c.args.file.now in
     let inv = c.loop-k.invariant in
@@ -55,29 +56,29 @@ put_sums-requires c =
       inv.blank,
     )
 
-pub overflow_add-total : goal.overflow_add-total
+pub overflow_add-total : goals.overflow_add-total
 overflow_add-total c =
     let inv = c.loop-k.invariant in
     let room = gathered-room c.args.file.now c.args.count inv.bytes c.requires.0 c.loop-k.k c.loop-k-test.true
     c.action_sums-own.ensures inv in
     search rules
 
-pub loop-k-preserved : goal.loop-k-preserved
+pub loop-k-preserved : goals.loop-k-preserved
 loop-k-preserved c =
     gathered_next c.args.file.now c.args.count c.loop-k.invariant.bytes c.requires.0 c.loop-k.k c.loop-k-test.true
     c.action_sums-own.ensures c.loop-k.invariant c.put_sums.ensures
 
-pub offset_bounds-places-count : goal.offset_bounds-places-count
+pub offset_bounds-places-count : goals.offset_bounds-places-count
 offset_bounds-places-count c =
     let few = few-actions c.args.file.now c.args.count c.loop-k.invariant.bytes c.requires.0 in
     search rules
 
-pub bounds-places-count : goal.bounds-places-count
+pub bounds-places-count : goals.bounds-places-count
 bounds-places-count c =
     let few = few-actions c.args.file.now c.args.count c.loop-k.invariant.bytes c.requires.0 in
     search rules
 
-pub put_sums-requires-2 : goal.put_sums-requires-2
+pub put_sums-requires-2 : goals.put_sums-requires-2
 put_sums-requires-2 c =
     let file = c.args.file.now in
     let inv = c.loop-k.invariant in
@@ -87,13 +88,13 @@ put_sums-requires-2 c =
       inv.blank,
     )
 
-pub overflow_add-result : goal.overflow_add-result
+pub overflow_add-result : goals.overflow_add-result
 overflow_add-result c =
     let inv = c.loop-k.invariant in
     let room = goal-room c.args.file.now c.args.count inv.bytes c.requires.0 (goal c.before.before.before.before) inv c.loop-k-test.false in
     search rules
 
-pub returns : goal.returns
+pub returns : goals.returns
 returns c =
     let g = c.before.before.before.before in
     let file = c.args.file.now in

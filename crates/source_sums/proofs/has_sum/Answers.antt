@@ -6,6 +6,7 @@ use Rattle.commands.specs.Table.{letter_k}
 use Rattle.source_sums.proofs.NoSum.{Seeing, seeing-start, seen_here, not-here, seen_all}
 use borrow.Author.Rules.{rules}
 use Rattle.source_sums.proofs.has_sum.Goals as goal
+use Rattle.source_sums.proofs.has_sum.Goals.{then-file-i-eq75, else-file-i-eq75}
 
 pub loop-i-init : goal.loop-i-init
 loop-i-init c = seeing-start letter_k _
@@ -14,7 +15,10 @@ pub loop-i-preserved : goal.loop-i-preserved
 loop-i-preserved c =
     let inv = c.loop-i.invariant in
     let below = c.loop-i-test.true in
-    ⊎_elim (λ w. rw w.1 (seen_here inv below w.0.taken)) (λ w. rw w.1 (not-here inv below w.0.left)) c.if-file-i-eq75.branch
+    elim c.if-file-i-eq75.branch [
+      then-file-i-eq75 w ↦ rw w.seen-is (seen_here inv below w.if-file-i-eq75.true)
+      | else-file-i-eq75 w ↦ rw w.seen-is (not-here inv below w.if-file-i-eq75.false)
+    ]
 
 pub returns : goal.returns
 returns c = seen_all c.loop-i.invariant c.loop-i-test.false

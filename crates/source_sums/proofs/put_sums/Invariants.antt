@@ -5,7 +5,7 @@ use native.Mathlib.Omega.{arith}
 use lib.ListN.{length}
 use borrow.Author.Rules.{rules}
 use Rattle.lists.proofs.Loops.{length-mapped}
-use Rattle.source_sums.proofs.Own.{own_at}
+use Rattle.source_sums.proofs.Own.{own_at_lem}
 use Rattle.source_sums.proofs.Filling.{Filling, fill_start, fill-next, fill_end}
 use Rattle.source_sums.proofs.put_sums.Given as goal
 

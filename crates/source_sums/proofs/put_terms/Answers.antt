@@ -17,18 +17,19 @@ use Rattle.source_sums.proofs.Putting.{Putting, term_at, term-small, put-start, 
 use Rattle.source_sums.proofs.put_terms.Goals as goal
 use Rattle.source_sums.proofs.put_terms.Lts as lts
 use Rattle.source_sums.proofs.put_terms.Reads as reads
+use Rattle.source_sums.proofs.put_terms.Tie as tie
 
 -- there are as many places as there is room for
-long : (s : lts.Start reads.Pre reads.Post goal.the-invariant-loop-i goal.the-decreases-loop-i) → length s.args.terms ≡ 4
+long : (s : lts.Start tie.the-claims reads.Pre reads.Post goal.the-invariant-loop-i goal.the-decreases-loop-i) → length s.args.terms ≡ 4
 long s = search (rules, length-mapped)
 
 -- the term of a turn
-small : (c : lts.In-loop reads.Pre reads.Post goal.the-invariant-loop-i goal.the-decreases-loop-i) → PartSmall (term_is (term_at c.args.terms c.loop-i.i))
+small : (c : lts.In-loop tie.the-claims reads.Pre reads.Post goal.the-invariant-loop-i goal.the-decreases-loop-i) → PartSmall (term_is (term_at c.args.terms c.loop-i.i))
 small c =
     term-small c.args.count c.args.terms (long c.before.before) c.requires.1 c.requires.2 c.loop-i.i c.loop-i-test.true
 
 -- its entry
-below : (c : lts.After-wide reads.Pre reads.Post goal.the-invariant-loop-i goal.the-decreases-loop-i) → VARIABLES * c.args.j + c.wide.result < VARIABLES * SUMS
+below : (c : lts.After-wide tie.the-claims reads.Pre reads.Post goal.the-invariant-loop-i goal.the-decreases-loop-i) → VARIABLES * c.args.j + c.wide.result < VARIABLES * SUMS
 below c = omega (arith, c.requires.0, c.wide.ensures, (small c.before.before.before).0)
 
 pub loop-i-init : goal.loop-i-init

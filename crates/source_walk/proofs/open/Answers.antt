@@ -12,7 +12,7 @@ make_ready-requires c =
         plan-of c.args.plan.now _ (rw k.given.1 at c.count_steps.ensures),
         c.requires.0,
         c.requires.1,
-      ); values_value = ((c.requires.2, c.requires.3),) }
+      ); values_value = (c.requires.2, c.requires.3) }
 
 pub returns-in-Rejected : goal.returns-in-Rejected
 returns-in-Rejected c =

@@ -53,7 +53,7 @@ bounds-numbers-33 c =
 pub take_turn-turn-requires : goal.take_turn-turn-requires
 take_turn-turn-requires c =
     let l = c.loop-i in
-    let u = c.requires.0 in record { n_bound = (u.variables_few, u.modes_few, l.invariant.0.long, l.invariant.1); usable = (u.usable c.wide16-k.result (omega (arith, c.if-count-k.false)),) }
+    let u = c.requires.0 in record { n_bound = (u.variables_few, u.modes_few, l.invariant.0.long, l.invariant.1); usable = u.usable c.wide16-k.result (omega (arith, c.if-count-k.false)) }
 
 pub returns-then-not-turn : goal.returns-then-not-turn
 returns-then-not-turn c =
