@@ -98,7 +98,7 @@ module _ {t : SourceTask} {T : Table} (R : RowsOf t T) where
               let l : k < T.count = ltb-true k T.count e in
               let w = walk_from T priced (suc i) c d ks (after_by T x k) in
               let there : suc i + length ks ≡ i + suc (length ks) = omega arith in
-              rw (count-is, e, step-agrees R x I k l, f) (rw (count-is) at (ih c d (inside-after R x I k l f)) ∙ ap (λ (j : ℕ). on_progress w.progress (judging j [] (declared_by T w.state))) there)
+              rw (count-is, e, step-agrees R x I k l, f) (ih c d (inside-after R x I k l f) ∙ ap (λ (j : ℕ). on_progress w.progress (judging j [] (declared_by T w.state))) there)
           go true e false f ih c d = rw (count-is, e, step-agrees R x I k (ltb-true k T.count e), f) refl
           go false e b f ih c d = rw (count-is, e) refl
 

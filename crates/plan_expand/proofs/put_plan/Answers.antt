@@ -60,17 +60,17 @@ pub action_of-requires : goal.action_of-requires
 action_of-requires c = omega (arith, halves_long c.args.plan.now, c.loop-i-test.true, c.requires.usables.2)
 
 pub bounds-openings-k : goal.bounds-openings-k
-bounds-openings-k c = let w = c.before.before in omega (arith, below w, (usable w).actions_few)
+bounds-openings-k c = let w = c.before.before.before in omega (arith, below w, (usable w).actions_few)
 
 pub bounds-marks-k : goal.bounds-marks-k
-bounds-marks-k c = let w = c.before.before.before in omega (arith, below w, (usable w).actions_few, (usable w).marks_long)
+bounds-marks-k c = let w = c.before.before.before.before in omega (arith, below w, (usable w).actions_few, (usable w).marks_long)
 
 pub bounds-numbers-k : goal.bounds-numbers-k
-bounds-numbers-k c = let w = c.before.before.before in omega (arith, below w, (usable w).actions_few, (usable w).numbers_long)
+bounds-numbers-k c = let w = c.before.before.before.before in omega (arith, below w, (usable w).actions_few, (usable w).numbers_long)
 
 pub put_turn-place-requires : goal.put_turn-place-requires
 put_turn-place-requires c =
-    let w = c.before.before.before.before.before.before in
+    let w = c.before.before.before.before.before.before.before in
     let u = usable w in
     let l = c.loop-i in
     let k = w.wide16-k.result in
@@ -85,7 +85,7 @@ overflow_add-i c = search (rules, arith)
 
 pub loop-i-preserved : goal.loop-i-preserved
 loop-i-preserved c =
-    let w = c.before.before.before.before.before.before.before.before.before in
+    let w = c.before.before.before.before.before.before.before.before.before.before in
     let t = c.put_turn-place.ensures in
     (goes_on_lem (going w) (within w) w.wide16-k.result (is w) (usable w) t.turn_taken t.wrote, t.times_len)
 

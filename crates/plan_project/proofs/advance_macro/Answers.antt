@@ -38,7 +38,7 @@ strokes_in s = strokes_of (effects_at s.args.marks.now s.args.numbers.now) (inte
 
 pub returns-then-not-holds : goal.returns-then-not-holds
 returns-then-not-holds c = record { advanced = macro-refused c.args.n c.args.m c.args.marks.now c.args.numbers.now c.args.sums.now c.args.values.now
-          c.args.modes.now c.args.total c.args.at (plan_of c.before.before.before) c.args.opening c.requires.macro_is.0
+          c.args.modes.now c.args.total c.args.at (plan_of c.before.before.before.before) c.args.opening c.requires.macro_is.0
           (sym c.holds.ensures ∙ not-true _ (ap not c.if-not-holds.true)); times_len = c.requires.n_bound.3 }
 
 -- the rows' test passed
@@ -54,12 +54,12 @@ module _ (c : lts.Else1 tie.the-claims reads.Pre reads.Post tie.handed_clauses) 
   row_reads = read-when-held s.args.m s.args.values.now s.args.modes.now s.requires.n_bound.0 s.requires.usable passed
 
 pub put_strokes-count-requires : goal.put_strokes-count-requires
-put_strokes-count-requires c = let e = c.before.before in ((s e).requires.n_bound.3, refl, row_reads e)
+put_strokes-count-requires c = let e = c.before.before.before in ((s e).requires.n_bound.3, refl, row_reads e)
 
 pub matches_step-matched-requires : goal.matches_step-matched-requires
 matches_step-matched-requires c =
     let l = c.put_strokes-count.ensures.listed in
-    let a = s c.before.before.before in
+    let a = s c.before.before.before.before in
     (a.requires.macro_is.3, l.few, l.long, omega (arith, a.requires.macro_is))
 
 -- the strokes were compared
@@ -84,13 +84,13 @@ module _ (f : lts.After-matches_step tie.the-claims reads.Pre reads.Post tie.han
 
 pub finish-requires : goal.finish-requires
 finish-requires c =
-    let f = c.before.before.before in
+    let f = c.before.before.before.before in
     let a = s (test f) in
     (a.requires.n_bound.0, a.requires.n_bound.1, a.requires.n_bound.2, a.requires.usable.keeps, (strokes_put f).put_strokes-count.ensures.results_are)
 
 pub price_of-size-requires : goal.price_of-size-requires
 price_of-size-requires c =
-    let l = (strokes_put c.before.before.before.before.before).put_strokes-count.ensures.listed in (l.few, l.long, rw l.is l.within)
+    let l = (strokes_put c.before.before.before.before.before.before).put_strokes-count.ensures.listed in (l.few, l.long, rw l.is l.within)
 
 -- all of them were priced
 size_is : (p : lts.After-price_of tie.the-claims reads.Pre reads.Post tie.handed_clauses) → p.price_of-size.result ≡ length (numbers_of (s (test p.before.before.before.before.before.before)))
@@ -102,15 +102,15 @@ size_is p =
 
 pub past_macro-requires : goal.past_macro-requires
 past_macro-requires c =
-    let f = c.before.before.before.before.before.before in
-    ((fits f).0, (fits f).1, omega (arith, size_is c))
+    let f = c.before.before.before.before.before.before.before in
+    ((fits f).0, (fits f).1, omega (arith, size_is c.before))
 
 pub returns-then-finish : goal.returns-then-finish
 returns-then-finish c =
-    let f = c.before.before.before.before.before.before.before in
+    let f = c.before.before.before.before.before.before.before.before in
     let a = s (test f) in record { advanced = macro-past a.args.n a.args.m a.args.marks.now a.args.numbers.now a.args.sums.now a.args.values.now
           a.args.modes.now a.args.total a.args.at (plan_of a) a.args.opening a.requires.macro_is.0
-          (passed (test f)) (matched-is f) c.finish.ensures c.if-finish.true (size_is c.before) c.past_macro.ensures.answers c.past_macro.ensures.further; times_len = (strokes_put f).put_strokes-count.ensures.listed.long }
+          (passed (test f)) (matched-is f) c.finish.ensures c.if-finish.true (size_is c.before.before) c.past_macro.ensures.answers c.past_macro.ensures.further; times_len = (strokes_put f).put_strokes-count.ensures.listed.long }
 
 -- where it hangs
 first-is : (o : lts.After-first_outside tie.the-claims reads.Pre reads.Post tie.handed_clauses) → let a = s (test o.before.before.before.before.before.before.before) in
@@ -126,10 +126,10 @@ first-there c =
 
 pub strokes_walked-walked-requires : goal.strokes_walked-walked-requires
 strokes_walked-walked-requires c =
-    let f = c.before.before.before.before.before.before.before.before in
+    let f = c.before.before.before.before.before.before.before.before.before in
     let a = s (test f) in
     let l = (strokes_put f).put_strokes-count.ensures.listed in (
-      first-there c,
+      first-there c.before,
       omega (arith, c.effect_count.ensures),
       omega (
         arith,
@@ -150,7 +150,7 @@ module _ (w : lts.After-strokes_walked tie.the-claims reads.Pre reads.Post tie.h
   few = omega (arith, w.strokes_walked-walked.ensures)
 
 pub price_of-size-requires-2 : goal.price_of-size-requires-2
-price_of-size-requires-2 c = let w = c in front-priced (put w).put_strokes-count.ensures.listed w.strokes_walked-walked.result (few w)
+price_of-size-requires-2 c = let w = c.before in front-priced (put w).put_strokes-count.ensures.listed w.strokes_walked-walked.result (few w)
 
 -- how many of the strokes of a step are gone through where it hangs
 abbrev walked_in : lts.Start tie.the-claims reads.Pre reads.Post tie.handed_clauses → ℕ
@@ -171,12 +171,12 @@ walked-size p =
 
 pub into_macro-requires : goal.into_macro-requires
 into_macro-requires c =
-    let f = c.before.before.before.before.before.before.before.before.before.before in
+    let f = c.before.before.before.before.before.before.before.before.before.before.before in
     ((fits f).0, (fits f).1, omega (arith, c.price_of-size-2.ensures.0))
 
 pub returns : goal.returns
 returns c =
-    let f = c.before.before.before.before.before.before.before.before.before.before.before in
+    let f = c.before.before.before.before.before.before.before.before.before.before.before.before in
     let a = s (test f) in record { advanced = macro-into a.args.n a.args.m a.args.marks.now a.args.numbers.now a.args.sums.now a.args.values.now
           a.args.modes.now a.args.total a.args.at (plan_of a) a.args.opening a.requires.macro_is.0
-          (passed (test f)) (matched-is f) c.finish.ensures c.if-finish.false (walked-size c.before) c.into_macro.ensures.answers c.into_macro.ensures.further; times_len = (strokes_put f).put_strokes-count.ensures.listed.long }
+          (passed (test f)) (matched-is f) c.finish.ensures c.if-finish.false (walked-size c.before.before) c.into_macro.ensures.answers c.into_macro.ensures.further; times_len = (strokes_put f).put_strokes-count.ensures.listed.long }

@@ -35,7 +35,7 @@ entry-is w = w.wide-k.ensures ∙ w.source_of-source.ensures
 pub loop-at-init : goal.loop-at-init
 loop-at-init c =
     (
-      begins (table_of c.before) c.args.total c.args.sources.now (plan_numbers c.args.plan.now) c.args.values.now c.args.modes.now
+      begins (table_of c.before.before) c.args.total c.args.sources.now (plan_numbers c.args.plan.now) c.args.values.now c.args.modes.now
           c.requires.modes_len.0 c.requires.modes_len.1,
       refl,
     )
@@ -44,11 +44,11 @@ pub action_of-opening-requires : goal.action_of-opening-requires
 action_of-opening-requires c = omega (arith, halves_long c.args.plan.now, c.loop-at-test.true, c.requires.usables.2)
 
 pub astray-requires : goal.astray-requires
-astray-requires c = (start_of c.before).requires.usables.2
+astray-requires c = (start_of c.before.before).requires.usables.2
 
 pub returns-then-count-k : goal.returns-then-count-k
 returns-then-count-k c =
-    let w = c.before.before in
+    let w = c.before.before.before in
     let s = start_of w in
     no-action c.loop-at.invariant.0 s.requires.usables.0 s.requires.usables.1 c.action_of-opening.result (number_is_lem w) (inside w) (entry-is w)
     c.if-count-k.true c.astray.result c.astray.ensures
@@ -67,20 +67,20 @@ module _ (f : lts.Else1 tie.the-claims reads.Pre reads.Post goal.the-invariant-l
       (entry-is w) f.if-count-k.false
 
 pub bounds-marks-k : goal.bounds-marks-k
-bounds-marks-k c = (here c).0
+bounds-marks-k c = (here c.before).0
 
 pub offset_bounds-numbers-k : goal.offset_bounds-numbers-k
 offset_bounds-numbers-k c = search (rules, arith)
 
 pub bounds-numbers-k : goal.bounds-numbers-k
-bounds-numbers-k c = (here c).1
+bounds-numbers-k c = (here c.before).1
 
 pub bounds-numbers-33 : goal.bounds-numbers-33
-bounds-numbers-33 c = (here c).2
+bounds-numbers-33 c = (here c.before).2
 
 pub advance-next-requires : goal.advance-next-requires
 advance-next-requires c =
-    let v = w c.before.before.before in
+    let v = w c.before.before.before.before in
     let s = start_of v in
     let u = s.requires.usables.0 in
     let g = v.loop-at.invariant in
@@ -99,19 +99,19 @@ advance-next-requires c =
 
 pub returns-in-Refused : goal.returns-in-Refused
 returns-in-Refused c =
-    let v = w c.before.before.before.before.before.before.before in
+    let v = w c.before.before.before.before.before in
     let s = start_of v in
     stopped v.loop-at.invariant.0 s.requires.usables.0 s.requires.usables.1 v.action_of-opening.result (number_is_lem v) (inside v) (entry-is v) c.if-count-k.false
     c.advance-next.ensures.advanced c.in-Refused.is
 
 pub overflow_add-found : goal.overflow_add-found
 overflow_add-found c =
-    let v = w c.before.before.before.before.before.before.before.before.before in
+    let v = w c.before.before.before.before.before.before.before in
     omega (arith, v.loop-at.invariant.0.few, v.loop-at-test.true)
 
 pub loop-at-smaller : goal.loop-at-smaller
 loop-at-smaller c =
-    let v = w c.before.before.before.before.before.before.before.before.before in
+    let v = w c.before.before.before.before.before.before.before in
     let s = start_of v in
     let r = rises v.loop-at.invariant.0 s.requires.usables.0 s.requires.usables.1 v.action_of-opening.result (number_is_lem v) (inside v) (entry-is v)
     c.if-count-k.false c.advance-next.ensures.advanced c.in-At.is in
@@ -119,7 +119,7 @@ loop-at-smaller c =
 
 pub loop-at-preserved : goal.loop-at-preserved
 loop-at-preserved c =
-    let v = w c.before.before.before.before.before.before.before.before.before in
+    let v = w c.before.before.before.before.before.before.before in
     let s = start_of v in
     let l = v.loop-at in (
       goes l.invariant.0 s.requires.usables.0 s.requires.usables.1 v.action_of-opening.result (number_is_lem v) (inside v) (entry-is v) c.if-count-k.false

@@ -11,7 +11,7 @@ use borrow.Author.Rules.{rules}
 use Rattle.plan_project.proofs.project_ready.Goals as goal
 
 pub openings_of-openings-requires : goal.openings_of-openings-requires
-openings_of-openings-requires c = let s = c.before.before.before in (few s, omega (arith, few s, (rows-ready s).marks_long))
+openings_of-openings-requires c = let u = usables c.requires.posed.rows in (u.actions_few, omega (arith, u.actions_few, u.marks_long))
 
 pub offset_bounds-openings-count : goal.offset_bounds-openings-count
 offset_bounds-openings-count c = let h = (usables c.requires.posed.rows).actions_few in search (rules, arith)

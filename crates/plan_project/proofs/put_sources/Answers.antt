@@ -14,7 +14,7 @@ use Rattle.plan_project.proofs.put_sources.Reads as reads
 use Rattle.plan_project.proofs.put_sources.Tie as tie
 
 abbrev start_of : lts.After-source_of tie.the-claims reads.Pre reads.Post goal.the-invariant-loop-at goal.the-decreases-loop-at → lts.Start tie.the-claims reads.Pre reads.Post goal.the-invariant-loop-at goal.the-decreases-loop-at
-start_of w = w.before.before.before.before.before
+start_of w = w.before.before.before.before.before.before
 
 number_is_lem : (w : lts.After-source_of tie.the-claims reads.Pre reads.Post goal.the-invariant-loop-at goal.the-decreases-loop-at) → w.action_of-number.result ≡ get_or (plan_numbers (start_of w).args.plan.now) w.loop-at.at 0
 number_is_lem w = w.action_of-number.ensures

@@ -98,6 +98,9 @@ decode_goal-goal-requires c =
 pub offset_bounds-marks-count : goal.offset_bounds-marks-count
 offset_bounds-marks-count c = omega (arith, few (start c.before.before.before.before.before.before.before))
 
+pub bounds-marks-count : goal.bounds-marks-count
+bounds-marks-count c = omega (arith, few (start c.before.before.before.before.before.before.before), c.prepare_actions-first.ensures.blank.marks_long)
+
 pub offset_bounds-places-count : goal.offset_bounds-places-count
 offset_bounds-places-count c = omega (arith, few (start c.before.before.before.before.before.before.before.before))
 
@@ -117,8 +120,16 @@ name_own-requires c =
 pub offset_bounds-marks-count-2 : goal.offset_bounds-marks-count-2
 offset_bounds-marks-count-2 c = omega (arith, few (start c.before.before.before.before.before.before.before.before.before.before))
 
+pub bounds-marks-count-2 : goal.bounds-marks-count-2
+bounds-marks-count-2 c =
+    let p = c.before.before.before.before.before.before.before.before.before.before in
+    omega (arith, few (start p), c.prepare_actions-first.ensures.blank.marks_long, length-set (marks_then p) c.args.count c.name_own.new.marks)
+
 pub offset_bounds-numbers-count : goal.offset_bounds-numbers-count
 offset_bounds-numbers-count c = omega (arith, few (start c.before.before.before.before.before.before.before.before.before.before.before))
+
+pub bounds-numbers-count : goal.bounds-numbers-count
+bounds-numbers-count c = omega (arith, few (start c.before.before.before.before.before.before.before.before.before.before.before), c.prepare_actions-first.ensures.blank.numbers_long)
 
 pub put_row-requires : goal.put_row-requires
 put_row-requires c =

@@ -105,6 +105,11 @@ offset_bounds-marks-k c =
     let i = turn c.before in
     omega (arith, few i.before.before, i.loop-k-test.true)
 
+pub bounds-marks-k : goal.bounds-marks-k
+bounds-marks-k c =
+    let i = turn c.before in
+    omega (arith, few i.before.before, i.loop-k-test.true, i.loop-k.invariant.0.blank.marks_long)
+
 pub name_own-own-requires : goal.name_own-own-requires
 name_own-own-requires c =
     let p = c.before.before in
@@ -119,10 +124,20 @@ offset_bounds-marks-k-in-loop-k c =
     let i = turn c.before.before.before in
     omega (arith, few i.before.before, i.loop-k-test.true)
 
+pub bounds-marks-k-in-loop-k : goal.bounds-marks-k-in-loop-k
+bounds-marks-k-in-loop-k c =
+    let i = turn c.before.before.before in
+    omega (arith, few i.before.before, i.loop-k-test.true, i.loop-k.invariant.0.blank.marks_long, length-set i.loop-k.marks i.loop-k.k c.name_own-own.new.marks)
+
 pub offset_bounds-numbers-k : goal.offset_bounds-numbers-k
 offset_bounds-numbers-k c =
     let i = turn c.before.before.before.before in
     omega (arith, few i.before.before, i.loop-k-test.true)
+
+pub bounds-numbers-k : goal.bounds-numbers-k
+bounds-numbers-k c =
+    let i = turn c.before.before.before.before in
+    omega (arith, few i.before.before, i.loop-k-test.true, i.loop-k.invariant.0.blank.numbers_long)
 
 pub put_row-requires : goal.put_row-requires
 put_row-requires c =

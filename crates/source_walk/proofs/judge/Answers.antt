@@ -11,20 +11,16 @@ use borrow.Author.Rules.{rules}
 use Rattle.source_walk.proofs.judge.Goals as goal
 use Rattle.source_walk.proofs.judge.Lts as lts
 use Rattle.source_walk.proofs.judge.Reads as reads
-
--- what is ready
-ready : (c : lts.After-t reads.Pre reads.Post) → let o = c.«open» in Started c.args.file.now c.args.plan.now c.in-Ready.t o.new.1.1.0 o.new.1.1.1.0 o.new.1.1.1.1.0 o.new.1.1.1.1.1.0
-ready c = rw c.in-Ready.is at c.«open».ensures
+use Rattle.source_walk.proofs.judge.Tie as tie
 
 pub judge_steps-judged-requires : goal.judge_steps-judged-requires
-judge_steps-judged-requires c = let S = ready c.before.before.before.before.before.before in (usables S.rows, S.plan_is.steps_are, S.plan_is.few, S.inside.shaped.modes_long)
+judge_steps-judged-requires c = let S = rw c.in-Ready.is at c.«open».ensures in (usables S.rows, S.plan_is.steps_are, S.plan_is.few, S.inside.shaped.modes_long)
 
 pub returns-in-Refused : goal.returns-in-Refused
 returns-in-Refused c =
     let s = c.args in
-    let e = c.number.given in
-    let o = rw e.1 at c.«open».ensures in
-    c.refuse.ensures ∙ ap judgement_of (sym (refused-both judge_source_task s.file.now s.plan.now e.0.0 e.0.1.0 o.0))
+    let o = rw c.in-Refused.is at c.«open».ensures in
+    c.refuse.ensures ∙ ap judgement_of (sym (refused-both judge_source_task s.file.now s.plan.now c.in-Refused.number c.in-Refused.place o.0))
 
 pub returns-in-Ready : goal.returns-in-Ready
-returns-in-Ready c = c.conclude.ensures ∙ ap (λ (j : Judging). with_state j.verdict j.state) c.judge_steps-judged.ensures ∙ judgement-is (ready c.before.before.before.before.before.before.before.before) _
+returns-in-Ready c = c.conclude.ensures ∙ ap (λ (j : Judging). with_state j.verdict j.state) c.judge_steps-judged.ensures ∙ judgement-is (rw c.in-Ready.is at c.«open».ensures) _

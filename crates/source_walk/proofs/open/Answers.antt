@@ -6,10 +6,9 @@ use Rattle.source_walk.proofs.open.Goals as goal
 
 pub make_ready-requires : goal.make_ready-requires
 make_ready-requires c =
-    let a = c.actions in
-    let k = c.steps in record { accepted_with = (
-        accepted-with c.args.file.now _ _ _ (rw a.given.1 at c.check_source.ensures),
-        plan-of c.args.plan.now _ (rw k.given.1 at c.count_steps.ensures),
+    record { accepted_with = (
+        accepted-with c.args.file.now _ _ _ (rw c.in-Accepted.is at c.check_source.ensures),
+        plan-of c.args.plan.now _ (rw c.in-Steps.is at c.count_steps.ensures),
         c.requires.0,
         c.requires.1,
       ); values_value = (c.requires.2, c.requires.3) }

@@ -13,20 +13,16 @@ use borrow.Author.Rules.{rules}
 use Rattle.source_walk.proofs.price_plan.Goals as goal
 use Rattle.source_walk.proofs.price_plan.Lts as lts
 use Rattle.source_walk.proofs.price_plan.Reads as reads
-
--- what is ready
-ready : (c : lts.After-t reads.Pre reads.Post) → let o = c.«open» in Started c.args.file.now c.args.plan.now c.in-Ready.t o.new.1.1.0 o.new.1.1.1.0 o.new.1.1.1.1.0 o.new.1.1.1.1.1.0
-ready c = rw c.in-Ready.is at c.«open».ensures
+use Rattle.source_walk.proofs.price_plan.Tie as tie
 
 pub judge_steps-judged-requires : goal.judge_steps-judged-requires
-judge_steps-judged-requires c = let S = ready c.before.before.before.before.before.before in (usables S.rows, S.plan_is.steps_are, S.plan_is.few, S.inside.shaped.modes_long)
+judge_steps-judged-requires c = let S = rw c.in-Ready.is at c.«open».ensures in (usables S.rows, S.plan_is.steps_are, S.plan_is.few, S.inside.shaped.modes_long)
 
 pub returns-in-Refused : goal.returns-in-Refused
 returns-in-Refused c =
     let s = c.args in
-    let e = c.number.given in
-    let o = rw e.1 at c.«open».ensures in
-    sym (refused-both (λ t p. then (judge_source_task t p) (λ v. price_task t false p)) s.file.now s.plan.now e.0.0 e.0.1.0 o.0)
+    let o = rw c.in-Refused.is at c.«open».ensures in
+    sym (refused-both (λ t p. then (judge_source_task t p) (λ v. price_task t false p)) s.file.now s.plan.now c.in-Refused.number c.in-Refused.place o.0)
 
 pub returns-in-Ready : goal.returns-in-Ready
-returns-in-Ready c = c.price_with.ensures ∙ ap (λ (j : Judging). priced_by j.verdict j.price) c.judge_steps-judged.ensures ∙ price-is (ready c.before.before.before.before.before.before.before.before)
+returns-in-Ready c = c.price_with.ensures ∙ ap (λ (j : Judging). priced_by j.verdict j.price) c.judge_steps-judged.ensures ∙ price-is (rw c.in-Ready.is at c.«open».ensures)

@@ -58,10 +58,10 @@ take_turn-turn-requires c =
 pub returns-then-not-turn : goal.returns-then-not-turn
 returns-then-not-turn c =
     let t = c.take_turn-turn in
-    c.stopped-then-not-turn.ensures (state t.new.0 t.new.1.0)
+    c.stopped-then-not-turn.ensures (state t.new.values t.new.modes)
     ∙ not-applied c.loop-i.invariant.0 c.wide16-k.result (c.wide16-k.ensures ∙ c.action_of.ensures)
     (omega (arith, c.loop-i-test.true, c.requires.1))
-    c.if-count-k.false t.ensures.0 (not-true _ (ap not c.if-not-turn.true))
+    c.if-count-k.false t.ensures.turn_of (not-true _ c.if-not-turn.true)
 
 pub overflow_add-price : goal.overflow_add-price
 overflow_add-price c =
@@ -76,9 +76,9 @@ loop-i-preserved c =
     (
       goes c.loop-i.invariant.0 c.wide16-k.result (c.wide16-k.ensures ∙ c.action_of.ensures)
           (omega (arith, c.loop-i-test.true, c.requires.1))
-          c.if-count-k.false t.ensures.0
-          c.requires.0 (not-false _ (ap not c.if-not-turn.false)) c.first_passing-passing.ensures,
-      t.ensures.1,
+          c.if-count-k.false t.ensures.turn_of
+          c.requires.0 (not-false _ c.if-not-turn.false) c.first_passing-passing.ensures,
+      t.ensures.times_len,
     )
 
 pub returns : goal.returns
