@@ -26,8 +26,7 @@ ghost use Rattle.ruphenqo.specs.Version.{VERSION};
 const VERSION: u32 = 10_300;
 
 // The version of the library.
-#[unsafe(no_mangle)]
-pub extern "C" fn ruphenqo_version() -> u32
+pub fn ruphenqo_version() -> u32
     ensures { result ≡ VERSION }
 {
     VERSION
@@ -50,20 +49,14 @@ fn tell_counts(verdict: file_check::Verdict, counts: &mut [u64; 3], place: &mut 
 }
 
 // Reads a source file: the counts of its variables, modes and actions.
-#[unsafe(no_mangle)]
-pub extern "C" fn ruphenqo_read_source(task: &[u8], counts: &mut [u64; 3], place: &mut u64) -> u32
+pub fn ruphenqo_read_source(task: &[u8], counts: &mut [u64; 3], place: &mut u64) -> u32
     ensures { Told (counts_of (verdict_of source_limits task.now)) itself counts.old result place.new counts.new }
 {
     tell_counts(file_check::check_source(task), counts, place)
 }
 
 // Reads a restricted file.
-#[unsafe(no_mangle)]
-pub extern "C" fn ruphenqo_read_restricted(
-    task: &[u8],
-    counts: &mut [u64; 3],
-    place: &mut u64,
-) -> u32
+pub fn ruphenqo_read_restricted(task: &[u8], counts: &mut [u64; 3], place: &mut u64) -> u32
     ensures { Told (counts_of (verdict_of restricted_limits task.now)) itself counts.old
         result place.new counts.new }
 {
@@ -71,8 +64,7 @@ pub extern "C" fn ruphenqo_read_restricted(
 }
 
 // The state before any step of a source task, the bounds of its variables and the sizes of its modes, each in front of zeros.
-#[unsafe(no_mangle)]
-pub extern "C" fn ruphenqo_source_start(
+pub fn ruphenqo_source_start(
     task: &[u8],
     values: &mut [i64; 8],
     modes: &mut [u16; 4],
@@ -104,8 +96,7 @@ pub extern "C" fn ruphenqo_source_start(
 }
 
 // The state before any step of a restricted task, in front of zeros.
-#[unsafe(no_mangle)]
-pub extern "C" fn ruphenqo_restricted_start(
+pub fn ruphenqo_restricted_start(
     task: &[u8],
     values: &mut [i64; 64],
     modes: &mut [u16; 8],
@@ -148,8 +139,7 @@ fn tell_place(placed: file_actions::Placed, start: &mut u64, end: &mut u64, plac
 }
 
 // Where the bytes of action k of a source file start and end.
-#[unsafe(no_mangle)]
-pub extern "C" fn ruphenqo_source_action(
+pub fn ruphenqo_source_action(
     task: &[u8],
     k: u64,
     start: &mut u64,
@@ -168,8 +158,7 @@ pub extern "C" fn ruphenqo_source_action(
 }
 
 // Likewise of a restricted file.
-#[unsafe(no_mangle)]
-pub extern "C" fn ruphenqo_restricted_action(
+pub fn ruphenqo_restricted_action(
     task: &[u8],
     k: u64,
     start: &mut u64,
@@ -188,8 +177,7 @@ pub extern "C" fn ruphenqo_restricted_action(
 }
 
 // Judges a source plan: the count of its steps and the end state.
-#[unsafe(no_mangle)]
-pub extern "C" fn ruphenqo_judge_source(
+pub fn ruphenqo_judge_source(
     task: &[u8],
     plan: &[u8],
     steps: &mut u64,
@@ -222,8 +210,7 @@ pub extern "C" fn ruphenqo_judge_source(
 }
 
 // Judges a restricted plan: the count of its steps and the end state.
-#[unsafe(no_mangle)]
-pub extern "C" fn ruphenqo_judge_restricted(
+pub fn ruphenqo_judge_restricted(
     task: &[u8],
     plan: &[u8],
     steps: &mut u64,
@@ -256,8 +243,7 @@ pub extern "C" fn ruphenqo_judge_restricted(
 }
 
 // Takes a step by itself in the state that the arrays hold.
-#[unsafe(no_mangle)]
-pub extern "C" fn ruphenqo_step_restricted(
+pub fn ruphenqo_step_restricted(
     task: &[u8],
     values: &mut [i64; 64],
     modes: &mut [u16; 8],
@@ -292,8 +278,7 @@ pub extern "C" fn ruphenqo_step_restricted(
 }
 
 // Takes a step by itself in the state that the arrays hold, in a source task.
-#[unsafe(no_mangle)]
-pub extern "C" fn ruphenqo_step_source(
+pub fn ruphenqo_step_source(
     task: &[u8],
     values: &mut [i64; 8],
     modes: &mut [u16; 4],
@@ -344,8 +329,7 @@ fn tell_price(priced: source_state::Priced, price: &mut u64, place: &mut u64) ->
 }
 
 // The price of a step by itself.
-#[unsafe(no_mangle)]
-pub extern "C" fn ruphenqo_price_step(
+pub fn ruphenqo_price_step(
     task: &[u8],
     values: &[i64; 8],
     modes: &[u16; 4],
@@ -368,13 +352,7 @@ pub extern "C" fn ruphenqo_price_step(
 }
 
 // The price of a plan.
-#[unsafe(no_mangle)]
-pub extern "C" fn ruphenqo_price_plan(
-    task: &[u8],
-    plan: &[u8],
-    price: &mut u64,
-    place: &mut u64,
-) -> u32
+pub fn ruphenqo_price_plan(task: &[u8], plan: &[u8], price: &mut u64, place: &mut u64) -> u32
     ensures { Told (price_plan task.now plan.now) itself price.old result place.new price.new }
 {
     tell_price(source_walk::price_plan(task, plan), price, place)
@@ -397,13 +375,7 @@ fn tell_written(written: lists::Written, length: &mut u64, place: &mut u64) -> u
 }
 
 // The lowered task's file, written into lent output.
-#[unsafe(no_mangle)]
-pub extern "C" fn ruphenqo_lower(
-    task: &[u8],
-    out: &mut [u8],
-    length: &mut u64,
-    place: &mut u64,
-) -> u32
+pub fn ruphenqo_lower(task: &[u8], out: &mut [u8], length: &mut u64, place: &mut u64) -> u32
     ensures told { Told (lent out.old (lower_bytes task.now)).0 itself length.old
         result place.new length.new }
     ensures out_after { out.new ≡ (lent out.old (lower_bytes task.now)).1 }
@@ -412,8 +384,7 @@ pub extern "C" fn ruphenqo_lower(
 }
 
 // The expansion of a source plan, written into lent output.
-#[unsafe(no_mangle)]
-pub extern "C" fn ruphenqo_expand(
+pub fn ruphenqo_expand(
     task: &[u8],
     plan: &[u8],
     out: &mut [u8],
@@ -428,8 +399,7 @@ pub extern "C" fn ruphenqo_expand(
 }
 
 // The listing of a source plan, written into lent output. A refused task or plan is a line of it: the only refusal is 8.
-#[unsafe(no_mangle)]
-pub extern "C" fn ruphenqo_list(
+pub fn ruphenqo_list(
     task: &[u8],
     plan: &[u8],
     out: &mut [u8],
@@ -444,8 +414,7 @@ pub extern "C" fn ruphenqo_list(
 }
 
 // The source plan that a restricted plan of the lowering projects to, written into lent output.
-#[unsafe(no_mangle)]
-pub extern "C" fn ruphenqo_project(
+pub fn ruphenqo_project(
     task: &[u8],
     plan: &[u8],
     out: &mut [u8],
@@ -460,13 +429,7 @@ pub extern "C" fn ruphenqo_project(
 }
 
 // The text of an answer's number, written into lent output. The only refusal is 8.
-#[unsafe(no_mangle)]
-pub extern "C" fn ruphenqo_refusal_text(
-    number: u32,
-    out: &mut [u8],
-    length: &mut u64,
-    place: &mut u64,
-) -> u32
+pub fn ruphenqo_refusal_text(number: u32, out: &mut [u8], length: &mut u64, place: &mut u64) -> u32
     ensures told { Told (lent out.old (given (refusal_text number))).0 itself length.old result place.new length.new }
     ensures out_after { out.new ≡ (lent out.old (given (refusal_text number))).1 }
 {

@@ -8,21 +8,16 @@ use Rattle.listing.proofs.Listing.{refused-listing, begun}
 use Rattle.listing.proofs.Longest.{refused-most}
 use borrow.Author.Rules.{rules}
 use Rattle.listing.proofs.begin.Goals as goal
-use Rattle.listing.proofs.begin.Lts as lts
-use Rattle.listing.proofs.begin.Reads as reads
-use Rattle.listing.proofs.begin.Tie as tie
-
--- what is ready
-ready : (c : lts.After-t tie.the-claims reads.Pre reads.Post) → let o = c.«open» in let s = c.args in
-    Started s.file.now s.plan.now c.in-Ready.t o.new.1.1.0 o.new.1.1.1.0 o.new.1.1.1.1.0 o.new.1.1.1.1.1.0
-ready c = rw c.in-Ready.is at c.«open».ensures
 
 pub open-requires : goal.open-requires
 open-requires c = c.requires
 
 pub judge-requires : goal.judge-requires
 judge-requires c =
-    let S = ready c.before.before.before.before.before.before in
+    let s = c.args in
+    let o = c.«open» in
+    -- what is ready
+    let S : Started s.file.now s.plan.now c.in-Ready.t o.new.marks o.new.numbers o.new.values o.new.modes = rw c.in-Ready.is at o.ensures in
     (usables S.rows, S.plan_is.steps_are, S.plan_is.few, S.inside.shaped.modes_long)
 
 pub returns-in-Refused : goal.returns-in-Refused
@@ -36,4 +31,8 @@ returns-in-Refused c =
 
 pub returns-in-Ready : goal.returns-in-Ready
 returns-in-Ready c =
-    begun (ready c.before.before.before.before.before.before.before) c.judge.ensures (λ number place e. omega (arith, rw e at c.judge.type_inv))
+    let s = c.args in
+    let o = c.«open» in
+    -- what is ready
+    let S : Started s.file.now s.plan.now c.in-Ready.t o.new.marks o.new.numbers o.new.values o.new.modes = rw c.in-Ready.is at o.ensures in
+    begun S c.judge.ensures (λ number place e. omega (arith, rw e at c.judge.type_inv))

@@ -67,14 +67,14 @@ shape_of-out-then-not-turn c =
 pub returns-then-not-turn : goal.returns-then-not-turn
 returns-then-not-turn c =
     lining.writing-not-applied c.requires.listable c.loop-i.invariant.0 c.wide16-k.result (c.wide16-k.ensures ∙ c.action_of.ensures)
-    c.loop-i-test.true c.if-count-k.false c.take_priced-turn.ensures.turned (not-true _ (ap not c.if-not-turn.true)) _ (sym (length-halves c.args.plan.now))
+    c.loop-i-test.true c.if-count-k.false c.take_priced-turn.ensures.turned (not-true _ c.if-not-turn.true) _ (sym (length-halves c.args.plan.now))
 
 pub put_step_line-place-requires : goal.put_step_line-place-requires
 put_step_line-place-requires c =
     let k = c.wide16-k.result in
     let is = c.wide16-k.ensures ∙ c.action_of.ensures in
     let t = c.take_priced-turn.ensures.turned in
-    let f = not-false _ (ap not c.if-not-turn.false) in
+    let f = not-false _ c.if-not-turn.false in
     let i = c.loop-i-test.true in (
       c.requires.listable.usables.variables_few,
       (lining.writing-reached c.requires.listable c.loop-i.invariant.0 k is i c.if-count-k.false t f).values_long,
@@ -94,7 +94,7 @@ loop-i-preserved c =
     (
       lining.writing-next c.requires.listable c.loop-i.invariant.0 c.wide16-k.result (c.wide16-k.ensures ∙ c.action_of.ensures)
           c.loop-i-test.true c.if-count-k.false c.take_priced-turn.ensures.turned
-          (not-false _ (ap not c.if-not-turn.false))
+          (not-false _ c.if-not-turn.false)
           c.put_step_line-place.ensures.0 c.put_step_line-place.ensures.1,
       c.take_priced-turn.ensures.times_len,
     )

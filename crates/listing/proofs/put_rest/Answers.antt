@@ -8,12 +8,13 @@ use Rattle.listing.proofs.put_rest.Goals as goal
 
 pub put_refused_line-requires : goal.put_refused_line-requires
 put_refused_line-requires c =
-    let g = c.rest.given in
-    refusal-room g.0.0 g.0.1.0 c.args.most (rw g.1 at c.requires.room_for)
+    let r = c.in-Refusal in
+    refusal-room r.number r.place c.args.most (rw r.is at c.requires.room_for)
 
 pub put_sheet-requires : goal.put_sheet-requires
 put_sheet-requires c =
-    let g = c.rest-in-Lines-1.given in record { most_nonzero = (c.requires.most_nonzero.0, rw g.1 at c.requires.most_nonzero.1); room_for = rw g.1 at c.requires.room_for }
+    let l = c.in-Lines in
+    record { most_nonzero = (c.requires.most_nonzero.0, rw l.is at c.requires.most_nonzero.1); room_for = rw l.is at c.requires.room_for }
 
 pub returns-in-Nothing : goal.returns-in-Nothing
 returns-in-Nothing c =
@@ -22,10 +23,10 @@ returns-in-Nothing c =
 
 pub returns-in-Refusal : goal.returns-in-Refusal
 returns-in-Refusal c =
-    let g = c.rest.given in
+    let r = c.in-Refusal in
     let w = c.put_refused_line.ensures in
-    rw g.1
-    (part-refusal g.0.0 g.0.1.0 c.args.most (plan_numbers c.args.plan.now) c.args.marks.now c.args.numbers.now w.0 w.1)
+    rw r.is
+    (part-refusal r.number r.place c.args.most (plan_numbers c.args.plan.now) c.args.marks.now c.args.numbers.now w.0 w.1)
 
 pub returns-in-Lines : goal.returns-in-Lines
 returns-in-Lines c = rw c.in-Lines.is c.put_sheet.ensures

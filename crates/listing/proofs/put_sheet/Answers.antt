@@ -10,7 +10,10 @@ pub put_lines-lined-requires : goal.put_lines-lined-requires
 put_lines-lined-requires c =
     let h = c.put_header-lines_at.ensures in
     rw c.part_end-until.ensures
-    (part-listable c.args.most c.requires.most_nonzero.1, lines-room c.args.most c.requires.most_nonzero.1 c.requires.room_for h)
+    (record {
+      listable = part-listable c.args.most c.requires.most_nonzero.1;
+      room_for = lines-room c.args.most c.requires.most_nonzero.1 c.requires.room_for h
+    })
 
 pub returns-then-until-task : goal.returns-then-until-task
 returns-then-until-task c =

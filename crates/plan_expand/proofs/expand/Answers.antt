@@ -17,12 +17,14 @@ open-requires c = (refl, refl, refl, refl)
 pub judge_steps-judged-requires : goal.judge_steps-judged-requires
 judge_steps-judged-requires c =
     let o = c.«open» in
+    -- what is ready
     let S : Started c.args.file.now c.args.plan.now c.in-Ready.t o.new.marks o.new.numbers o.new.values o.new.modes = rw c.in-Ready.is at o.ensures in
     (usables S.rows, S.plan_is.steps_are, S.plan_is.few, S.inside.shaped.modes_long)
 
 pub write_expansion-requires : goal.write_expansion-requires
 write_expansion-requires c =
     let o = c.«open» in
+    -- what is ready
     let S : Started c.args.file.now c.args.plan.now c.in-Ready.t o.new.marks o.new.numbers o.new.values o.new.modes = rw c.in-Ready.is at o.ensures in
     let l = c.length_of in
     let j = c.judge_steps-judged in record { usables = (usables S.rows, S.plan_is.steps_are, S.plan_is.few, S.inside.shaped.modes_long); expandable = expandable S l.result (l.ensures ∙ ap (λ (d : Judging). length_of d.verdict d.price d.passing) j.ensures) }
@@ -36,6 +38,7 @@ returns-in-Refused c =
 pub returns-in-Ready : goal.returns-in-Ready
 returns-in-Ready c =
     let o = c.«open» in
+    -- what is ready
     let S : Started c.args.file.now c.args.plan.now c.in-Ready.t o.new.marks o.new.numbers o.new.values o.new.modes = rw c.in-Ready.is at o.ensures in
     answers S
     (c.length_of.ensures ∙ ap (λ (d : Judging). length_of d.verdict d.price d.passing) c.judge_steps-judged.ensures)

@@ -84,34 +84,33 @@ advance-next-requires c =
     let s = start_of v in
     let u = s.requires.usables.0 in
     let g = v.loop-at.invariant in
-    let k = v.action_of-opening.result in (
-      (u.variables_few, u.modes_few, g.0.long, g.1),
-      (
-        u.usable v.wide-k.result (omega (arith, c.if-count-k.false)),
-        (
-          s.requires.usables.2,
-          omega (arith, inside v, s.requires.usables.2),
-          number_small g.0 u s.requires.usables.1 k (number_is_lem v) (inside v) (entry-is v) c.if-count-k.false,
-          number_is_lem v,
-        ),
-      ),
-    )
+    let k = v.action_of-opening.result in
+    record {
+      n_bound = (u.variables_few, u.modes_few, g.0.long, g.1);
+      usable = u.usable v.wide-k.result (omega (arith, c.if-count-k.false));
+      steps_value = (
+        s.requires.usables.2,
+        omega (arith, inside v, s.requires.usables.2),
+        number_small g.0 u s.requires.usables.1 k (number_is_lem v) (inside v) (entry-is v) c.if-count-k.false,
+        number_is_lem v,
+      )
+    }
 
 pub returns-in-Refused : goal.returns-in-Refused
 returns-in-Refused c =
-    let v = w c.before.before.before.before.before in
+    let v = w c.before.before.before.before.before.before in
     let s = start_of v in
     stopped v.loop-at.invariant.0 s.requires.usables.0 s.requires.usables.1 v.action_of-opening.result (number_is_lem v) (inside v) (entry-is v) c.if-count-k.false
     c.advance-next.ensures.advanced c.in-Refused.is
 
 pub overflow_add-found : goal.overflow_add-found
 overflow_add-found c =
-    let v = w c.before.before.before.before.before.before.before in
+    let v = w c.before.before.before.before.before.before.before.before in
     omega (arith, v.loop-at.invariant.0.few, v.loop-at-test.true)
 
 pub loop-at-smaller : goal.loop-at-smaller
 loop-at-smaller c =
-    let v = w c.before.before.before.before.before.before.before in
+    let v = w c.before.before.before.before.before.before.before.before in
     let s = start_of v in
     let r = rises v.loop-at.invariant.0 s.requires.usables.0 s.requires.usables.1 v.action_of-opening.result (number_is_lem v) (inside v) (entry-is v)
     c.if-count-k.false c.advance-next.ensures.advanced c.in-At.is in
@@ -119,7 +118,7 @@ loop-at-smaller c =
 
 pub loop-at-preserved : goal.loop-at-preserved
 loop-at-preserved c =
-    let v = w c.before.before.before.before.before.before.before in
+    let v = w c.before.before.before.before.before.before.before.before in
     let s = start_of v in
     let l = v.loop-at in (
       goes l.invariant.0 s.requires.usables.0 s.requires.usables.1 v.action_of-opening.result (number_is_lem v) (inside v) (entry-is v) c.if-count-k.false

@@ -12,6 +12,7 @@ open-requires c = (refl, refl, refl, refl)
 pub project_ready-requires : goal.project_ready-requires
 project_ready-requires c =
     let o = c.«open» in
+    -- what is ready
     let S : Started c.args.file.now c.args.plan.now c.in-Ready.t o.new.marks o.new.numbers o.new.values o.new.modes = rw c.in-Ready.is at o.ensures in
     record { posed = posed S; steps_value = (S.plan_is.steps_are, S.plan_is.few) }
 
@@ -24,5 +25,6 @@ returns-in-Refused c =
 pub returns-in-Ready : goal.returns-in-Ready
 returns-in-Ready c =
     let o = c.«open» in
+    -- what is ready
     let S : Started c.args.file.now c.args.plan.now c.in-Ready.t o.new.marks o.new.numbers o.new.values o.new.modes = rw c.in-Ready.is at o.ensures in
     task-projected S c.project_ready.ensures

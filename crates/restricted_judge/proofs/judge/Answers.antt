@@ -6,7 +6,6 @@ use Rattle.plan_bytes.specs.Counted.{counted_is}
 use Rattle.restricted_judge.specs.Judging.{judgement_of}
 use Rattle.file_actions.proofs.Accepted.{bytes-of}
 use Rattle.restricted_judge.proofs.Accepting.{judged-rejected, judged-no-plan, judged-task, accepted-plan}
-use borrow.Author.Rules.{rules}
 use Rattle.restricted_judge.proofs.judge.Goals as goal
 
 pub judge_accepted-requires : goal.judge_accepted-requires

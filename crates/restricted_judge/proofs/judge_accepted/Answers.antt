@@ -4,7 +4,6 @@ use mathlib.Core.Path.{ap, ◌∙◌}
 use borrow.Author.Tests.{not-true, not-false}
 use Rattle.restricted_judge.specs.Judging.{judgement_of}
 use Rattle.restricted_judge.proofs.Accepting.{start-standing, goal-usable, judged-ended, judged-unmet, judged-valid}
-use borrow.Author.Rules.{rules}
 use mathlib.Core.Bool.{not}
 use Rattle.restricted_judge.proofs.judge_accepted.Goals as goal
 

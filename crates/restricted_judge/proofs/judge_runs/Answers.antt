@@ -1,17 +1,14 @@
 -- `restricted_judge::judge_runs` meets its contract: where a run ends, what is left to be judged gives what there was, and every slot holds the
 -- action that its tag says. Assumes nothing.
-use mathlib.Core.Path.{◌≡◌, refl, ◌∙◌}
-use Prim.Native.Nat.{ℕ, ◌-◌, ◌*◌, ◌<◌}
+use mathlib.Core.Path.{refl, ◌∙◌}
+use Prim.Native.Nat.{ℕ, ◌*◌, ◌<◌}
 use native.Mathlib.Omega.{arith}
 use mathlib.Core.List.{List, []}
-use lib.ListN.{length, get_or}
+use lib.ListN.{get_or}
 use lib.IntN.{ℤ}
 use mir.Val.{Fits}
 use mir.Syntax.{w64}
-use Rattle.restricted_step.specs.Steps.{state_of}
-use Rattle.restricted_runs.specs.Slots.{Held}
-use Rattle.restricted_judge.proofs.Walking.{Walking, walk_start, walk_ends, walk-no-action, walk_can, walk-stops, walk-next}
-use borrow.Author.Rules.{rules}
+use Rattle.restricted_judge.proofs.Walking.{walk_start, walk_ends, walk-no-action, walk_can, walk-stops, walk-next}
 use Rattle.restricted_judge.proofs.judge_runs.Goals as goal
 use Rattle.restricted_judge.proofs.judge_runs.Lts as lts
 use Rattle.restricted_judge.proofs.judge_runs.Reads as reads
@@ -91,12 +88,11 @@ loop-i-smaller c = let R = rw c.in-Until.is at c.take_run-run.ensures in
     omega (arith, R.onward, R.bound, c.loop-i-test.true)
 
 pub loop-i-preserved : goal.loop-i-preserved
-loop-i-preserved c = let k = c.before.before.before.before.before.before.before.before.before.before.before in
-    (
-      walk-next c.loop-i.invariant.0 c.action_of-k.result c.action_of-k.ensures c.loop-i-test.true (known c.before.before.before.before.before.before.before.before.before.before.before.before.before.before.before.before) (marks_of k) (numbers_of k) k.keep_action.ensures.is (rw c.in-Until.is at c.take_run-run.ensures),
-      k.keep_action.ensures.held,
-      k.keep_action.ensures.slots_are ∙ c.loop-i.invariant.2,
-    )
+loop-i-preserved c = let k = c.before.before.before.before.before.before.before.before.before.before.before in (
+  walk-next c.loop-i.invariant.0 c.action_of-k.result c.action_of-k.ensures c.loop-i-test.true (known c.before.before.before.before.before.before.before.before.before.before.before.before.before.before.before.before) (marks_of k) (numbers_of k) k.keep_action.ensures.is (rw c.in-Until.is at c.take_run-run.ensures),
+  k.keep_action.ensures.held,
+  k.keep_action.ensures.slots_are ∙ c.loop-i.invariant.2,
+)
 
 pub shape_of-tags : goal.shape_of-tags
 shape_of-tags c = c.loop-i.invariant.2

@@ -1,17 +1,11 @@
 -- `restricted_judge::judge_runs` meets its contract: where a run ends, what is left to be judged gives what there was, and every slot holds the
 -- action that its tag says. Assumes nothing.
-use mathlib.Core.Path.{◌≡◌, refl, ◌∙◌}
-use Prim.Native.Nat.{ℕ, ◌-◌, ◌*◌, ◌<◌}
-use native.Mathlib.Omega.{arith}
-use mathlib.Core.List.{List, []}
-use lib.ListN.{length, get_or}
-use lib.IntN.{ℤ}
-use mir.Val.{Fits}
-use mir.Syntax.{w64}
+use mathlib.Core.Path.{◌≡◌}
+use Prim.Native.Nat.{◌-◌}
+use lib.ListN.{length}
 use Rattle.restricted_step.specs.Steps.{state_of}
 use Rattle.restricted_runs.specs.Slots.{Held}
-use Rattle.restricted_judge.proofs.Walking.{Walking, walk_start, walk_ends, walk-no-action, walk_can, walk-stops, walk-next}
-use borrow.Author.Rules.{rules}
+use Rattle.restricted_judge.proofs.Walking.{Walking}
 use Rattle.restricted_judge.proofs.judge_runs.Given as goal
 
 abbrev pub invariant-loop-i : goal.invariant-loop-i

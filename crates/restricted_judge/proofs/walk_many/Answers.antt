@@ -3,7 +3,6 @@
 use native.Mathlib.Omega.{arith}
 use Rattle.restricted_runs.proofs.Slots.{held_none}
 use Rattle.restricted_judge.proofs.Accepting.{few, placed}
-use borrow.Author.Rules.{rules}
 use Rattle.restricted_judge.proofs.walk_many.Goals as goal
 
 pub judge_runs-requires : goal.judge_runs-requires

@@ -1,7 +1,6 @@
 -- `restricted_runs::count_alike` meets its contract. Assumes nothing.
 use mathlib.Core.Path.{refl}
 use Rattle.restricted_runs.proofs.Alike.{counted-one, counted-run}
-use borrow.Author.Rules.{rules}
 use Rattle.restricted_runs.proofs.count_alike.Goals as goal
 
 pub returns-then-left-le-SHORT : goal.returns-then-left-le-SHORT

@@ -1,5 +1,4 @@
 -- `restricted_runs::keep_action` meets its contract: the tag says what the slot holds, before and after. Assumes nothing.
-use borrow.Author.Rules.{rules}
 use Rattle.restricted_runs.proofs.Slots.{kept-already, decoded-action, kept_put}
 use Rattle.restricted_runs.proofs.keep_action.Goals as goal
 

@@ -1,7 +1,6 @@
 -- `restricted_runs::leap` meets its contract: where the tests before and behind the steps pass, all steps between apply; else the state is put back.
 -- Assumes nothing.
 use mathlib.Core.Path.{sym, ◌∙◌}
-use borrow.Author.Rules.{rules}
 use borrow.Author.Tests.{not-false}
 use Rattle.restricted_step.specs.Steps.{state_of}
 use Rattle.file_parts.specs.Row.{row_is}

@@ -1,11 +1,8 @@
 -- `restricted_runs::leap_far` meets its contract: leaps one after another, of as many steps at most as are left. Assumes nothing.
 use Prim.Native.Nat.{◌+◌, ◌≤◌}
-use native.Mathlib.Omega.{arith}
-use borrow.Author.Rules.{rules}
 use Rattle.restricted_step.specs.Steps.{state_of}
 use Rattle.file_parts.specs.Row.{row_is}
 use Rattle.restricted_runs.specs.Repeats.{Leapt}
-use Rattle.restricted_runs.proofs.Leaps.{leapt-none, leapt-then}
 use Rattle.restricted_runs.proofs.leap_far.Given as goal
 
 abbrev pub invariant-loop-times : goal.invariant-loop-times

@@ -1,7 +1,6 @@
 -- `restricted_runs::take_many` meets its contract: a run that goes on behind leaps. Assumes nothing.
 use native.Mathlib.Omega.{arith}
 use Rattle.restricted_runs.proofs.Running.{run-leaps, run_on, can-run-on}
-use borrow.Author.Rules.{rules}
 use Rattle.restricted_runs.proofs.take_many.Goals as goal
 
 pub take_steps-requires : goal.take_steps-requires

@@ -1,11 +1,8 @@
 -- `restricted_runs::take_steps` meets its contract: at each step the run has come so far. Assumes nothing.
-use mathlib.Core.Path.{sym, ◌∙◌}
 use Prim.Native.Nat.{◌-◌}
-use native.Mathlib.Omega.{arith}
-use borrow.Author.Tests.{not-true, not-false}
 use Rattle.restricted_step.specs.Steps.{state_of}
 use Rattle.file_parts.specs.Row.{row_is}
-use Rattle.restricted_runs.proofs.Running.{Running, run-start, run-passes, run-changes, run-stops, run-next}
+use Rattle.restricted_runs.proofs.Running.{Running}
 use Rattle.restricted_runs.proofs.take_steps.Given as goal
 
 abbrev pub invariant-loop-i : goal.invariant-loop-i

@@ -1,11 +1,7 @@
 -- `restricted_state::modes_below` meets its contract: the modes not yet tested decide what all of them do. Assumes nothing.
-use mathlib.Core.Path.{refl}
-use borrow.Author.Tests.{lt-ltb, le-ltb}
-use Rattle.restricted_state.proofs.Tests.{beside_size, is_below, below-every}
-use Rattle.restricted_step.proofs.Loops.{Tested, test-start, test-next, test-stop, test-end}
-use native.Mathlib.Omega.{arith}
+use Rattle.restricted_state.proofs.Tests.{beside_size, is_below}
+use Rattle.restricted_step.proofs.Loops.{Tested}
 use Prim.Native.Nat.{◌-◌}
-use borrow.Author.Rules.{rules}
 use Rattle.restricted_state.proofs.modes_below.Given as goal
 
 abbrev pub invariant-loop-i : goal.invariant-loop-i

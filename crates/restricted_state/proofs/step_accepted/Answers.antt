@@ -4,7 +4,6 @@ use native.Mathlib.Omega.{arith}
 use Rattle.integers.specs.Numbers.{Bytes}
 use Rattle.file_actions.proofs.Accepted.{bytes-of}
 use Rattle.restricted_state.proofs.Accepting.{row-for, step-taken}
-use borrow.Author.Rules.{rules}
 use Rattle.restricted_state.proofs.step_accepted.Goals as goal
 use Rattle.restricted_state.proofs.step_accepted.Lts as lts
 use Rattle.restricted_state.proofs.step_accepted.Reads as reads

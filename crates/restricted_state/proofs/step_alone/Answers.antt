@@ -7,7 +7,6 @@ use Rattle.restricted_state.specs.Step.{whole_is}
 use Rattle.restricted_state.specs.Alone.{step_answer_of}
 use Rattle.file_actions.proofs.Accepted.{bytes-of}
 use Rattle.restricted_state.proofs.Accepting.{alone-refused}
-use borrow.Author.Rules.{rules}
 use Rattle.restricted_state.proofs.step_alone.Goals as goal
 
 pub step_accepted-requires : goal.step_accepted-requires

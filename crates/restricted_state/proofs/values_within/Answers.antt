@@ -7,11 +7,10 @@ use mir.Val.{SFits}
 use lib.ListN.{get_or}
 use lib.IntN.{pos}
 use Rattle.integers.specs.Relation.{within_limit}
-use Rattle.lists.proofs.Loops.{Scanned, there-all, scan-start, scan-next, scan-stop, scan-end}
+use Rattle.lists.proofs.Loops.{there-all, scan-start, scan-next, scan-stop, scan-end}
 use Rattle.model.specs.Steps.{figure}
 use Rattle.restricted_state.proofs.Tests.{within-every}
 use native.Mathlib.Omega.{arith}
-use Prim.Native.Nat.{◌-◌}
 use borrow.Author.Rules.{rules}
 use mathlib.Core.Path.{ap}
 use mathlib.Core.Bool.{not}

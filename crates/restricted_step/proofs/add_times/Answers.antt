@@ -1,7 +1,7 @@
 -- `restricted_step::add_times` meets its contract: the additions not yet made, from the values so far, give what all of them give from the values
 -- before; and all values so far lie within the figure. Assumes nothing.
 use mathlib.Core.Path.{◌≡◌, sym, ap, ◌∙◌}
-use Prim.Native.Nat.{◌-◌, ◌+◌, ◌<◌}
+use Prim.Native.Nat.{◌+◌, ◌<◌}
 use native.Mathlib.Omega.{arith}
 use lib.ListN.{get_or}
 use lib.IntN.{ℤ, pos}
@@ -18,7 +18,7 @@ use Rattle.file_parts.specs.Layout.{addition_room, addition_count, addition_vari
 use Rattle.model.specs.Limits.{restricted_limits}
 use Rattle.restricted_step.specs.Sizes.{VARIABLES}
 use Rattle.restricted_step.proofs.Tests.{within-at}
-use Rattle.restricted_step.proofs.Sums.{sum_at, Summing, sum-start, sum-next, sum-stop, sum-end}
+use Rattle.restricted_step.proofs.Sums.{sum_at, sum-start, sum-next, sum-stop, sum-end}
 use mathlib.Core.Bool.{not}
 use Rattle.restricted_step.proofs.add_times.Goals as goal
 use Rattle.restricted_step.proofs.add_times.Lts as lts

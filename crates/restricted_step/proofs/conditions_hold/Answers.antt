@@ -9,9 +9,9 @@ use Rattle.restricted_step.proofs.Tests.{condition_holds, conditions-every}
 use Rattle.restricted_step.specs.Sizes.{VARIABLES}
 use Rattle.file_parts.specs.Layout.{condition_count}
 use Rattle.file_parts.specs.Row.{condition_in}
-use Rattle.restricted_step.proofs.Loops.{Tested, test-start, test-next, test-stop, test-end}
+use Rattle.restricted_step.proofs.Loops.{test-start, test-next, test-stop, test-end}
 use native.Mathlib.Omega.{arith}
-use Prim.Native.Nat.{◌-◌, ◌<◌}
+use Prim.Native.Nat.{◌<◌}
 use borrow.Author.Rules.{rules}
 use mathlib.Core.Path.{ap}
 use mathlib.Core.Bool.{not}

@@ -1,18 +1,10 @@
 -- `restricted_step::conditions_hold` meets its contract: the conditions not yet tested decide what all of them do. Assumes nothing.
-use mathlib.Core.Path.{◌≡◌, sym, ◌∙◌}
-use borrow.Author.Tests.{not-true, not-false}
-use mir.Facts.{to_z-of_z}
-use mir.Syntax.{w64}
-use mir.Val.{SFits}
 use Rattle.model.specs.Steps.{integer_at, natural_at}
-use Rattle.restricted_step.proofs.Tests.{condition_holds, conditions-every}
-use Rattle.restricted_step.specs.Sizes.{VARIABLES}
+use Rattle.restricted_step.proofs.Tests.{condition_holds}
 use Rattle.file_parts.specs.Layout.{condition_count}
 use Rattle.file_parts.specs.Row.{condition_in}
-use Rattle.restricted_step.proofs.Loops.{Tested, test-start, test-next, test-stop, test-end}
-use native.Mathlib.Omega.{arith}
-use Prim.Native.Nat.{◌-◌, ◌<◌}
-use borrow.Author.Rules.{rules}
+use Rattle.restricted_step.proofs.Loops.{Tested}
+use Prim.Native.Nat.{◌-◌}
 use Rattle.restricted_step.proofs.conditions_hold.Given as goal
 
 abbrev pub invariant-loop-i : goal.invariant-loop-i

@@ -3,12 +3,11 @@ use mathlib.Core.Path.{sym}
 use borrow.Author.Tests.{eq-eqb, ne_eqb}
 use Rattle.model.specs.Steps.{natural_at}
 use Rattle.restricted_step.specs.Sizes.{MODES}
-use Rattle.restricted_step.proofs.Tests.{mode_holds, modes-every}
+use Rattle.restricted_step.proofs.Tests.{modes-every}
 use Rattle.file_parts.specs.Layout.{mode_condition_count}
-use Rattle.file_parts.specs.Row.{mode_condition_in}
-use Rattle.restricted_step.proofs.Loops.{Tested, test-start, test-next, test-stop, test-end}
+use Rattle.restricted_step.proofs.Loops.{test-start, test-next, test-stop, test-end}
 use native.Mathlib.Omega.{arith}
-use Prim.Native.Nat.{◌-◌, ◌<◌}
+use Prim.Native.Nat.{◌<◌}
 use borrow.Author.Rules.{rules}
 use Rattle.restricted_step.proofs.modes_hold.Goals as goal
 use Rattle.restricted_step.proofs.modes_hold.Lts as lts

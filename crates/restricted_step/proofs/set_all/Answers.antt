@@ -2,12 +2,11 @@
 -- modes before. Assumes nothing.
 use Rattle.model.specs.Steps.{natural_at}
 use Rattle.restricted_step.specs.Sizes.{MODES}
-use Rattle.restricted_step.proofs.Effects.{put_mode, set-fold}
+use Rattle.restricted_step.proofs.Effects.{set-fold}
 use Rattle.file_parts.specs.Layout.{mode_effect_count}
-use Rattle.file_parts.specs.Row.{mode_effect_in}
-use Rattle.restricted_step.proofs.Loops.{Changing, change-start, change-next, change-end}
+use Rattle.restricted_step.proofs.Loops.{change-start, change-next, change-end}
 use native.Mathlib.Omega.{arith}
-use Prim.Native.Nat.{◌-◌, ◌<◌}
+use Prim.Native.Nat.{◌<◌}
 use borrow.Author.Rules.{rules}
 use Rattle.restricted_step.proofs.set_all.Goals as goal
 use Rattle.restricted_step.proofs.set_all.Lts as lts

@@ -1,14 +1,11 @@
 -- `restricted_step::set_all` meets its contract: the mode effects not yet made, from the modes so far, give what all of them give from the
 -- modes before. Assumes nothing.
 use Rattle.model.specs.Steps.{natural_at}
-use Rattle.restricted_step.specs.Sizes.{MODES}
-use Rattle.restricted_step.proofs.Effects.{put_mode, set-fold}
+use Rattle.restricted_step.proofs.Effects.{put_mode}
 use Rattle.file_parts.specs.Layout.{mode_effect_count}
 use Rattle.file_parts.specs.Row.{mode_effect_in}
-use Rattle.restricted_step.proofs.Loops.{Changing, change-start, change-next, change-end}
-use native.Mathlib.Omega.{arith}
-use Prim.Native.Nat.{◌-◌, ◌<◌}
-use borrow.Author.Rules.{rules}
+use Rattle.restricted_step.proofs.Loops.{Changing}
+use Prim.Native.Nat.{◌-◌}
 use Rattle.restricted_step.proofs.set_all.Given as goal
 
 abbrev pub invariant-loop-i : goal.invariant-loop-i

@@ -2,7 +2,6 @@
 use mathlib.Core.Path.{sym, ◌∙◌}
 use mathlib.Core.Bool.{true, false}
 use borrow.Author.Tests.{not-true, not-false}
-use borrow.Author.Rules.{rules}
 use Rattle.restricted_step.proofs.Stepping.{not-held, held}
 use mathlib.Core.Path.{ap}
 use mathlib.Core.Bool.{not}

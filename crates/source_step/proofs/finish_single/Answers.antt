@@ -1,5 +1,4 @@
 -- `source_step::finish_single` meets its contract: the result, then the modes. Assumes nothing.
-use borrow.Author.Rules.{rules}
 use borrow.Author.Tests.{not-true, not-false}
 use Rattle.source_step.proofs.Single.{leaves_all, settles-all}
 use mathlib.Core.Path.{ap}

@@ -6,7 +6,7 @@ use Prim.Native.Nat.{ℕ}
 use mir.Facts.{to_z-of_z}
 use mir.Syntax.{w64}
 use mir.Val.{SFits}
-use borrow.Author.Tests.{not-true, not-false}
+use borrow.Author.Tests.{not-false}
 use Rattle.model.specs.Steps.{integer_at}
 use Rattle.source_step.proofs.Results.{Passed, none_passed, one-passed, stopped}
 use borrow.Author.Rules.{rules}
@@ -29,10 +29,10 @@ pub returns-then-count-lt1 : goal.returns-then-count-lt1
 returns-then-count-lt1 c =
     stopped (none c.before)
     (λ l. elim c.then-count-lt1.branch [
-      then-count-lt1-via-then-count-lt1 w ↦ absurd (omega (arith, l, w.if-count-lt1.true))
+      | then-count-lt1-via-then-count-lt1 w ↦ absurd (omega (arith, l, w.if-count-lt1.true))
       | then-count-lt1-via-else-count-lt1+then-not-stays w ↦
-        let x : SFits w64 (integer_at c.args.results.now 0) = search rules in
-        sym (rw (to_z-of_z x) at w.stays.ensures) ∙ w.if-not-stays.true
+          let x : SFits w64 (integer_at c.args.results.now 0) = search rules in
+          sym (rw (to_z-of_z x) at w.stays.ensures) ∙ w.if-not-stays.true
     ])
 
 one : (c : lts.Else2 tie.the-claims reads.Pre reads.Post) → Are-passed c.before.before.before.before 1
@@ -45,10 +45,10 @@ pub returns-then-count-lt2 : goal.returns-then-count-lt2
 returns-then-count-lt2 c =
     stopped (one c.before)
     (λ l. elim c.then-count-lt2.branch [
-      then-count-lt2-via-then-count-lt2 w ↦ absurd (omega (arith, l, w.if-count-lt2.true))
+      | then-count-lt2-via-then-count-lt2 w ↦ absurd (omega (arith, l, w.if-count-lt2.true))
       | then-count-lt2-via-else-count-lt2+then-not-stays-2 w ↦
-        let x : SFits w64 (integer_at c.args.results.now 1) = search rules in
-        sym (rw (to_z-of_z x) at w.stays-else-count-lt2.ensures) ∙ w.if-not-stays-2.true
+          let x : SFits w64 (integer_at c.args.results.now 1) = search rules in
+          sym (rw (to_z-of_z x) at w.stays-else-count-lt2.ensures) ∙ w.if-not-stays-2.true
     ])
 
 two : (c : lts.Else4 tie.the-claims reads.Pre reads.Post) → Are-passed c.before.before.before.before.before.before.before.before 2
@@ -60,10 +60,10 @@ pub returns-then-count-lt3 : goal.returns-then-count-lt3
 returns-then-count-lt3 c =
     stopped (two c.before)
     (λ l. elim c.then-count-lt3.branch [
-      then-count-lt3-via-then-count-lt3 w ↦ absurd (omega (arith, l, w.if-count-lt3.true))
+      | then-count-lt3-via-then-count-lt3 w ↦ absurd (omega (arith, l, w.if-count-lt3.true))
       | then-count-lt3-via-else-count-lt3+then-not-stays-3 w ↦
-        let x : SFits w64 (integer_at c.args.results.now 2) = search rules in
-        sym (rw (to_z-of_z x) at w.stays-else-count-lt3.ensures) ∙ w.if-not-stays-3.true
+          let x : SFits w64 (integer_at c.args.results.now 2) = search rules in
+          sym (rw (to_z-of_z x) at w.stays-else-count-lt3.ensures) ∙ w.if-not-stays-3.true
     ])
 
 pub returns : goal.returns

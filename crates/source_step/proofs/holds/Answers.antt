@@ -2,7 +2,6 @@
 -- Assumes nothing.
 use mathlib.Core.Path.{sym, ◌∙◌}
 use borrow.Author.Tests.{not-true, not-false}
-use borrow.Author.Rules.{rules}
 use Rattle.source_step.proofs.Sums.{no-sums}
 use Rattle.source_step.proofs.Taking.{RangesHold, out_of_range, sums-decide, read-in-range}
 use mathlib.Core.Path.{ap}

@@ -1,16 +1,11 @@
 -- `source_step::linear_value` meets its contract. The loop's invariant: the sum with the terms that are left is the sum of all terms, and each
 -- term adds 100,000,000 at most. Assumes nothing.
-use native.Mathlib.Omega.{arith}
 use Prim.Native.Nat.{◌+◌, ◌*◌, ◌-◌, ◌≤◌}
 use lib.IntN.{nat_abs}
 use lib.ListN.{take}
-use mir.Facts.{to_z-of_z}
-use mir.Syntax.{w64}
-use mir.Val.{SFits, to_z}
 use Rattle.model.specs.Steps.{integer_at, linear}
 use Rattle.source_step.specs.Row.{constant_at, variable_at, weight_at, terms_at}
-use Rattle.source_step.proofs.Rows.{Left, left-start, left-next, left-none, row-tabulate}
-use borrow.Author.Rules.{rules}
+use Rattle.source_step.proofs.Rows.{Left}
 use Rattle.source_step.proofs.linear_value.Given as goal
 
 abbrev pub invariant-loop-i : goal.invariant-loop-i

@@ -1,20 +1,12 @@
 -- `source_step::modes_in` meets its contract. Assumes nothing.
 use native.Mathlib.Omega.{arith}
 use mathlib.Core.Path.{refl, sym, ◌∙◌}
-use mathlib.Core.Bool.{Bool, ◌&&◌}
-use mathlib.Core.List.{List}
-use Prim.Native.Nat.{ℕ, ◌+◌, ◌-◌}
-use lib.Dec.{leb}
 use borrow.Author.Tests.{not-true, not-false}
-use Rattle.lists.specs.Each.{tabulate}
 use Rattle.lists.specs.Loops.{every}
-use Rattle.model.specs.Steps.{natural_at}
-use Rattle.source_step.proofs.Rows.{Left, left-start, left-none, left-pass, left-stop, row-tabulate}
-use Rattle.source_step.specs.Row.{modes_in}
+use Rattle.source_step.proofs.Rows.{left-start, left-none, left-pass, left-stop, row-tabulate}
 use borrow.Author.Rules.{rules}
 use mathlib.Core.Path.{ap}
 use mathlib.Core.Bool.{not}
-use Rattle.source_step.proofs.modes_in.Invariants.{test}
 use Rattle.source_step.proofs.modes_in.Goals as goal
 
 pub loop-i-init : goal.loop-i-init

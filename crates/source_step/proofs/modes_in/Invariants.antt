@@ -1,17 +1,13 @@
 -- `source_step::modes_in` meets its contract. Assumes nothing.
-use native.Mathlib.Omega.{arith}
-use mathlib.Core.Path.{refl, sym, ◌∙◌}
 use mathlib.Core.Bool.{Bool, ◌&&◌}
 use mathlib.Core.List.{List}
 use Prim.Native.Nat.{ℕ, ◌+◌, ◌-◌}
 use lib.Dec.{leb}
-use borrow.Author.Tests.{not-true, not-false}
 use Rattle.lists.specs.Each.{tabulate}
 use Rattle.lists.specs.Loops.{every}
 use Rattle.model.specs.Steps.{natural_at}
-use Rattle.source_step.proofs.Rows.{Left, left-start, left-none, left-pass, left-stop, row-tabulate}
+use Rattle.source_step.proofs.Rows.{Left}
 use Rattle.source_step.specs.Row.{modes_in}
-use borrow.Author.Rules.{rules}
 use Rattle.source_step.proofs.modes_in.Given as goal
 
 abbrev pub test : List ℕ → List ℕ → ℕ → Bool

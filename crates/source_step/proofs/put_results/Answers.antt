@@ -7,8 +7,6 @@ use mir.Val.{SFits}
 use borrow.Author.Rules.{rules}
 use Rattle.source_step.proofs.Results.{two-worked, three-worked}
 use Rattle.source_step.proofs.put_results.Goals as goal
-use Rattle.source_step.proofs.put_results.Lts as lts
-use Rattle.source_step.proofs.put_results.Reads as reads
 
 pub returns-then-effect_count-lt3 : goal.returns-then-effect_count-lt3
 returns-then-effect_count-lt3 c =

@@ -1,7 +1,6 @@
 -- `source_step::ranges_hold` meets its contract: modes that fail answer for all, and else the values do. Assumes nothing.
 use mathlib.Core.Path.{refl, sym, ◌∙◌}
 use borrow.Author.Tests.{not-true, not-false}
-use borrow.Author.Rules.{rules}
 use mathlib.Core.Path.{ap}
 use mathlib.Core.Bool.{not}
 use Rattle.source_step.proofs.ranges_hold.Goals as goal

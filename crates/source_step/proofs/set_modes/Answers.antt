@@ -1,7 +1,6 @@
 -- `source_step::set_modes` meets its contract. Assumes nothing.
 use native.Mathlib.Omega.{arith}
-use Prim.Native.Nat.{◌-◌}
-use Rattle.source_step.proofs.Modes.{Set, none-set, one_set, all_set}
+use Rattle.source_step.proofs.Modes.{none-set, one_set, all_set}
 use borrow.Author.Rules.{rules}
 use Rattle.source_step.proofs.set_modes.Goals as goal
 

@@ -1,8 +1,6 @@
 -- `source_step::set_modes` meets its contract. Assumes nothing.
-use native.Mathlib.Omega.{arith}
 use Prim.Native.Nat.{◌-◌}
-use Rattle.source_step.proofs.Modes.{Set, none-set, one_set, all_set}
-use borrow.Author.Rules.{rules}
+use Rattle.source_step.proofs.Modes.{Set}
 use Rattle.source_step.proofs.set_modes.Given as goal
 
 abbrev pub invariant-loop-i : goal.invariant-loop-i

@@ -7,8 +7,6 @@ use Rattle.model.specs.Steps.{integer_at}
 use Rattle.source_step.proofs.Results.{none-set, one_set, two-set, three-set}
 use borrow.Author.Rules.{rules}
 use Rattle.source_step.proofs.store_results.Goals as goal
-use Rattle.source_step.proofs.store_results.Lts as lts
-use Rattle.source_step.proofs.store_results.Reads as reads
 
 pub returns-then-count-lt1 : goal.returns-then-count-lt1
 returns-then-count-lt1 c =

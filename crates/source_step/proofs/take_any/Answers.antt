@@ -2,7 +2,6 @@
 use mathlib.Core.Path.{◌≡◌, refl, sym, ◌∙◌}
 use mathlib.Core.Bool.{true}
 use borrow.Author.Tests.{not-true, not-false}
-use borrow.Author.Rules.{rules}
 use Rattle.source_step.specs.Row.{held}
 use Rattle.source_step.proofs.Taking.{RangesHold, out_of_range, sums-decide, read-in-range, not-held, behind-the-test}
 use mathlib.Core.Path.{ap}

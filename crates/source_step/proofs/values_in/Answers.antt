@@ -1,20 +1,14 @@
 -- `source_step::values_in` meets its contract. Assumes nothing.
 use native.Mathlib.Omega.{arith}
 use mathlib.Core.Path.{◌≡◌, refl, sym, ◌∙◌}
-use mathlib.Core.Bool.{Bool}
-use mathlib.Core.List.{List}
-use Prim.Native.Nat.{ℕ, ◌+◌, ◌-◌}
-use lib.IntN.{ℤ}
+use Prim.Native.Nat.{◌+◌}
 use mir.Facts.{to_z-of_z}
 use mir.Syntax.{w64}
 use mir.Val.{SFits}
 use borrow.Author.Tests.{not-true, not-false}
-use Rattle.integers.specs.Relation.{between}
-use Rattle.lists.specs.Each.{tabulate}
 use Rattle.lists.specs.Loops.{every}
 use Rattle.model.specs.Steps.{integer_at}
-use Rattle.source_step.proofs.Rows.{Left, left-start, left-none, left-pass, left-stop, row-tabulate}
-use Rattle.source_step.specs.Row.{values_in}
+use Rattle.source_step.proofs.Rows.{left-start, left-none, left-pass, left-stop, row-tabulate}
 use borrow.Author.Rules.{rules}
 use mathlib.Core.Path.{ap}
 use mathlib.Core.Bool.{not}

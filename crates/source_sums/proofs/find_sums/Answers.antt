@@ -1,6 +1,5 @@
 -- `source_sums::find_sums` meets its contract: without a K's byte there is no sum; else the loop takes the sums of each action, and those of the
 -- goal come behind. Assumes nothing.
-use Prim.Native.Nat.{◌-◌}
 use native.Mathlib.Omega.{arith}
 use mathlib.Core.Path.{sym, ◌∙◌}
 use borrow.Author.Tests.{not-true}
@@ -12,7 +11,7 @@ use Rattle.model.specs.Decoding.{sum_conditions_of}
 use Rattle.model.specs.ActionBytes.{decode_action}
 use Rattle.source_step.proofs.Judging.{few-actions}
 use Rattle.source_sums.proofs.NoSum.{no-sum-in-file}
-use Rattle.source_sums.proofs.Gathering.{Gathered, gathered-start, small_at, gathered-room, gathered_next, small-in-goal, goal-room}
+use Rattle.source_sums.proofs.Gathering.{gathered-start, small_at, gathered-room, gathered_next, small-in-goal, goal-room}
 use Rattle.source_sums.proofs.Gathering.{all_found, all-ask, none_found, none-ask}
 use borrow.Author.Rules.{rules}
 use mathlib.Core.Path.{ap}

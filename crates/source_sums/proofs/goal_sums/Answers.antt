@@ -1,5 +1,4 @@
 -- `source_sums::goal_sums` meets its contract. Assumes nothing.
-use borrow.Author.Rules.{rules}
 use Rattle.source_sums.proofs.goal_sums.Goals as goal
 
 pub returns : goal.returns

@@ -1,10 +1,6 @@
 -- `source_sums::has_sum` meets its contract: at each offset, whether it was seen, or stands in what is left, is the answer. Assumes nothing.
-use mathlib.Core.Logic.{⊎_elim}
-use Prim.Native.Nat.{◌-◌}
-use lib.ListN.{length}
 use Rattle.commands.specs.Table.{letter_k}
-use Rattle.source_sums.proofs.NoSum.{Seeing, seeing-start, seen_here, not-here, seen_all}
-use borrow.Author.Rules.{rules}
+use Rattle.source_sums.proofs.NoSum.{seeing-start, seen_here, not-here, seen_all}
 use Rattle.source_sums.proofs.has_sum.Goals as goal
 use Rattle.source_sums.proofs.has_sum.Goals.{then-file-i-eq75, else-file-i-eq75}
 
@@ -16,7 +12,7 @@ loop-i-preserved c =
     let inv = c.loop-i.invariant in
     let below = c.loop-i-test.true in
     elim c.if-file-i-eq75.branch [
-      then-file-i-eq75 w ↦ rw w.seen-is (seen_here inv below w.if-file-i-eq75.true)
+      | then-file-i-eq75 w ↦ rw w.seen-is (seen_here inv below w.if-file-i-eq75.true)
       | else-file-i-eq75 w ↦ rw w.seen-is (not-here inv below w.if-file-i-eq75.false)
     ]
 

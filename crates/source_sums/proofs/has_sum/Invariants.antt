@@ -1,10 +1,8 @@
 -- `source_sums::has_sum` meets its contract: at each offset, whether it was seen, or stands in what is left, is the answer. Assumes nothing.
-use mathlib.Core.Logic.{⊎_elim}
 use Prim.Native.Nat.{◌-◌}
 use lib.ListN.{length}
 use Rattle.commands.specs.Table.{letter_k}
-use Rattle.source_sums.proofs.NoSum.{Seeing, seeing-start, seen_here, not-here, seen_all}
-use borrow.Author.Rules.{rules}
+use Rattle.source_sums.proofs.NoSum.{Seeing}
 use Rattle.source_sums.proofs.has_sum.Given as goal
 
 abbrev pub invariant-loop-i : goal.invariant-loop-i

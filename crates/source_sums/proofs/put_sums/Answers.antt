@@ -1,12 +1,12 @@
 -- `source_sums::put_sums` meets its contract: the loop puts K after K behind the others. Assumes nothing.
 use mathlib.Core.Path.{◌≡◌}
-use Prim.Native.Nat.{◌-◌, ◌≤◌}
+use Prim.Native.Nat.{◌≤◌}
 use native.Mathlib.Omega.{arith}
 use lib.ListN.{length}
 use borrow.Author.Rules.{rules}
 use Rattle.lists.proofs.Loops.{length-mapped}
 use Rattle.source_sums.proofs.Own.{own_at_lem}
-use Rattle.source_sums.proofs.Filling.{Filling, fill_start, fill-next, fill_end}
+use Rattle.source_sums.proofs.Filling.{fill_start, fill-next, fill_end}
 use Rattle.source_sums.proofs.put_sums.Goals as goal
 use Rattle.source_sums.proofs.put_sums.Lts as lts
 use Rattle.source_sums.proofs.put_sums.Reads as reads
@@ -23,12 +23,11 @@ pub loop-i-init : goal.loop-i-init
 loop-i-init c = fill_start c.args.own c.requires.2
 
 pub put_sum-requires : goal.put_sum-requires
-put_sum-requires c =
-    (
-      omega (arith, c.requires.0, c.loop-i-test.true),
-      own_at_lem c.args.own (all c.before.before.before.before) c.requires.1 c.loop-i.i c.loop-i-test.true,
-      c.loop-i.invariant.blank,
-    )
+put_sum-requires c = (
+  omega (arith, c.requires.0, c.loop-i-test.true),
+  own_at_lem c.args.own (all c.before.before.before.before) c.requires.1 c.loop-i.i c.loop-i-test.true,
+  c.loop-i.invariant.blank,
+)
 
 pub loop-i-preserved : goal.loop-i-preserved
 loop-i-preserved c =

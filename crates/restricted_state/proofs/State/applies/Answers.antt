@@ -1,6 +1,5 @@
 -- `restricted_state::State::applies` meets its contract. Assumes nothing.
 use Rattle.restricted_state.proofs.Trying.{tried-applies}
-use borrow.Author.Rules.{rules}
 use Rattle.restricted_state.proofs.State.applies.Goals as goal
 
 pub returns : goal.returns

@@ -1,5 +1,4 @@
 -- `restricted_state::State::step` meets its contract: whether the action applies, and the state that `next` gives. Assumes nothing.
-use borrow.Author.Rules.{rules}
 use Rattle.restricted_state.proofs.State.step.Goals as goal
 
 pub returns : goal.returns
