@@ -1,7 +1,6 @@
 -- `source_ready::counted` meets its contract. Assumes nothing.
 use mathlib.Core.Path.{refl}
 use borrow.Author.Tests.{eq-eqb, ne_eqb}
-use borrow.Author.Rules.{rules}
 use Rattle.source_ready.proofs.counted.Goals as goal
 
 pub returns-then-kind-eq-LINEAR : goal.returns-then-kind-eq-LINEAR

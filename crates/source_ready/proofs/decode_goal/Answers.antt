@@ -1,5 +1,4 @@
 -- `source_ready::decode_goal` meets its contract: the place is that of the goal. Assumes nothing.
-use borrow.Author.Rules.{rules}
 use Rattle.source_ready.proofs.decode_goal.Goals as goal
 
 pub returns : goal.returns

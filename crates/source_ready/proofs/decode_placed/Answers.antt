@@ -1,6 +1,5 @@
 -- `source_ready::decode_placed` meets its contract: the places are the edges of the action. Assumes nothing.
 use native.Mathlib.Numerals.{add-one}
-use borrow.Author.Rules.{rules}
 use Rattle.source_ready.proofs.decode_placed.Goals as goal
 
 pub returns : goal.returns

@@ -1,6 +1,5 @@
 -- `source_ready::name_own` meets its contract: in a task without conditions on sums there is none to name. Assumes nothing.
 use Rattle.source_ready.proofs.Naming.{zeros-long, none_named, own-named}
-use borrow.Author.Rules.{rules}
 use Rattle.source_ready.proofs.name_own.Goals as goal
 
 pub returns-then-total-eq0 : goal.returns-then-total-eq0

@@ -17,7 +17,6 @@ use Rattle.source_sums.specs.Found.{SumsOf, SumsAsk}
 use Rattle.source_ready.specs.Made.{Named, OwnBehind, OwnNamed}
 use Rattle.source_ready.proofs.Preparing.{blank-numbers-long, blank-numbers-at, blank-but-sums, marks-put, sums-put}
 use Rattle.source_ready.proofs.Preparing.{places_of, all_placed, goal-placed, goal-behind, goal-fits, over}
-use borrow.Author.Rules.{rules}
 use Rattle.source_ready.proofs.prepare.Goals as goal
 use Rattle.source_ready.proofs.prepare.Lts as lts
 use Rattle.source_ready.proofs.prepare.Reads as reads
@@ -68,14 +67,13 @@ named o =
     (goal-is o.before) o.name_own.ensures
 
 pub find_sums-total-requires : goal.find_sums-total-requires
-find_sums-total-requires c =
-    (
-      c.requires.0,
-      λ k l. rw c.action_places.ensures
-          (places_of c.args.file.now (bytes_of c.before.before.before.before.before.before) c.args.count c.args.n c.args.lower.now c.args.upper.now c.args.m
-          c.args.sizes.now c.requires.0 c.requires.1 k l),
-      blank-numbers-at c.requires.3 sums_row (omega arith),
-    )
+find_sums-total-requires c = (
+  c.requires.0,
+  λ k l. rw c.action_places.ensures
+      (places_of c.args.file.now (bytes_of c.before.before.before.before.before.before) c.args.count c.args.n c.args.lower.now c.args.upper.now c.args.m
+      c.args.sizes.now c.requires.0 c.requires.1 k l),
+  blank-numbers-at c.requires.3 sums_row (omega arith),
+)
 
 pub prepare_actions-first-requires : goal.prepare_actions-first-requires
 prepare_actions-first-requires c =

@@ -3,18 +3,16 @@ use mathlib.Core.Path.{◌≡◌, refl, sym, ap, ap₂, ◌∙◌, subst, subst�
 use native.Mathlib.Omega.{arith}
 use native.Mathlib.Numerals.{add-one}
 use mathlib.Core.List.{List}
-use Prim.Native.Nat.{ℕ, ◌-◌, ◌≤◌}
-use lib.ListN.{length, length-set}
+use Prim.Native.Nat.{ℕ, ◌≤◌}
+use lib.ListN.{length-set}
 use Rattle.integers.specs.Numbers.{Bytes}
 use Rattle.model.specs.Decoding.{sum_conditions_of}
 use Rattle.model.specs.ActionBytes.{edge_of, action_part, decode_action}
-use Rattle.file_parts.specs.Layout.{MARKS, NUMBERS}
 use Rattle.file_actions.specs.Places.{part_of}
 use Rattle.file_actions.proofs.Accepted.{bytes-of}
 use Rattle.source_step.proofs.Judging.{few-actions}
-use Rattle.source_ready.specs.Made.{Named, OwnBehind, OwnNamed, RowsMade}
+use Rattle.source_ready.specs.Made.{Named, OwnBehind, OwnNamed}
 use Rattle.source_ready.proofs.Preparing.{marks-put, action-fits, begins, own_behind, one_more, all_made}
-use borrow.Author.Rules.{rules}
 use Rattle.source_ready.proofs.prepare_actions.Goals as goal
 use Rattle.source_ready.proofs.prepare_actions.Lts as lts
 use Rattle.source_ready.proofs.prepare_actions.Reads as reads
@@ -63,22 +61,20 @@ named o =
     (part-is o.before.before) o.name_own-own.ensures
 
 pub loop-k-init : goal.loop-k-init
-loop-k-init c =
-    (
-      begins c.args.file.now (bytes_of c.before) c.args.count c.args.n c.args.lower.now c.args.upper.now c.args.m c.args.sizes.now
-          c.requires.0 c.requires.1 _ _ c.requires.3 c.requires.4 c.requires.5,
-      refl,
-      refl,
-    )
+loop-k-init c = (
+  begins c.args.file.now (bytes_of c.before) c.args.count c.args.n c.args.lower.now c.args.upper.now c.args.m c.args.sizes.now
+      c.requires.0 c.requires.1 _ _ c.requires.3 c.requires.4 c.requires.5,
+  refl,
+  refl,
+)
 
 pub decode_placed-effects-requires : goal.decode_placed-effects-requires
-decode_placed-effects-requires c =
-    (
-      omega (arith, few c.before.before.before.before.before, c.loop-k-test.true),
-      c.requires.2.each c.loop-k.k c.loop-k-test.true,
-      c.loop-k.invariant.1,
-      c.loop-k.invariant.2,
-    )
+decode_placed-effects-requires c = (
+  omega (arith, few c.before.before.before.before.before, c.loop-k-test.true),
+  c.requires.2.each c.loop-k.k c.loop-k-test.true,
+  c.loop-k.invariant.1,
+  c.loop-k.invariant.2,
+)
 
 pub offset_bounds-places-k : goal.offset_bounds-places-k
 offset_bounds-places-k c =
@@ -162,14 +158,13 @@ overflow_add-k-in-loop-k c =
     omega (arith, few i.before.before, i.loop-k-test.true)
 
 pub loop-k-preserved : goal.loop-k-preserved
-loop-k-preserved c =
-    (
-      one_more c.args.file.now (bytes_of c.before.before.before.before.before.before.before.before.before.before.before.before.before.before.before.before.before) c.args.count c.args.n c.args.lower.now c.args.upper.now c.args.m
-          c.args.sizes.now c.requires.0 c.requires.1 c.loop-k.invariant.0 c.loop-k-test.true _ _ c.decode_placed-effects.result
-          c.decode_placed-effects.ensures (named c.before.before.before.before.before.before) _ _ c.put_row.ensures,
-      c.decode_placed-effects.ensures.parts.marks_long,
-      c.decode_placed-effects.ensures.parts.numbers_long,
-    )
+loop-k-preserved c = (
+  one_more c.args.file.now (bytes_of c.before.before.before.before.before.before.before.before.before.before.before.before.before.before.before.before.before) c.args.count c.args.n c.args.lower.now c.args.upper.now c.args.m
+      c.args.sizes.now c.requires.0 c.requires.1 c.loop-k.invariant.0 c.loop-k-test.true _ _ c.decode_placed-effects.result
+      c.decode_placed-effects.ensures (named c.before.before.before.before.before.before) _ _ c.put_row.ensures,
+  c.decode_placed-effects.ensures.parts.marks_long,
+  c.decode_placed-effects.ensures.parts.numbers_long,
+)
 
 pub shape_of-marks : goal.shape_of-marks
 shape_of-marks c =

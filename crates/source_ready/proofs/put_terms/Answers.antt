@@ -2,8 +2,7 @@
 use mir.Facts.{to_z-of_z}
 use mathlib.Core.Path.{◌≡◌}
 use native.Mathlib.Omega.{arith}
-use Prim.Native.Nat.{◌-◌, ◌≤◌}
-use Rattle.source_ready.specs.Made.{term_at, TermsPut}
+use Rattle.source_ready.specs.Made.{term_at}
 use Rattle.source_ready.proofs.Terms.{terms-begin, terms-more}
 use borrow.Author.Rules.{rules}
 use Rattle.source_ready.proofs.put_terms.Goals as goal
@@ -57,12 +56,11 @@ pub loop-i-smaller : goal.loop-i-smaller
 loop-i-smaller c = search (rules, arith)
 
 pub loop-i-preserved : goal.loop-i-preserved
-loop-i-preserved c =
-    (
-      omega arith,
-      terms-more c.args.e c.requires.0 c.loop-i.i (term_at c.args.terms) c.args.marks.now c.args.numbers.now
-          c.loop-i.marks c.loop-i.numbers c.loop-i.invariant.1 (omega arith) _ _ c.wide.ensures (search (to_z-of_z, rules)),
-    )
+loop-i-preserved c = (
+  omega arith,
+  terms-more c.args.e c.requires.0 c.loop-i.i (term_at c.args.terms) c.args.marks.now c.args.numbers.now
+      c.loop-i.marks c.loop-i.numbers c.loop-i.invariant.1 (omega arith) _ _ c.wide.ensures (search (to_z-of_z, rules)),
+)
 
 pub returns : goal.returns
 returns c =

@@ -1,11 +1,6 @@
 -- `source_ready::put_terms` meets its contract: each turn writes one term more. Assumes nothing.
-use mir.Facts.{to_z-of_z}
-use mathlib.Core.Path.{◌≡◌}
-use native.Mathlib.Omega.{arith}
 use Prim.Native.Nat.{◌-◌, ◌≤◌}
 use Rattle.source_ready.specs.Made.{term_at, TermsPut}
-use Rattle.source_ready.proofs.Terms.{terms-begin, terms-more}
-use borrow.Author.Rules.{rules}
 use Rattle.source_ready.proofs.put_terms.Given as goal
 
 abbrev pub invariant-loop-i : goal.invariant-loop-i

@@ -1,6 +1,5 @@
 -- `source_ready::narrowing::hold` meets its contract. Assumes nothing.
 use mathlib.Core.Path.{◌∙◌}
-use borrow.Author.Rules.{rules}
 use Rattle.source_ready.proofs.narrowing.hold.Goals as goal
 
 pub returns : goal.returns

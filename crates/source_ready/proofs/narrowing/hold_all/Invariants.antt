@@ -1,10 +1,7 @@
 -- `source_ready::narrowing::hold_all` meets its contract. Assumes nothing.
-use mathlib.Core.Path.{ap}
-use native.Mathlib.Omega.{arith}
-use Prim.Native.Nat.{◌-◌, ◌<◌}
-use borrow.Author.Rules.{rules}
+use Prim.Native.Nat.{◌-◌}
 use Rattle.model.specs.Steps.{natural_at}
-use Rattle.source_step.proofs.Rows.{Left, left-start, left-next, left-none, row-tabulate}
+use Rattle.source_step.proofs.Rows.{Left}
 use Rattle.file_parts.specs.Layout.{mode_condition_count}
 use Rattle.file_parts.specs.Row.{mode_conditions_in, mode_condition_in}
 use Rattle.source_ready.specs.Narrowed.{held_all}

@@ -1,5 +1,4 @@
 -- `source_ready::narrowing::mark` meets its contract. Assumes nothing.
-use borrow.Author.Rules.{rules}
 use Rattle.source_ready.proofs.narrowing.mark.Goals as goal
 
 pub returns : goal.returns

@@ -1,12 +1,10 @@
 -- `source_ready::narrowing::mark_all` meets its contract. Assumes nothing.
 use mathlib.Core.Path.{ap}
 use native.Mathlib.Omega.{arith}
-use Prim.Native.Nat.{◌-◌, ◌<◌}
-use borrow.Author.Rules.{rules}
+use Prim.Native.Nat.{◌<◌}
 use Rattle.model.specs.Steps.{natural_at}
-use Rattle.source_step.proofs.Rows.{Left, left-start, left-next, left-none, row-tabulate}
+use Rattle.source_step.proofs.Rows.{left-start, left-next, left-none, row-tabulate}
 use Rattle.file_parts.specs.Layout.{mode_effect_count}
-use Rattle.file_parts.specs.Row.{mode_effects_in, mode_effect_in}
 use Rattle.source_ready.specs.Narrowed.{marked_all}
 use Rattle.source_ready.proofs.narrowing.mark_all.Goals as goal
 

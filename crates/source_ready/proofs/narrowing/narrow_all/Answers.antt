@@ -6,12 +6,11 @@ use mir.Val.{SFits}
 use lib.IntN.{pos}
 use lib.ListN.{get_or}
 use native.Mathlib.Omega.{arith}
-use Prim.Native.Nat.{◌-◌, ◌<◌}
+use Prim.Native.Nat.{◌<◌}
 use borrow.Author.Rules.{rules}
 use Rattle.model.specs.Steps.{natural_at}
-use Rattle.source_step.proofs.Rows.{Left, left-start, left-next, left-none, row-tabulate}
+use Rattle.source_step.proofs.Rows.{left-start, left-next, left-none, row-tabulate}
 use Rattle.file_parts.specs.Layout.{condition_count}
-use Rattle.file_parts.specs.Row.{conditions_in, condition_in}
 use Rattle.source_ready.specs.Narrowed.{narrowed_all}
 use Rattle.source_ready.proofs.narrowing.narrow_all.Goals as goal
 

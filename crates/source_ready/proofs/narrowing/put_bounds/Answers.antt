@@ -2,9 +2,7 @@
 use mathlib.Core.Path.{◌≡◌}
 use mir.Facts.{to_z-of_z}
 use native.Mathlib.Omega.{arith}
-use Prim.Native.Nat.{◌-◌, ◌≤◌}
 use borrow.Author.Rules.{rules}
-use Rattle.source_ready.specs.Narrowed.{BoundsPut}
 use Rattle.source_ready.proofs.Values.{bounds-begin, bounds-more}
 use Rattle.source_ready.proofs.narrowing.put_bounds.Goals as goal
 

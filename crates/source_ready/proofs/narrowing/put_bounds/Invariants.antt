@@ -1,11 +1,6 @@
 -- `source_ready::narrowing::put_bounds` meets its contract. Assumes nothing.
-use mathlib.Core.Path.{◌≡◌}
-use mir.Facts.{to_z-of_z}
-use native.Mathlib.Omega.{arith}
 use Prim.Native.Nat.{◌-◌, ◌≤◌}
-use borrow.Author.Rules.{rules}
 use Rattle.source_ready.specs.Narrowed.{BoundsPut}
-use Rattle.source_ready.proofs.Values.{bounds-begin, bounds-more}
 use Rattle.source_ready.proofs.narrowing.put_bounds.Given as goal
 
 abbrev pub invariant-loop-i : goal.invariant-loop-i

@@ -1,5 +1,4 @@
 -- `source_ready::narrowing::put_modes` meets its contract. Assumes nothing.
-use borrow.Author.Rules.{rules}
 use Rattle.model.specs.Steps.{natural_at}
 use Rattle.file_parts.specs.Layout.{mode_condition_count, mode_effect_count}
 use Rattle.file_parts.specs.Row.{mode_conditions_in, mode_effects_in, mode_condition_in, mode_effect_in}

@@ -1,5 +1,4 @@
 -- `source_ready::narrowing::put_ranges` meets its contract. Assumes nothing.
-use borrow.Author.Rules.{rules}
 use Rattle.model.specs.Steps.{natural_at}
 use Rattle.file_parts.specs.Layout.{condition_count}
 use Rattle.file_parts.specs.Row.{conditions_in, condition_in}

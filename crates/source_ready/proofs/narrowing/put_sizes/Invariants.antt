@@ -1,10 +1,6 @@
 -- `source_ready::narrowing::put_sizes` meets its contract. Assumes nothing.
-use mathlib.Core.Path.{◌≡◌}
-use native.Mathlib.Omega.{arith}
 use Prim.Native.Nat.{◌-◌, ◌≤◌}
-use borrow.Author.Rules.{rules}
 use Rattle.source_ready.specs.Narrowed.{SizesPut}
-use Rattle.source_ready.proofs.Modes.{sizes_begin, sizes-more}
 use Rattle.source_ready.proofs.narrowing.put_sizes.Given as goal
 
 abbrev pub invariant-loop-i : goal.invariant-loop-i

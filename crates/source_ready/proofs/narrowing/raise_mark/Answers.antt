@@ -1,6 +1,5 @@
 -- `source_ready::narrowing::raise_mark` meets its contract. Assumes nothing.
 use borrow.Author.Tests.{lt-ltb, le-ltb}
-use borrow.Author.Rules.{rules}
 use Rattle.source_ready.specs.Narrowed.{raised_mark}
 use Rattle.source_ready.proofs.narrowing.raise_mark.Goals as goal
 
