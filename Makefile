@@ -28,7 +28,7 @@ $(ARCHIVE): $(SOURCES)
 	@touch $@
 
 $(LIST): $(SOURCES)
-	@. scripts/functions.sh && need rt setsid && prove 0 list
+	@. scripts/functions.sh && need rt setsid && make_list
 	@touch $@
 
 # The linker refuses what is not position independent (text) or not found (defs).

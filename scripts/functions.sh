@@ -1,6 +1,7 @@
 # functions.sh - what the scripts share. They source it from the top of the repository.
 
 archive=target/staticlib/libruphenqo.a
+list=target/bin/list
 
 # the library's level: document 01 is 99, with the change requests of document 02 up to M-u it is u (tests/vectors/README.md)
 level=103
@@ -33,32 +34,8 @@ resting_on() {
             for (k = 1; k <= n; k++) visit(under[k])
         }
         { sub(/#.*/, "") }
-        /:/ { name = $0; sub(/:.*/, "", name); sub(/[^:]*:/, ""); deps[name] = $0 }
+        /:/ { split($0, said, /[ :]/); name = said[1]; sub(/[^:]*:/, ""); deps[name] = $0 }
         END { n = split(wanted, names, " "); for (k = 1; k <= n; k++) visit(names[k]) }' crates.txt
-}
-
-# told COUNT BEFORE COMMAND..      runs a command of rt and tells, line by line, what it has done and how much is to go of COUNT crates and edits.
-# What is proved already is not told, and counts unless it is one of the crates BEFORE; the prover's account of its own work is left out, and
-# everything else is passed on. Answers as the command.
-told() {
-    left=$1 before=$2
-    shift 2
-    { "$@" 2>&1; echo "status $?"; } | while IFS= read -r line; do
-        case $line in
-        'status '*) exit "${line#status }" ;;
-        'rt: '*' proved (unchanged'*)
-            crate=${line#rt: }
-            is_before "${crate%% *}" || left=$((left - 1))
-            ;;
-        'rt: '*' proved ('* | 'rt: must-fail '*': refused'*)
-            left=$((left - 1))
-            echo "${line#rt: }, $left to go"
-            ;;
-        'fn '*': proved' | 'struct '*': proved' | 'enum '*': proved' | 'logic /'* | 'logic=proved '* | 'library '*': modules '* | 'axioms '*) ;;
-        'note: '* | *': note: large solution'* | 'linked target='* | 'rt: ok, '* | 'rt: target/'*) ;;
-        *) printf '%s\n' "${line#rt: }" ;;
-        esac
-    done
 }
 
 # alone COMMAND..      runs a command or function in a session of its own, all of which ends when this script is interrupted
@@ -72,34 +49,35 @@ alone() {
     return $ended
 }
 
-before=''       # the crates that the script has proved, which a later call does not count again
-is_before() { case " $before " in *" $1 "*) true ;; *) false ;; esac; }
-
-# prove MORE CRATE..      proves crates with all that they rest on; MORE is how many the caller has to go behind them
-prove() {
-    count=$1
-    shift
-    for crate in $(resting_on "$@"); do is_before "$crate" || count=$((count + 1)); done
-    alone told "$count" "$before" rt check "$@" || return 1
-    before="$before $(resting_on "$@" | tr '\n' ' ')"
-}
-
-# The archive and what it is made from, as one word: its bytes, the kit, the crate, and the crates under it as they were proved.
-archive_stamp() {
+# What a crate is made from, as one word: the kit, the crate, and the crates under it.
+stamp_of() {
     {
         rt version
-        sha256sum "$archive"
-        find crates/ruphenqo/src crates/ruphenqo/specs crates/ruphenqo/proofs -type f -exec sha256sum {} + | sort
-        for crate in $(resting_on ruphenqo | grep -vx ruphenqo); do cat "target/stamp/$crate"; done
+        for crate in $(resting_on "$1" | sort); do find "crates/$crate" \( -name '*.rt' -o -name '*.antt' \) -not -path '*/out/*' -exec sha256sum {} + | sort; done
     } 2>/dev/null | sha256sum
 }
 
-# make_archive      proves and writes the archive, unless it is there and made from the crates as they stand
-make_archive() {
-    # shellcheck disable=SC2046
-    prove 1 $(resting_on ruphenqo | grep -vx ruphenqo) || return 1
-    [ "$(cat "$archive.stamp" 2>/dev/null)" != "$(archive_stamp)" ] || return 0
-    echo "ruphenqo is proved and $archive written, which takes half a minute."
-    alone told 0 "$before" rt staticlib ruphenqo || return 1
-    archive_stamp >"$archive.stamp"
+# in_crate CRATE COMMAND..      runs a command of rt in a crate's folder; what it says is shown where it fails
+in_crate() {
+    said=$(mktemp) || return 1
+    (cd "crates/$1" && shift && "$@") >"$said" 2>&1 </dev/null || { cat "$said"; rm -f "$said"; return 1; }
+    rm -f "$said"
 }
+
+# make_from CRATE MADE TARGET COMMAND..      runs rt's COMMAND in a crate, with all that it rests on, and puts what it made into TARGET, unless that is there and
+# made from the crates as they stand
+make_from() {
+    crate=$1 of=$2 target=$3
+    shift 3
+    [ -f "$target" ] && [ "$(cat "$target.stamp" 2>/dev/null)" = "$(stamp_of "$crate")" ] && return 0
+    echo "$target rests on $(resting_on "$crate" | wc -l) crates; what of them is not proved yet is proved, which takes some minutes."
+    alone in_crate "$crate" "$@" || return 1
+    mkdir -p "${target%/*}" && cp "crates/$crate/out/$of" "$target" || return 1
+    stamp_of "$crate" >"$target.stamp"
+}
+
+# make_archive      proves and writes the archive
+make_archive() { make_from ruphenqo_c libruphenqo_c.a "$archive" rt lib; }
+
+# make_list         proves and writes the listing program
+make_list() { make_from list list "$list" rt run; }

@@ -1,5 +1,4 @@
 -- `lowering_rows::follow` meets its contract: of no sum there is nothing to write. Assumes nothing.
-use borrow.Author.Rules.{rules}
 use Rattle.lowering_sums.specs.Views.{added_is}
 use Rattle.lowering_rows.proofs.Adding.{nothing-kept}
 use Rattle.lowering_rows.proofs.follow.Goals as goal

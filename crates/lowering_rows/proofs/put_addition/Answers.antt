@@ -5,7 +5,6 @@ use lib.IntN.{pos}
 use mir.Syntax.{w64}
 use mir.Val.{to_z, of_z}
 use mir.Facts.{to_z-of_z}
-use borrow.Author.Rules.{rules}
 use Rattle.lists.proofs.Writing.{room_as, wrote_as}
 use Rattle.commands.specs.Encoding.{encode}
 use Rattle.commands.specs.declared.Command.TheVariants.{Add}

@@ -1,17 +1,10 @@
 -- `lowering_rows::put_additions` meets its contract: the loop writes each +. Assumes nothing.
-use Rattle.lowering_rows.proofs.Writing.{addition-coded}
 use Rattle.file_parts.specs.Row.{addition_in}
 use Rattle.lowering_rows.specs.Bytes.{addition_bytes}
-use Rattle.lists.proofs.Writing.{room_as, wrote_as}
-use mir.Syntax.{w64}
-use mir.Val.{SFits}
-use mir.Facts.{to_z-of_z}
-use mathlib.Core.Path.{◌≡◌, sym}
-use Prim.Native.Nat.{◌-◌, ◌+◌, ◌<◌, ◌≤◌}
-use Rattle.model.specs.Steps.{natural_at, integer_at}
-use Rattle.lowering_rows.proofs.Loops.{Writing, writing_start, writing-room, writing-next, writing-end, writing-long}
-use native.Mathlib.Omega.{arith}
-use borrow.Author.Rules.{rules}
+use mathlib.Core.Path.{◌≡◌}
+use Prim.Native.Nat.{◌-◌, ◌≤◌}
+use Rattle.model.specs.Steps.{natural_at}
+use Rattle.lowering_rows.proofs.Loops.{Writing}
 use Rattle.lowering_rows.proofs.put_additions.Given as goal
 
 abbrev pub invariant-loop-i : goal.invariant-loop-i

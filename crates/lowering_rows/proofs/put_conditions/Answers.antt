@@ -1,6 +1,6 @@
 -- `lowering_rows::put_conditions` meets its contract: the loop writes each C. Assumes nothing.
-use mathlib.Core.Path.{◌≡◌, sym}
-use Prim.Native.Nat.{◌-◌, ◌+◌, ◌<◌, ◌≤◌}
+use mathlib.Core.Path.{sym}
+use Prim.Native.Nat.{◌+◌, ◌<◌}
 use native.Mathlib.Omega.{arith}
 use mir.Syntax.{w64}
 use mir.Val.{SFits}
@@ -8,10 +8,9 @@ use mir.Facts.{to_z-of_z}
 use borrow.Author.Rules.{rules}
 use Rattle.lists.proofs.Writing.{room_as, wrote_as}
 use Rattle.model.specs.Steps.{natural_at, integer_at}
-use Rattle.file_parts.specs.Row.{condition_in, conditions_in}
-use Rattle.lowering_rows.specs.Bytes.{four_bytes}
+use Rattle.file_parts.specs.Row.{conditions_in}
 use Rattle.lowering_rows.proofs.Writing.{four_coded, four-all}
-use Rattle.lowering_rows.proofs.Loops.{Writing, writing_start, writing-room, writing-next, writing-end, writing-long}
+use Rattle.lowering_rows.proofs.Loops.{writing_start, writing-room, writing-next, writing-end, writing-long}
 use Rattle.lowering_rows.proofs.put_conditions.Goals as goal
 
 pub bounds-marks-0 : goal.bounds-marks-0

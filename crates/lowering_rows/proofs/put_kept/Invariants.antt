@@ -1,23 +1,14 @@
 -- `lowering_rows::put_kept` meets its contract: the loop writes the + of each sum. Assumes nothing.
-use mathlib.Core.Path.{◌≡◌, refl, sym}
 use mathlib.Core.List.{List, flat_map}
 use Prim.Native.Nat.{ℕ, ◌-◌, ◌+◌}
-use native.Mathlib.Omega.{arith}
 use lib.IntN.{ℤ}
-use mir.Syntax.{w64}
-use mir.Val.{SFits}
-use mir.Facts.{to_z-of_z}
-use borrow.Author.Rules.{rules}
-use Rattle.lists.specs.Each.{tabulate}
-use Rattle.lists.proofs.Writing.{room_as, wrote_as}
 use Rattle.model.specs.Steps.{weigh}
-use Rattle.model.specs.Sums.{added_to, addition, kept_additions}
+use Rattle.model.specs.Sums.{added_to, addition}
 use Rattle.source_step.specs.Row.{weights_in}
 use Rattle.lowering_sums.specs.declared.Added.{Added}
-use Rattle.lowering_sums.specs.Views.{sums_in, added_is}
+use Rattle.lowering_sums.specs.Views.{added_is}
 use Rattle.lowering_rows.specs.Bytes.{addition_bytes}
-use Rattle.lowering_rows.proofs.Kept.{kept-amount-fits, kept-bytes}
-use Rattle.lowering_rows.proofs.Loops.{Writing, writing_start, writing-room, writing-next, writing-end, writing-long}
+use Rattle.lowering_rows.proofs.Loops.{Writing}
 use Rattle.lowering_rows.proofs.put_kept.Given as goal
 
 -- the + on the variable of sum i

@@ -4,7 +4,6 @@ use mathlib.Core.List.{List}
 use Prim.Native.Nat.{ℕ}
 use lib.ListN.{length}
 use lib.IntN.{ℤ}
-use borrow.Author.Rules.{rules}
 use Rattle.lists.specs.Writing.{Wrote}
 use Rattle.lists.proofs.Writing.{step, done, room, room_as, wrote_as}
 use Rattle.model.specs.Tasks.{RestrictedAction}

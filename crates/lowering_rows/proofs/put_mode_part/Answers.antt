@@ -3,7 +3,6 @@ use mathlib.Core.Path.{sym, ap}
 use mathlib.Core.Bool.{Bool}
 use Rattle.lists.proofs.Writing.{room_as, wrote_as}
 use Rattle.lowering_rows.specs.Bytes.{mode_part_bytes}
-use borrow.Author.Rules.{rules}
 use Rattle.lowering_rows.proofs.put_mode_part.Goals as goal
 
 pub put_mode_effect-requires : goal.put_mode_effect-requires

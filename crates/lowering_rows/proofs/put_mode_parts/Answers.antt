@@ -1,11 +1,10 @@
 -- `lowering_rows::put_mode_parts` meets its contract: the loop writes each P, or each E. Assumes nothing.
-use mathlib.Core.Path.{◌≡◌, sym}
-use Prim.Native.Nat.{◌-◌, ◌+◌, ◌<◌}
+use mathlib.Core.Path.{sym}
+use Prim.Native.Nat.{◌+◌, ◌<◌}
 use native.Mathlib.Omega.{arith}
 use Rattle.lists.proofs.Writing.{room_as, wrote_as}
 use Rattle.model.specs.Steps.{natural_at}
-use Rattle.lowering_rows.specs.Bytes.{mode_part_bytes, ModePartsThere}
-use Rattle.lowering_rows.proofs.Loops.{Writing, writing_start, writing-room, writing-next, writing-end, writing-long}
+use Rattle.lowering_rows.proofs.Loops.{writing_start, writing-room, writing-next, writing-end, writing-long}
 use Rattle.lowering_rows.proofs.Writing.{mode-part-coded}
 use borrow.Author.Rules.{rules}
 use Rattle.lowering_rows.proofs.put_mode_parts.Goals as goal

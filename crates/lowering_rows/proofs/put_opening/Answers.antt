@@ -3,7 +3,6 @@ use mathlib.Core.Path.{◌≡◌, ap, ◌∙◌}
 use mathlib.Core.List.{List, [], ◌∷◌}
 use Prim.Native.Nat.{ℕ}
 use lib.IntN.{ℤ}
-use borrow.Author.Rules.{rules}
 use Rattle.lists.proofs.Writing.{Left, step, done, room}
 use Rattle.model.specs.Tasks.{RestrictedAction}
 use Rattle.file_parts.specs.Row.{row_is}
@@ -54,7 +53,7 @@ pub put_row-behind-requires : goal.put_row-behind-requires
 put_row-behind-requires c =
     let s = c.before.before.before.before.before.before.before in
     let ready = row-ready c.push_opening.ensures (opened-sized s.requires.lowerable.0 s.args.next)
-        (plain-fit s.args.first (sums s) (opened s) s.requires.fit) (room s.requires.room (begun s)) in
+    (plain-fit s.args.first (sums s) (opened s) s.requires.fit) (room s.requires.room (begun s)) in
     record { writable = ready.0; room = ready.1 }
 
 pub added_in-requires : goal.added_in-requires
@@ -65,7 +64,7 @@ pub follow-requires : goal.follow-requires
 follow-requires c =
     let s = s₂ c in
     let ready = follow-ready s.args.first s.args.sums s.args.weights.now (opened s) (added c) s.requires.lowerable.1 s.requires.fit
-        (room s.requires.room (plain c.before.before.before.before)) in
+    (room s.requires.room (plain c.before.before.before.before)) in
     record { keeps = ready.0; room = ready.1 }
 
 pub returns : goal.returns

@@ -3,7 +3,6 @@ use Rattle.file_parts.specs.Row.{row_is}
 use Rattle.model.specs.FourRelations.{in_four}
 use Rattle.lowering_rows.proofs.Writing.{row-begun, mode-conditions-there, mode-effects-there}
 use Rattle.lists.proofs.Writing.{step, done, room}
-use borrow.Author.Rules.{rules}
 use Rattle.lowering_rows.proofs.put_row.Goals as goal
 
 pub put_number-modes-requires : goal.put_number-modes-requires

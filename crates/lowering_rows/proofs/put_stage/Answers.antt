@@ -7,7 +7,6 @@ use Prim.Native.Nat.{ℕ}
 use lib.IntN.{ℤ}
 use native.Mathlib.Omega.{arith}
 use mir.Facts.{to_z-of_z}
-use borrow.Author.Rules.{rules}
 use Rattle.lists.proofs.Writing.{Left, step, done, room, long}
 use Rattle.commands.specs.Table.{letter_a}
 use Rattle.model.specs.Tasks.{RestrictedAction}
@@ -106,13 +105,13 @@ pub put_row-fallen-requires : goal.put_row-fallen-requires
 put_row-fallen-requires c =
     let s = c.before.before.before.before.before in
     let ready = row-ready c.push_stroke.ensures (stroke-sized s.args.s s.requires.marks_len.2 s.args.control s.args.number true)
-        (plain-fit s.args.first (sums s) (falling s) s.requires.all_fit.0) (room s.requires.room (begun s)) in
+    (plain-fit s.args.first (sums s) (falling s) s.requires.all_fit.0) (room s.requires.room (begun s)) in
     record { writable = ready.0; room = ready.1 }
 
 pub follow-second-requires : goal.follow-second-requires
 follow-second-requires c =
     let ready = follow-ready c.args.first c.args.sums c.args.weights.now (falling c.before.before.before.before.before.before.before.before.before.before)
-        c.added_by.ensures c.requires.marks_len.3 c.requires.all_fit.0 (room c.requires.room (fallen c.before.before.before.before)) in
+    c.added_by.ensures c.requires.marks_len.3 c.requires.all_fit.0 (room c.requires.room (fallen c.before.before.before.before)) in
     record { keeps = ready.0; room = ready.1 }
 
 pub put_row-risen-requires : goal.put_row-risen-requires
@@ -120,7 +119,7 @@ put_row-risen-requires c =
     let f = c.before.before.before.before.before.before in
     let s = s₂ f in
     let ready = row-ready c.push_stroke-2.ensures (stroke-sized s.args.s s.requires.marks_len.2 s.args.control s.args.number false)
-        (plain-fit s.args.first (sums s) (rising s) s.requires.all_fit.1.0) (room s.requires.room (fell f)) in
+    (plain-fit s.args.first (sums s) (rising s) s.requires.all_fit.1.0) (room s.requires.room (fell f)) in
     record { writable = ready.0; room = ready.1 }
 
 pub added_by-requires-2 : goal.added_by-requires-2
@@ -130,7 +129,7 @@ pub follow-third-requires : goal.follow-third-requires
 follow-third-requires c =
     let s = s₃ c.before.before.before.before in
     let ready = follow-ready s.args.first s.args.sums s.args.weights.now (rising s) c.added_by-2.ensures s.requires.marks_len.3 s.requires.all_fit.1.0
-        (room s.requires.room (risen c.before.before.before.before)) in
+    (room s.requires.room (risen c.before.before.before.before)) in
     record { keeps = ready.0; room = ready.1 }
 
 pub push_turn-requires : goal.push_turn-requires
@@ -143,8 +142,8 @@ put_row-turned-requires c =
     let r = c.before.before.before.before.before.before in
     let s = s₄ r in
     let ready = row-ready c.push_turn.ensures
-        (turn-sized s.args.s s.requires.marks_len.2 s.args.control s.args.number s.args.a s.args.next)
-        (plain-fit s.args.first (sums s) (turn s) s.requires.all_fit.1.1.0) (room s.requires.room (rose r)) in
+    (turn-sized s.args.s s.requires.marks_len.2 s.args.control s.args.number s.args.a s.args.next)
+    (plain-fit s.args.first (sums s) (turn s) s.requires.all_fit.1.1.0) (room s.requires.room (rose r)) in
     record { writable = ready.0; room = ready.1 }
 
 pub added_once-requires : goal.added_once-requires
@@ -156,7 +155,7 @@ pub follow-requires : goal.follow-requires
 follow-requires c =
     let s = s₆ c in
     let ready = follow-ready s.args.first s.args.sums s.args.weights.now (turn s) (given c) s.requires.marks_len.3 s.requires.all_fit.1.1.0
-        (room s.requires.room (turned c.before.before.before.before.before)) in
+    (room s.requires.room (turned c.before.before.before.before.before)) in
     record { keeps = ready.0; room = ready.1 }
 
 pub shape_of-out : goal.shape_of-out

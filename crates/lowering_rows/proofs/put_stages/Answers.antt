@@ -6,16 +6,14 @@ use Prim.Native.Nat.{ℕ, ◌+◌, ◌-◌, ◌<◌}
 use native.Mathlib.Omega.{arith}
 use lib.Dec.{eqb}
 use lib.ListN.{length, get_or, get_elem?}
-use borrow.Author.Rules.{rules}
 use Rattle.lists.proofs.Writing.{long, room_as, wrote_as}
 use Rattle.model.specs.Stages.{clear}
-use Rattle.file_parts.specs.Layout.{MARKS, NUMBERS}
 use Rattle.lowering_stages.specs.Shapes.{next_number}
 use Rattle.lowering_stages.proofs.Effects.{turns-on}
 use Rattle.lowering_sums.specs.Views.{sums_in}
 use Rattle.lowering_rows.specs.Macros.{AllFit, stages_in}
 use Rattle.lowering_rows.proofs.Stages.{there, rows_are_lem, stage_is}
-use Rattle.lowering_rows.proofs.Staging.{Staging, staging-start, staging-fit, staging-room, staging-next, staging-end}
+use Rattle.lowering_rows.proofs.Staging.{staging-start, staging-fit, staging-room, staging-next, staging-end}
 use Rattle.lowering_rows.proofs.put_stages.Goals as goal
 
 pub loop-j-init : goal.loop-j-init

@@ -3,7 +3,6 @@ use mathlib.Core.Path.{sym, ◌∙◌}
 use native.Mathlib.Omega.{arith}
 use lib.IntN.{pos}
 use mir.Facts.{to_z-of_z}
-use borrow.Author.Rules.{rules}
 use Rattle.model.specs.Stages.{drain, refill, divide, empty}
 use Rattle.lowering_stages.proofs.Rows.{given}
 use Rattle.lowering_stages.proofs.Effects.{first_two}

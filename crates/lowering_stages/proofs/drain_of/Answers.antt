@@ -1,7 +1,6 @@
 -- `lowering_stages::drain_of` meets its contract: the numbers of Drain. Assumes nothing.
 use mir.Facts.{to_z-of_z}
 use Rattle.lowering_stages.proofs.Making.{drain-stands}
-use borrow.Author.Rules.{rules}
 use Rattle.lowering_stages.proofs.drain_of.Goals as goal
 
 pub returns : goal.returns

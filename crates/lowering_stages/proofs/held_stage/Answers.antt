@@ -38,13 +38,12 @@ pub result_count-count-requires : goal.result_count-count-requires
 result_count-count-requires c = terms-few c.args.effects c.args.e (here c.before) c.requires.a_bound.1.few
 
 pub result_stage-requires : goal.result_stage-requires
-result_stage-requires c =
-    (
-      c.requires.a_bound.0,
-      place_ok c.args.effects c.args.e (here c.before.before.before) c.args.a c.requires.a_bound.1 c.requires.a_bound.2,
-      omega
-          (arith, c.if-j-count.true, c.result_count-count.ensures.0),
-    )
+result_stage-requires c = (
+  c.requires.a_bound.0,
+  place_ok c.args.effects c.args.e (here c.before.before.before) c.args.a c.requires.a_bound.1 c.requires.a_bound.2,
+  omega
+      (arith, c.if-j-count.true, c.result_count-count.ensures.0),
+)
 
 pub returns-then-j-count : goal.returns-then-j-count
 returns-then-j-count c =

@@ -1,6 +1,5 @@
 -- `lowering_stages::hold_of` meets its contract: the numbers of a Move into a hold. Assumes nothing.
 use mir.Facts.{to_z-of_z}
-use borrow.Author.Rules.{rules}
 use Rattle.lowering_stages.proofs.Making.{hold-stands}
 use Rattle.lowering_stages.proofs.hold_of.Goals as goal
 

@@ -1,6 +1,5 @@
 -- `lowering_stages::next_stage` meets its contract. Assumes nothing.
 use borrow.Author.Tests.{ne_eqb}
-use borrow.Author.Rules.{rules}
 use Rattle.lowering_stages.proofs.next_stage.Goals as goal
 
 pub returns-then-following-eq0 : goal.returns-then-following-eq0

@@ -6,7 +6,6 @@ use lib.IntN.{ℤ}
 use mir.Syntax.{w64}
 use mir.Val.{SFits}
 use mir.Facts.{to_z-of_z}
-use borrow.Author.Rules.{rules}
 use Rattle.model.specs.Steps.{integer_at}
 use Rattle.lowering_stages.proofs.Rows.{Adding, adding-start, adding-room, adding-next, adding-end, amount-fits}
 use Rattle.lowering_stages.proofs.push_added.Goals as goal

@@ -6,7 +6,6 @@ use mir.Syntax.{w64}
 use Rattle.file_parts.specs.Row.{row_is}
 use Rattle.lowering_stages.proofs.Rows.{own, said, nothing-given, something-given}
 use mir.Facts.{to_z-of_z}
-use borrow.Author.Rules.{rules}
 use Rattle.lowering_stages.proofs.push_given.Goals as goal
 
 pub returns-then-x-eq0 : goal.returns-then-x-eq0

@@ -1,6 +1,5 @@
 -- `lowering_stages::push_opening` meets its contract: control before, the effects, control after. Assumes nothing.
 use mathlib.Core.List.{List}
-use borrow.Author.Rules.{rules}
 use Rattle.model.specs.Tasks.{Effect, RestrictedAction}
 use Rattle.file_parts.specs.Row.{row_is}
 use Rattle.file_parts.specs.With.{with_mode_effect}

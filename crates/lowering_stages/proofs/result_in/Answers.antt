@@ -1,6 +1,5 @@
 -- `lowering_stages::result_in` meets its contract: effect by effect. Assumes nothing.
 use native.Mathlib.Numerals.{add-one}
-use borrow.Author.Rules.{rules}
 use Rattle.lowering_stages.proofs.result_in.Goals as goal
 
 pub returns-in-Quotient : goal.returns-in-Quotient

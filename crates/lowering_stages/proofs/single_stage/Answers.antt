@@ -4,7 +4,6 @@ use mathlib.Core.List.{List, []}
 use Prim.Native.Nat.{ℕ, ◌+◌, ◌-◌, ◌<◌}
 use native.Mathlib.Omega.{arith}
 use lib.ListN.{length, get_elem?}
-use borrow.Author.Rules.{rules}
 use Rattle.model.specs.Steps.{target}
 use Rattle.model.specs.Stages.{Stage, result_stages, result_in, set_stages, single_stages}
 use Rattle.file_actions.specs.Views.{numeric_is}

@@ -1,6 +1,5 @@
 -- `lowering_stages::term_stage` meets its contract: Drain first. Assumes nothing.
 use mir.Facts.{to_z-of_z}
-use borrow.Author.Rules.{rules}
 use Rattle.model.specs.Stages.{drain}
 use Rattle.lowering_stages.proofs.Rows.{second, given}
 use Rattle.lowering_stages.proofs.term_stage.Goals as goal

@@ -1,12 +1,11 @@
 -- `lowering_sums::kept_amount` meets its contract. The loop's invariant: what the first + add, with what is left, is the whole. Assumes nothing.
-use Prim.Native.Nat.{◌-◌}
 use native.Mathlib.Omega.{arith}
 use mir.Facts.{to_z-of_z}
 use mir.Syntax.{w64}
-use mir.Val.{SFits, to_z}
+use mir.Val.{SFits}
 use borrow.Author.Rules.{rules}
 use Rattle.model.specs.Steps.{integer_at}
-use Rattle.lowering_sums.proofs.Weighing.{Adding, adding-start, adding-next, adding-small, adding-end}
+use Rattle.lowering_sums.proofs.Weighing.{adding-start, adding-next, adding-small, adding-end}
 use Rattle.lowering_sums.proofs.kept_amount.Goals as goal
 
 pub loop-e-init : goal.loop-e-init

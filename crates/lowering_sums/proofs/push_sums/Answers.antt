@@ -1,5 +1,4 @@
 -- `lowering_sums::push_sums` meets its contract: the loop pushes C after C. Assumes nothing.
-use Prim.Native.Nat.{◌-◌}
 use native.Mathlib.Omega.{arith}
 use mathlib.Core.Path.{◌≡◌}
 use lib.ListN.{length}
@@ -8,7 +7,7 @@ use mir.Syntax.{w64}
 use mir.Val.{SFits}
 use borrow.Author.Rules.{rules}
 use Rattle.lists.proofs.Loops.{length-mapped}
-use Rattle.lowering_sums.proofs.Own.{Becoming, own_at, become-start, become-room, become-next, become-end}
+use Rattle.lowering_sums.proofs.Own.{own_at, become-start, become-room, become-next, become-end}
 use Rattle.lowering_sums.proofs.push_sums.Goals as goal
 use Rattle.lowering_sums.proofs.push_sums.Lts as lts
 use Rattle.lowering_sums.proofs.push_sums.Reads as reads

@@ -1,7 +1,7 @@
 -- `lowering_sums::put_sum_starts` meets its contract: the loop writes each U. Assumes nothing.
 use mathlib.Core.Path.{◌≡◌, sym, ap, ◌∙◌}
 use mathlib.Core.List.{[]}
-use Prim.Native.Nat.{ℕ, ◌-◌}
+use Prim.Native.Nat.{ℕ}
 use native.Mathlib.Omega.{arith}
 use lib.ListN.{get_or, take}
 use mir.Facts.{to_z-of_z}
@@ -10,7 +10,7 @@ use mir.Val.{SFits}
 use borrow.Author.Rules.{rules}
 use Rattle.integers.specs.Numbers.{bits_of}
 use Rattle.lists.proofs.Writing.{room_as, wrote_as}
-use Rattle.lists.proofs.WritingLoops.{Going, going_start, going-room, going_next, going_end, going-long}
+use Rattle.lists.proofs.WritingLoops.{going_start, going-room, going_next, going_end, going-long}
 use Rattle.commands.specs.Encoding.{encode}
 use Rattle.commands.specs.declared.Command.TheVariants.{Start}
 use Rattle.lowering_sums.specs.Views.{sums_in}

@@ -1,7 +1,6 @@
 -- `plan_strokes::effect_size` meets its contract, kind by kind. Assumes nothing.
 use native.Mathlib.Omega.{arith}
 use Rattle.plan_strokes.proofs.Counting.{add-size, linear-size, division-size}
-use borrow.Author.Rules.{rules}
 use Rattle.plan_strokes.proofs.effect_size.Goals as goal
 
 pub returns-then-kind-eq-ADD : goal.returns-then-kind-eq-ADD

@@ -1,7 +1,6 @@
 -- `plan_strokes::makes_macro` meets its contract, by the count of effects. Assumes nothing.
 use mathlib.Core.Path.{sym, ◌∙◌}
 use Rattle.plan_strokes.proofs.Effects.{one-by-kind, others-by-count}
-use borrow.Author.Rules.{rules}
 use Rattle.plan_strokes.proofs.makes_macro.Goals as goal
 
 pub returns-then-count-eq1 : goal.returns-then-count-eq1

@@ -9,7 +9,6 @@ use Rattle.model.specs.Plans.{plan_numbers}
 use Rattle.model.proofs.FollowingWalks.{agreeing-few}
 use Rattle.plan_strokes.specs.Made.{RunOf}
 use Rattle.plan_strokes.proofs.Matching.{run-there, run-differs, run-whole}
-use borrow.Author.Rules.{rules}
 use Rattle.plan_strokes.proofs.matches_stage.Goals as goal
 use Rattle.plan_strokes.proofs.matches_stage.Lts as lts
 use Rattle.plan_strokes.proofs.matches_stage.Reads as reads

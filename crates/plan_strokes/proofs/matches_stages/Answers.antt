@@ -1,5 +1,4 @@
 -- `plan_strokes::matches_stages` meets its contract, stage by stage. Assumes nothing.
-use Prim.Native.Nat.{◌-◌}
 use native.Mathlib.Omega.{arith}
 use lib.ListN.{get_or}
 use lib.IntN.{pos}
@@ -8,7 +7,7 @@ use mir.Syntax.{w64}
 use mir.Val.{SFits}
 use Rattle.lists.proofs.Numbers.{length-halves}
 use Rattle.model.specs.Plans.{plan_numbers}
-use Rattle.plan_strokes.proofs.Matching.{Matching, matching-start, matching-stop, matching-next, matching-end, matched-there}
+use Rattle.plan_strokes.proofs.Matching.{matching-start, matching-stop, matching-next, matching-end, matched-there}
 use borrow.Author.Rules.{rules}
 use Rattle.plan_strokes.proofs.matches_stages.Goals as goal
 

@@ -9,7 +9,6 @@ use Rattle.model.specs.Plans.{plan_numbers}
 use Rattle.model.proofs.FollowingWalks.{agreeing-there}
 use Rattle.plan_strokes.specs.Strokes.{macro_steps}
 use Rattle.plan_strokes.proofs.Matching.{not_opened_lem, opened-there, opened}
-use borrow.Author.Rules.{rules}
 use Rattle.plan_strokes.proofs.matches_step.Goals as goal
 use Rattle.plan_strokes.proofs.matches_step.Lts as lts
 use Rattle.plan_strokes.proofs.matches_step.Reads as reads

@@ -1,8 +1,6 @@
 -- `plan_strokes::openings_of` meets its contract. Assumes nothing.
-use Prim.Native.Nat.{◌-◌}
 use native.Mathlib.Omega.{arith}
-use Rattle.plan_strokes.proofs.Counting.{Counting, counting-start, counting-next, counting-end}
-use borrow.Author.Rules.{rules}
+use Rattle.plan_strokes.proofs.Counting.{counting-start, counting-next, counting-end}
 use Rattle.plan_strokes.proofs.openings_of.Goals as goal
 
 pub loop-k-init : goal.loop-k-init

@@ -1,8 +1,6 @@
 -- `plan_strokes::openings_of` meets its contract. Assumes nothing.
 use Prim.Native.Nat.{◌-◌}
-use native.Mathlib.Omega.{arith}
-use Rattle.plan_strokes.proofs.Counting.{Counting, counting-start, counting-next, counting-end}
-use borrow.Author.Rules.{rules}
+use Rattle.plan_strokes.proofs.Counting.{Counting}
 use Rattle.plan_strokes.proofs.openings_of.Given as goal
 
 abbrev pub invariant-loop-k : goal.invariant-loop-k

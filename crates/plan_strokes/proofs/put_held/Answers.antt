@@ -7,7 +7,7 @@ use mir.Syntax.{w64}
 use mir.Val.{SFits}
 use lib.IntN.{pos}
 use lib.ListN.{get_or}
-use Rattle.plan_strokes.proofs.Making.{Holding, holding-start, holding-last, holding-next, holding-end}
+use Rattle.plan_strokes.proofs.Making.{holding-start, holding-last, holding-next, holding-end}
 use borrow.Author.Rules.{rules}
 use Rattle.plan_strokes.proofs.put_held.Goals as goal
 use Rattle.plan_strokes.proofs.put_held.Lts as lts

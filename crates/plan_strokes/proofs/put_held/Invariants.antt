@@ -1,14 +1,7 @@
 -- `plan_strokes::put_held` meets its contract. The loop's invariant: the strokes made, and behind them those of the effects that are left, are
 -- those of all effects; what the effects passed give stands in the results. Assumes nothing.
-use Prim.Native.Nat.{◌-◌, ◌≤◌}
-use native.Mathlib.Omega.{arith}
-use mir.Facts.{to_z-of_z}
-use mir.Syntax.{w64}
-use mir.Val.{SFits}
-use lib.IntN.{pos}
-use lib.ListN.{get_or}
-use Rattle.plan_strokes.proofs.Making.{Holding, holding-start, holding-last, holding-next, holding-end}
-use borrow.Author.Rules.{rules}
+use Prim.Native.Nat.{◌-◌}
+use Rattle.plan_strokes.proofs.Making.{Holding}
 use Rattle.plan_strokes.proofs.put_held.Given as goal
 
 abbrev pub invariant-loop-e : goal.invariant-loop-e

@@ -1,7 +1,6 @@
 -- `plan_strokes::put_one` meets its contract. Assumes nothing.
 use mir.Facts.{to_z-of_z}
 use Rattle.plan_strokes.proofs.Making.{one_more}
-use borrow.Author.Rules.{rules}
 use Rattle.plan_strokes.proofs.put_one.Goals as goal
 
 pub returns : goal.returns

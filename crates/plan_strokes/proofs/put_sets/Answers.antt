@@ -1,17 +1,12 @@
 -- `plan_strokes::put_sets` meets its contract. The loop's invariant: the strokes made, and behind them those of the targets that are left, are
 -- those of all targets. Assumes nothing.
-use Prim.Native.Nat.{◌-◌}
 use native.Mathlib.Omega.{arith}
 use mir.Facts.{to_z-of_z}
 use mir.Syntax.{w64}
 use mir.Val.{SFits}
-use lib.ListN.{take}
-use Rattle.model.specs.Steps.{integer_at}
-use Rattle.plan_strokes.proofs.Making.{Setting, setting-start, setting-next, setting-end}
+use Rattle.plan_strokes.proofs.Making.{setting-start, setting-next, setting-end}
 use borrow.Author.Rules.{rules}
 use Rattle.plan_strokes.proofs.put_sets.Goals as goal
-use Rattle.plan_strokes.proofs.put_sets.Lts as lts
-use Rattle.plan_strokes.proofs.put_sets.Reads as reads
 
 pub loop-e-init : goal.loop-e-init
 loop-e-init c = setting-start c.args.marks.now c.args.results.now _ c.args.times.now c.args.at c.requires.1

@@ -1,14 +1,9 @@
 -- `plan_strokes::put_sets` meets its contract. The loop's invariant: the strokes made, and behind them those of the targets that are left, are
 -- those of all targets. Assumes nothing.
 use Prim.Native.Nat.{◌-◌}
-use native.Mathlib.Omega.{arith}
-use mir.Facts.{to_z-of_z}
-use mir.Syntax.{w64}
-use mir.Val.{SFits}
 use lib.ListN.{take}
 use Rattle.model.specs.Steps.{integer_at}
-use Rattle.plan_strokes.proofs.Making.{Setting, setting-start, setting-next, setting-end}
-use borrow.Author.Rules.{rules}
+use Rattle.plan_strokes.proofs.Making.{Setting}
 use Rattle.plan_strokes.proofs.put_sets.Given as goal
 
 abbrev pub invariant-loop-e : goal.invariant-loop-e

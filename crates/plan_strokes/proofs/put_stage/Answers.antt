@@ -3,7 +3,6 @@ use Prim.Native.Nat.{ℕ, ◌+◌}
 use mathlib.Core.List.{List}
 use lib.ListN.{drop}
 use mir.Facts.{to_z-of_z}
-use borrow.Author.Rules.{rules}
 use Rattle.lists.proofs.Writing.{Left, start, step, done, room}
 use Rattle.model.specs.Plans.{plan_bytes_of}
 use Rattle.plan_strokes.specs.Strokes.{stage_steps}

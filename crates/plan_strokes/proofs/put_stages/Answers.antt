@@ -1,12 +1,11 @@
 -- `plan_strokes::put_stages` meets its contract, stage by stage. Assumes nothing.
-use Prim.Native.Nat.{◌-◌}
 use native.Mathlib.Omega.{arith}
 use lib.ListN.{get_or}
 use lib.IntN.{pos}
 use mir.Facts.{to_z-of_z}
 use mir.Syntax.{w64}
 use mir.Val.{SFits}
-use Rattle.plan_strokes.proofs.Writing.{Stepping, stepping-start, stepping-room, stepping-next, stepping-end, stepping-long}
+use Rattle.plan_strokes.proofs.Writing.{stepping-start, stepping-room, stepping-next, stepping-end, stepping-long}
 use borrow.Author.Rules.{rules}
 use Rattle.plan_strokes.proofs.put_stages.Goals as goal
 

@@ -7,7 +7,6 @@ use Rattle.lists.proofs.Writing.{Left, step, done, room}
 use Rattle.model.specs.Plans.{plan_bytes_of}
 use Rattle.plan_strokes.specs.Strokes.{macro_steps, step_numbers}
 use Rattle.plan_strokes.proofs.Writing.{opens}
-use borrow.Author.Rules.{rules}
 use Rattle.plan_strokes.proofs.put_step.Goals as goal
 use Rattle.plan_strokes.proofs.put_step.Lts as lts
 use Rattle.plan_strokes.proofs.put_step.Reads as reads

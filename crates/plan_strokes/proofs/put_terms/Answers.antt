@@ -1,25 +1,19 @@
 -- `plan_strokes::put_terms` meets its contract. The loop's invariant: the strokes made, and behind them those of the terms that are left, are
 -- those of all terms. Assumes nothing.
-use mathlib.Core.Path.{◌≡◌}
-use Prim.Native.Nat.{◌-◌}
 use native.Mathlib.Omega.{arith}
 use mir.Facts.{to_z-of_z}
 use mir.Syntax.{w64}
 use mir.Val.{SFits}
-use lib.ListN.{take}
-use Rattle.model.specs.Steps.{integer_at}
-use Rattle.source_step.specs.Row.{term_count_at}
-use Rattle.plan_strokes.proofs.Making.{Draining, draining-start, draining-next, draining-end}
+use Rattle.plan_strokes.proofs.Making.{draining-start, draining-next, draining-end}
 use borrow.Author.Rules.{rules}
 use Rattle.plan_strokes.proofs.put_terms.Goals as goal
 
 pub loop-i-init : goal.loop-i-init
-loop-i-init c =
-    (
-      draining-start c.args.marks.now c.args.e _ c.args.times.now c.args.at c.requires.1,
-      rw c.wide16.ensures at
-          c.lesser-k.ensures,
-    )
+loop-i-init c = (
+  draining-start c.args.marks.now c.args.e _ c.args.times.now c.args.at c.requires.1,
+  rw c.wide16.ensures at
+      c.lesser-k.ensures,
+)
 
 pub put_two-count-requires : goal.put_two-count-requires
 put_two-count-requires c =

@@ -2,15 +2,10 @@
 -- those of all terms. Assumes nothing.
 use mathlib.Core.Path.{◌≡◌}
 use Prim.Native.Nat.{◌-◌}
-use native.Mathlib.Omega.{arith}
-use mir.Facts.{to_z-of_z}
-use mir.Syntax.{w64}
-use mir.Val.{SFits}
 use lib.ListN.{take}
 use Rattle.model.specs.Steps.{integer_at}
 use Rattle.source_step.specs.Row.{term_count_at}
-use Rattle.plan_strokes.proofs.Making.{Draining, draining-start, draining-next, draining-end}
-use borrow.Author.Rules.{rules}
+use Rattle.plan_strokes.proofs.Making.{Draining}
 use Rattle.plan_strokes.proofs.put_terms.Given as goal
 
 abbrev pub invariant-loop-i : goal.invariant-loop-i

@@ -8,7 +8,6 @@ use lib.Signed.{le_z}
 use mir.Facts.{to_z-of_z}
 use mir.Syntax.{w64}
 use mir.Val.{SFits}
-use borrow.Author.Rules.{rules}
 use Rattle.integers.proofs.Parts.{ints, add, sub, abs}
 use Rattle.plan_strokes.proofs.Writing.{falls, rises}
 use Rattle.plan_strokes.proofs.run_of.Goals as goal

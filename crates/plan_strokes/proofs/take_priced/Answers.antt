@@ -59,5 +59,8 @@ pub price_of-price-requires : goal.price_of-price-requires
 price_of-price-requires c = let l = c.put_strokes-count.ensures.listed in (l.few, l.long, rw l.is l.within)
 
 pub returns : goal.returns
-returns c = record { turned = turned (passed c.before.before.before.before.before.before.before.before.before.before) c.put_strokes-count.ensures c.price_of-price.result c.price_of-price.ensures
-          c.finish-applied.result c.finish-applied.ensures; times_len = c.put_strokes-count.ensures.listed.long }
+returns c = record {
+  turned = turned (passed c.before.before.before.before.before.before.before.before.before.before) c.put_strokes-count.ensures c.price_of-price.result c.price_of-price.ensures
+      c.finish-applied.result c.finish-applied.ensures;
+  times_len = c.put_strokes-count.ensures.listed.long;
+}

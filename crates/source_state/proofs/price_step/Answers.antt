@@ -6,7 +6,6 @@ use Rattle.file_actions.proofs.Accepted.{bytes-of}
 use Rattle.source_state.specs.Step.{whole_is}
 use Rattle.source_state.proofs.Alone.{alone-refused}
 use Rattle.source_state.proofs.Pricing.{not-priced-alone}
-use borrow.Author.Rules.{rules}
 use Rattle.source_state.proofs.price_step.Goals as goal
 
 pub returns-then-number-ne0 : goal.returns-then-number-ne0

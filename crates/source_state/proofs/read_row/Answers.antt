@@ -11,7 +11,6 @@ use Rattle.source_sums.proofs.Asking.{blank-start, asked-by-name}
 use Rattle.source_sums.proofs.Gathering.{own-long, small_at}
 use Rattle.source_ready.proofs.Naming.{own-named}
 use Rattle.source_ready.proofs.Preparing.{action-fits}
-use borrow.Author.Rules.{rules}
 use Rattle.source_state.proofs.read_row.Goals as goal
 
 pub put_sums-requires : goal.put_sums-requires

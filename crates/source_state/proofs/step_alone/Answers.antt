@@ -7,7 +7,6 @@ use Rattle.file_actions.proofs.Accepted.{bytes-of}
 use Rattle.source_state.specs.Step.{whole_is}
 use Rattle.source_state.specs.Alone.{returned}
 use Rattle.source_state.proofs.Alone.{alone-refused}
-use borrow.Author.Rules.{rules}
 use Rattle.source_state.proofs.step_alone.Goals as goal
 
 pub step_accepted-requires : goal.step_accepted-requires

@@ -1,5 +1,4 @@
 -- `source_walk::conclude` meets its contract, case by case. Assumes nothing.
-use borrow.Author.Rules.{rules}
 use Rattle.source_walk.proofs.conclude.Goals as goal
 
 pub returns-in-Refused : goal.returns-in-Refused

@@ -1,17 +1,12 @@
 -- `source_walk::judge` meets its contract: what is refused of the file and the plan's bytes, else what judging the steps gives. Assumes nothing.
 use mathlib.Core.Path.{sym, ap, ◌∙◌}
 use Rattle.source_step.proofs.Tables.{usables}
-use Rattle.source_walk.specs.Opening.{Started}
 use Rattle.model.specs.Judging.{judge_source_task}
 use Rattle.source_walk.specs.Answers.{judgement_of, with_state}
 use Rattle.source_walk.specs.Walk.{Judging}
 use Rattle.source_walk.proofs.Opening.{refused-both}
 use Rattle.source_walk.proofs.Judging.{judgement-is}
-use borrow.Author.Rules.{rules}
 use Rattle.source_walk.proofs.judge.Goals as goal
-use Rattle.source_walk.proofs.judge.Lts as lts
-use Rattle.source_walk.proofs.judge.Reads as reads
-use Rattle.source_walk.proofs.judge.Tie as tie
 
 pub judge_steps-judged-requires : goal.judge_steps-judged-requires
 judge_steps-judged-requires c = let S = rw c.in-Ready.is at c.«open».ensures in (usables S.rows, S.plan_is.steps_are, S.plan_is.few, S.inside.shaped.modes_long)

@@ -3,7 +3,6 @@ use native.Mathlib.Omega.{arith}
 use Rattle.model.specs.Plans.{plan_numbers}
 use Rattle.source_step.specs.Table.{table}
 use Rattle.source_walk.proofs.Loop.{judged-from}
-use borrow.Author.Rules.{rules}
 use Rattle.source_walk.proofs.judge_steps.Goals as goal
 
 pub holds-met-requires : goal.holds-met-requires

@@ -1,5 +1,4 @@
 -- `source_walk::last_verdict` meets its contract. Assumes nothing.
-use borrow.Author.Rules.{rules}
 use Rattle.source_walk.proofs.last_verdict.Goals as goal
 
 pub returns-then-met : goal.returns-then-met

@@ -2,7 +2,6 @@
 use Rattle.file_declarations.proofs.Accepted.{source-held}
 use Rattle.source_step.proofs.Judging.{zero_room, zeros-kept}
 use Rattle.source_walk.proofs.Opening.{started}
-use borrow.Author.Rules.{rules}
 use Rattle.source_walk.proofs.make_ready.Goals as goal
 
 pub prepare-requires : goal.prepare-requires

@@ -1,7 +1,6 @@
 -- `source_walk::price_plan` meets its contract: it is refused as by judging, else it has the sum of the prices. Assumes nothing.
 use mathlib.Core.Path.{sym, ap, ◌∙◌}
 use Rattle.source_step.proofs.Tables.{usables}
-use Rattle.source_walk.specs.Opening.{Started}
 use Rattle.lists.specs.Answer.{then}
 use Rattle.model.specs.Judging.{judge_source_task, price_task}
 use mathlib.Core.Bool.{false}
@@ -9,11 +8,7 @@ use Rattle.source_walk.specs.Answers.{priced_by}
 use Rattle.source_walk.specs.Walk.{Judging}
 use Rattle.source_walk.proofs.Opening.{refused-both}
 use Rattle.source_walk.proofs.Judging.{price-is}
-use borrow.Author.Rules.{rules}
 use Rattle.source_walk.proofs.price_plan.Goals as goal
-use Rattle.source_walk.proofs.price_plan.Lts as lts
-use Rattle.source_walk.proofs.price_plan.Reads as reads
-use Rattle.source_walk.proofs.price_plan.Tie as tie
 
 pub judge_steps-judged-requires : goal.judge_steps-judged-requires
 judge_steps-judged-requires c = let S = rw c.in-Ready.is at c.«open».ensures in (usables S.rows, S.plan_is.steps_are, S.plan_is.few, S.inside.shaped.modes_long)

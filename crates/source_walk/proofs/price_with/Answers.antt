@@ -1,5 +1,4 @@
 -- `source_walk::price_with` meets its contract, case by case. Assumes nothing.
-use borrow.Author.Rules.{rules}
 use Rattle.source_walk.proofs.price_with.Goals as goal
 
 pub returns-in-Refused : goal.returns-in-Refused

@@ -1,6 +1,5 @@
 -- `source_walk::take_turn` meets its contract: a step at its price, or at none. Assumes nothing.
 use Rattle.source_walk.proofs.Turns.{at-its-price, at-no-price}
-use borrow.Author.Rules.{rules}
 use Rattle.source_walk.proofs.take_turn.Goals as goal
 
 pub returns-then-priced : goal.returns-then-priced

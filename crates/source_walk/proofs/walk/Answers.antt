@@ -1,18 +1,13 @@
 -- `source_walk::walk` meets its contract. The loop's invariant: what is left of the plan comes to what the whole comes to. Assumes nothing.
 use native.Mathlib.Omega.{arith}
-use mathlib.Core.Path.{◌≡◌, refl, ◌∙◌}
-use lib.ListN.{length}
-use Prim.Native.Nat.{◌-◌}
+use mathlib.Core.Path.{refl, ◌∙◌}
 use borrow.Author.Tests.{not-true, not-false}
 use Rattle.model.specs.Plans.{plan_numbers}
 use Rattle.plan_bytes.proofs.Steps.{halves_long}
 use Rattle.source_step.specs.Step.{state}
 use Rattle.source_step.specs.Table.{table}
-use Rattle.plan_strokes.specs.Strokes.{STAGES}
-use Rattle.source_walk.proofs.Loop.{Going, begins, over, no-action, not-applied, goes}
+use Rattle.source_walk.proofs.Loop.{begins, over, no-action, not-applied, goes}
 use borrow.Author.Rules.{rules}
-use mathlib.Core.Path.{ap}
-use mathlib.Core.Bool.{not}
 use Rattle.source_walk.proofs.walk.Goals as goal
 
 pub loop-i-init : goal.loop-i-init
@@ -72,8 +67,7 @@ overflow_add-i c = search (rules, arith)
 
 pub loop-i-preserved : goal.loop-i-preserved
 loop-i-preserved c =
-    let t = c.take_turn-turn in
-    (
+    let t = c.take_turn-turn in (
       goes c.loop-i.invariant.0 c.wide16-k.result (c.wide16-k.ensures ∙ c.action_of.ensures)
           (omega (arith, c.loop-i-test.true, c.requires.1))
           c.if-count-k.false t.ensures.turn_of

@@ -1,16 +1,12 @@
 -- `source_walk::walk` meets its contract. The loop's invariant: what is left of the plan comes to what the whole comes to. Assumes nothing.
-use native.Mathlib.Omega.{arith}
-use mathlib.Core.Path.{◌≡◌, refl, ◌∙◌}
+use mathlib.Core.Path.{◌≡◌}
 use lib.ListN.{length}
 use Prim.Native.Nat.{◌-◌}
-use borrow.Author.Tests.{not-true, not-false}
 use Rattle.model.specs.Plans.{plan_numbers}
-use Rattle.plan_bytes.proofs.Steps.{halves_long}
 use Rattle.source_step.specs.Step.{state}
 use Rattle.source_step.specs.Table.{table}
 use Rattle.plan_strokes.specs.Strokes.{STAGES}
-use Rattle.source_walk.proofs.Loop.{Going, begins, over, no-action, not-applied, goes}
-use borrow.Author.Rules.{rules}
+use Rattle.source_walk.proofs.Loop.{Going}
 use Rattle.source_walk.proofs.walk.Given as goal
 
 abbrev pub invariant-loop-i : goal.invariant-loop-i

@@ -1,5 +1,4 @@
 -- `source_state::State::applies` meets its contract: the step is taken on a copy. Assumes nothing.
-use borrow.Author.Rules.{rules}
 use Rattle.source_state.proofs.State.applies.Goals as goal
 
 pub returns : goal.returns

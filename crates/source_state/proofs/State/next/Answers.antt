@@ -3,7 +3,6 @@ use mathlib.Core.Path.{ap}
 use mathlib.Core.Bool.{Bool}
 use Rattle.model.specs.Tasks.{State}
 use Rattle.source_state.proofs.Alone.{stepped-whole}
-use borrow.Author.Rules.{rules}
 use Rattle.source_state.proofs.State.next.Goals as goal
 
 pub returns : goal.returns

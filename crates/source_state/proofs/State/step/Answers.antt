@@ -2,7 +2,6 @@
 use mathlib.Core.Path.{ap₂}
 use mathlib.Core.Bool.{Bool}
 use Rattle.model.specs.Tasks.{State}
-use borrow.Author.Rules.{rules}
 use Rattle.source_state.proofs.State.step.Goals as goal
 
 pub returns : goal.returns
