@@ -5,12 +5,15 @@ use Prim.Native.Nat.{ℕ, suc}
 use native.Mathlib.Omega.{arith}
 use mathlib.Core.Bool.{Bool, true, false, not, cond, ◌||◌}
 use mathlib.Core.Option.{some}
-use mathlib.Core.List.{List, ◌++◌, append-nil}
+use mathlib.Core.List.{List, [], ◌++◌, append-nil}
 use lib.Dec.{ltb}
 use lib.ListN.{length, take, length-take}
 use lib.Seq.{take_all}
 use lib.IntN.{ℤ}
 use borrow.Author.Tests.{lt-ltb, ltb-true, ltb-false}
+use Rattle.std.specs.Io.KnownBytes.{Appends}
+use Rattle.std.proofs.Common.{Option, append_assoc}
+use Rattle.std.proofs.KnownBytes.{Appends-nil, Appends-trans}
 use Rattle.model.specs.Systems.{provided}
 use Rattle.model.specs.Listing.{no_file, too_large, listing, listing_program_of}
 use Rattle.model.proofs.ReadingLaws.{clash}
@@ -63,6 +66,23 @@ module _ {line text : List ℕ} (e : line ≡ text) {after : List ℕ} {r : Part
     counts = l.counts;
     pending = subst (λ (z : Rest). Pending z p marks numbers values modes) (sym l.over) tt;
   }
+
+-- ---- a text that is written part by part: what was written so far, and what is left
+pub record Going (a b : Option (List ℕ)) (text left : List ℕ) : Type 0 where
+  pub written : List ℕ
+  pub wrote : Appends a b written
+  pub parts : text ≡ written ++ left
+
+pub going-start : (a : Option (List ℕ)) (text : List ℕ) → Going a a text text
+going-start a text = record { written = []; wrote = Appends-nil a; parts = refl }
+
+pub going-next : {a b : Option (List ℕ)} {text left : List ℕ} → Going a b text left → (c : Option (List ℕ)) (part rest : List ℕ)
+    → left ≡ part ++ rest → Appends b c part → Going a c text rest
+going-next {a} {b} g c part rest e w = record {
+  written = g.written ++ part;
+  wrote = Appends-trans a b c g.written part g.wrote w;
+  parts = g.parts ∙ ap (λ z. g.written ++ z) e ∙ sym (append_assoc g.written part rest);
+}
 
 -- ---- one byte more than the program takes is enough of a file
 more : (n : ℕ) (s : List ℕ) → ltb n (length s) ≡ true → ltb n (length (take (suc n) s)) ≡ true
