@@ -42,6 +42,7 @@ fn only_line(out: &mut [u8], line: &[u8]) -> Part
 
 // The first part of the program's output for what the two files hold, at the front of the output, and what is left behind it; rows and state are
 // made in arrays of zeros. What is handed in for a file that can't be read is not looked at.
+#[tactic(auto, using(crate::proofs::Printing::first_no_file, crate::proofs::Printing::first_too_large, crate::proofs::Printing::first_listing))]
 fn first_part(
     has_task: bool,
     task: &[u8],
@@ -187,11 +188,7 @@ fn read_file(files: &impl Files, path: &[u8], buffer: &mut [u8]) -> Loaded
 }
 
 // Prints the listing of a task and a plan, by the names of their files.
-pub fn list_files(
-    rt: &(impl Files + Print),
-    task_path: &[u8],
-    plan_path: &[u8],
-) -> io::Result<()> {
+pub fn list_files(rt: &(impl Files + Print), task_path: &[u8], plan_path: &[u8]) -> io::Result<()> {
     let mut task = [0u8; 16385];
     let mut plan = [0u8; 32769];
     let task_read = read_file(rt, task_path, &mut task);

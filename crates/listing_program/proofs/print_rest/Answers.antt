@@ -1,6 +1,6 @@
 -- `listing_program::print_rest` meets its contract: a part that was written is what was left in front of what is left now. Assumes nothing.
-use Rattle.std.proofs.Common.{◌≤◌, length, arith}
-use Rattle.listing_program.proofs.Printing.{Going, going-next}
+use Rattle.std.proofs.Common.{arith}
+use Rattle.listing_program.proofs.Printing.{going-next}
 use Rattle.listing_program.proofs.print_rest.Goals as goal
 
 pub loop-left-preserved : goal.loop-left-preserved

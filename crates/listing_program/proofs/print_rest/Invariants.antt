@@ -12,7 +12,7 @@ invariant-loop-left g l = record {
   pending : Pending l.left (plan_numbers l.plan) l.marks l.numbers l.values l.modes;
   going : Going (g.W.Write.contents l.initial.to) (g.W.Write.contents l.to)
       (left_of l.initial.left (plan_numbers l.plan) l.marks l.numbers l.initial.values l.initial.modes)
-      (left_of l.left (plan_numbers l.plan) l.marks l.numbers l.values l.modes)
+      (left_of l.left (plan_numbers l.plan) l.marks l.numbers l.values l.modes);
 }
 
 abbrev pub decreases-loop-left : goal.decreases-loop-left
