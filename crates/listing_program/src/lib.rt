@@ -1,24 +1,28 @@
 // The listing program: what it prints for what its two files hold, and the files themselves.
 //
-// What is read and what is written can't be stated. So far as a contract reaches, the bytes that `print_files` hands out one after the other
-// are the program's output for what the two files hold, `listing_program_of`: `first_part` ensures that this is its bytes and what is left then;
-// `listing::put_part`, that what was left is its bytes and what is left then; and the loop ends where nothing is left. It is proved that it ends,
-// and that nothing is read or stored out of bounds.
+// What a file gives and what reaches the standard output can't be stated. So far as a contract reaches, `print_files` writes the program's output
+// for what the two files hold, `listing_program_of`, and nothing more, wherever it writes: `first_part` ensures that this is its bytes and what is
+// left then; `listing::put_part`, that what was left is its bytes and what is left then; and the loop ends where nothing is left. It is proved
+// that it ends, and that nothing is read or stored out of bounds.
 #![tactic(auto)]
 
-ghost use Rattle.std.specs.Prelude.{◌≡◌, ◌≤◌, length, take, replicate, pos};
+ghost use Rattle.std.specs.Prelude.{◌≡◌, ◌≤◌, OnOk, length, take, replicate, pos};
+ghost use Rattle.std.specs.Io.KnownBytes.{Appends};
 ghost use Rattle.io.specs.Counts.{IsPrefixLen};
 ghost use Rattle.model.specs.Systems.{provided};
 ghost use Rattle.model.specs.Plans.{plan_numbers};
 ghost use Rattle.model.specs.Listing.{listing_program_of};
 ghost use Rattle.source_step.specs.Sizes.{VARIABLES, MODES};
 ghost use Rattle.source_step.specs.Ready.{blank_marks, blank_numbers};
-ghost use Rattle.listing.specs.Parts.{PART, Pending};
+ghost use Rattle.listing.specs.Parts.{PART, Pending, left_of};
 ghost use Rattle.listing_program.specs.Printed.{OnlyLine, FirstPart};
 
-use libc::STDOUT_FILENO;
 use listing::{PART, Part, Rest};
 use source_step::{MARKS, MODES, NUMBERS, ROWS, VARIABLES};
+use std::fs::File;
+use std::io::{Read, Write};
+use std::rt::Files;
+use std::{io, str};
 
 // How many bytes the program takes of each file.
 const TASK_LIMIT: usize = 16384;
@@ -38,6 +42,7 @@ fn only_line(out: &mut [u8], line: &[u8]) -> Part
 
 // The first part of the program's output for what the two files hold, at the front of the output, and what is left behind it; rows and state are
 // made in arrays of zeros. What is handed in for a file that can't be read is not looked at.
+#[tactic(auto, using(crate::proofs::Printing::first_no_file, crate::proofs::Printing::first_too_large, crate::proofs::Printing::first_listing))]
 fn first_part(
     has_task: bool,
     task: &[u8],
@@ -66,8 +71,9 @@ fn first_part(
     }
 }
 
-// Prints what is left of a listing, part by part, each in the same output.
-fn print_rest(
+// Writes what is left of a listing, part by part, each in the same output.
+fn print_rest<W: Write>(
+    to: &mut W,
     rest: Rest,
     plan: &[u8],
     out: &mut [u8],
@@ -75,20 +81,32 @@ fn print_rest(
     numbers: &[[i64; NUMBERS]],
     values: &mut [i64; VARIABLES],
     modes: &mut [u16; MODES],
-)
+) -> io::Result<()>
     requires { (PART ≤ length out.old) × Pending rest (plan_numbers plan.now) marks.now numbers.now values.old modes.old }
+    ensures { OnOk result (Appends (W.contents to.old) (W.contents to.new)
+        (left_of rest (plan_numbers plan.now) marks.now numbers.now values.old modes.old)) }
 {
     let mut left = rest;
     while listing::any_left(left) {
         let part = listing::put_part(out, plan, left, marks, numbers, values, modes);
         let count = part.count;
-        io::write_all(STDOUT_FILENO, &out[..count]);
+        to.write_all(&out[..count])?;
         left = part.rest;
     }
+    Ok(())
 }
 
-// Prints the program's output for what the two files hold.
-fn print_files(has_task: bool, task: &[u8], has_plan: bool, plan: &[u8]) {
+// Writes the program's output for what the two files hold.
+fn print_files<W: Write>(
+    to: &mut W,
+    has_task: bool,
+    task: &[u8],
+    has_plan: bool,
+    plan: &[u8],
+) -> io::Result<()>
+    ensures { OnOk result (Appends (W.contents to.old) (W.contents to.new)
+        (listing_program_of (provided has_task task.now) (provided has_plan plan.now))) }
+{
     let mut marks = [[0u16; MARKS]; ROWS];
     let mut numbers = [[0i64; NUMBERS]; ROWS];
     let mut values = [0i64; VARIABLES];
@@ -106,9 +124,10 @@ fn print_files(has_task: bool, task: &[u8], has_plan: bool, plan: &[u8]) {
         &mut modes,
     );
     let count = first.count;
-    io::write_all(STDOUT_FILENO, &out[..count]);
+    to.write_all(&out[..count])?;
     let rest = first.rest;
     print_rest(
+        to,
         rest,
         plan,
         &mut out,
@@ -116,7 +135,7 @@ fn print_files(has_task: bool, task: &[u8], has_plan: bool, plan: &[u8]) {
         &numbers,
         &mut values,
         &mut modes,
-    );
+    )
 }
 
 // What reading a file found: whether it could be opened and read, and how many bytes stand in the buffer.
@@ -126,37 +145,62 @@ struct Loaded {
     len: usize,
 }
 
+// Reads until the buffer is full, the input ends or a read fails, and answers how many bytes stand at the front of the buffer.
+fn read_full(file: &mut impl Read, buffer: &mut [u8]) -> usize
+    ensures { IsPrefixLen result buffer.new }
+{
+    let mut done = 0;
+    while done < buffer.len() {
+        match file.read(&mut buffer[done..]) {
+            Ok(0) => return done,
+            Ok(n) => done += n,
+            Err(_) => return done,
+        }
+    }
+    done
+}
+
 // Reads a file into a buffer that has one byte more than the program takes: a file that is too large fills it. What can be opened and not read,
-// as a folder, is not found either: a read of no bytes tells.
-fn read_file(path: &[u8], buffer: &mut [u8]) -> Loaded
+// as a folder, is not found either: a read of no bytes tells. Nor is a path found that is no text.
+fn read_file(files: &impl Files, path: &[u8], buffer: &mut [u8]) -> Loaded
     ensures { IsPrefixLen result.len buffer.new }
 {
-    let file = os::open_read(path);
-    if file < 0 {
+    let Ok(name) = str::from_utf8(path) else {
+        return Loaded {
+            found: false,
+            len: 0,
+        };
+    };
+    let Ok(mut file) = File::open(files, name) else {
+        return Loaded {
+            found: false,
+            len: 0,
+        };
+    };
+    if file.read(&mut buffer[..0]).is_err() {
         return Loaded {
             found: false,
             len: 0,
         };
     }
-    if libc::read(file, &mut buffer[..0]) < 0 {
-        libc::close(file);
-        return Loaded {
-            found: false,
-            len: 0,
-        };
-    }
-    let len = io::read_full(file, buffer);
-    libc::close(file);
+    let len = read_full(&mut file, buffer);
     Loaded { found: true, len }
 }
 
 // Prints the listing of a task and a plan, by the names of their files.
-pub fn list_files(task_path: &[u8], plan_path: &[u8]) {
+pub fn list_files(rt: &(impl Files + Print), task_path: &[u8], plan_path: &[u8]) -> io::Result<()> {
     let mut task = [0u8; 16385];
     let mut plan = [0u8; 32769];
-    let task_read = read_file(task_path, &mut task);
-    let plan_read = read_file(plan_path, &mut plan);
+    let task_read = read_file(rt, task_path, &mut task);
+    let plan_read = read_file(rt, plan_path, &mut plan);
     let n = task_read.len;
     let m = plan_read.len;
-    print_files(task_read.found, &task[..n], plan_read.found, &plan[..m]);
+    let mut to = io::writer(rt);
+    print_files(
+        &mut to,
+        task_read.found,
+        &task[..n],
+        plan_read.found,
+        &plan[..m],
+    )
 }

@@ -1,81 +1,77 @@
 // The fields of a line, each behind a space, and its start and end.
-use libc::STDOUT_FILENO;
+use std::io;
 
-pub(crate) fn start(number: u64, name: &[u8]) {
-    io::print_decimal(STDOUT_FILENO, number);
-    word(name);
+pub(crate) fn start(rt: &impl Print, number: u64, name: &[u8]) -> io::Result<()> {
+    print!(rt; "{number}")?;
+    word(rt, name)
 }
 
-pub(crate) fn end() {
-    io::write_all(STDOUT_FILENO, b"\n");
+pub(crate) fn end(rt: &impl Print) -> io::Result<()> {
+    rt.write_all(b"\n")
 }
 
-fn space() {
-    io::write_all(STDOUT_FILENO, b" ");
+fn space(rt: &impl Print) -> io::Result<()> {
+    rt.write_all(b" ")
 }
 
-fn word(text: &[u8]) {
-    space();
-    io::write_all(STDOUT_FILENO, text);
+fn word(rt: &impl Print, text: &[u8]) -> io::Result<()> {
+    space(rt)?;
+    rt.write_all(text)
 }
 
-pub(crate) fn natural(n: u64) {
-    space();
-    io::print_decimal(STDOUT_FILENO, n);
+pub(crate) fn natural(rt: &impl Print, n: u64) -> io::Result<()> {
+    print!(rt; " {n}")
 }
 
-fn integer(z: i64) {
-    space();
+fn integer(rt: &impl Print, z: i64) -> io::Result<()> {
     let mut digits = [0u8; 20];
     let size = listing_text::put_integer(&mut digits, 0, z);
-    io::write_all(STDOUT_FILENO, file_actions::part(&digits, 0, size));
+    word(rt, file_actions::part(&digits, 0, size))
 }
 
-pub(crate) fn refusal(number: u8, place: u64) {
-    word(b"refused");
-    natural(number as u64);
-    natural(place);
+pub(crate) fn refusal(rt: &impl Print, number: u8, place: u64) -> io::Result<()> {
+    word(rt, b"refused")?;
+    natural(rt, number as u64)?;
+    natural(rt, place)
 }
 
 // What a function for C answered: the refusal, where there is one.
-pub(crate) fn answer(number: u32, place: u64) {
+pub(crate) fn answer(rt: &impl Print, number: u32, place: u64) -> io::Result<()> {
     if number != 0 {
-        word(b"refused");
-        natural(number as u64);
-        natural(place);
+        word(rt, b"refused")?;
+        natural(rt, number as u64)?;
+        natural(rt, place)?;
     }
+    Ok(())
 }
 
-pub(crate) fn integers(values: &[i64]) {
-    let mut i = 0;
-    while i < values.len() {
-        integer(values[i]);
-        i += 1;
+pub(crate) fn integers(rt: &impl Print, values: &[i64]) -> io::Result<()> {
+    for value in values {
+        integer(rt, *value)?;
     }
+    Ok(())
 }
 
-fn mode(value: u16) {
-    natural(value as u64);
+fn mode(rt: &impl Print, value: u16) -> io::Result<()> {
+    natural(rt, value as u64)
 }
 
-pub(crate) fn modes(values: &[u16]) {
-    let mut i = 0;
-    while i < values.len() {
-        mode(values[i]);
-        i += 1;
+pub(crate) fn modes(rt: &impl Print, values: &[u16]) -> io::Result<()> {
+    for value in values {
+        mode(rt, *value)?;
     }
+    Ok(())
 }
 
-fn byte(value: u8) {
-    io::print_hex(STDOUT_FILENO, value as u64, 2);
+fn byte(rt: &impl Print, value: u8) -> io::Result<()> {
+    print!(rt; "{value:02x}")
 }
 
 // Two digits a byte.
-pub(crate) fn bytes(all: &[u8]) {
-    space();
-    let mut i = 0;
-    while i < all.len() {
-        byte(all[i]);
-        i += 1;
+pub(crate) fn bytes(rt: &impl Print, all: &[u8]) -> io::Result<()> {
+    space(rt)?;
+    for value in all {
+        byte(rt, *value)?;
     }
+    Ok(())
 }

@@ -7,17 +7,21 @@ mod lines;
 mod outputs;
 mod states;
 
-ghost use Rattle.std.specs.Prelude.{◌≤◌, ◌≡◌, length};
+ghost use Rattle.std.specs.Prelude.{◌≡◌, ◌≤◌, IfOk, length};
+
+use std::fs::File;
+use std::io;
+use std::io::Read;
 
 // The bytes in front of a record's name.
 const HEAD: usize = 16;
 
 // Runs the record at the start of s, and answers how many bytes it has: 0 where no whole record is left.
-fn run_record(s: &[u8], number: u64) -> usize
-    ensures { result ≤ length s.now }
+fn run_record(rt: &impl Print, s: &[u8], number: u64) -> io::Result<usize>
+    ensures { IfOk result (λ size. size ≤ length s.now) }
 {
     if s.len() < HEAD {
-        return 0;
+        return Ok(0);
     }
     let entry = s[0];
     let name_end = HEAD + integers::number_at(s, 1, 1) as usize;
@@ -26,26 +30,34 @@ fn run_record(s: &[u8], number: u64) -> usize
     let lent = integers::number_at(s, 6, 2);
     let k = states::whole(integers::number_at(s, 8, 4), integers::number_at(s, 12, 4)) as usize;
     if s.len() < end {
-        return 0;
+        return Ok(0);
     }
-    lines::start(number, &s[HEAD..name_end]);
-    calls::run(entry, &s[name_end..task_end], &s[task_end..end], k, lent);
-    lines::end();
-    end
+    lines::start(rt, number, &s[HEAD..name_end])?;
+    calls::run(
+        rt,
+        entry,
+        &s[name_end..task_end],
+        &s[task_end..end],
+        k,
+        lent,
+    )?;
+    lines::end(rt)?;
+    Ok(end)
 }
 
 // Runs the records of the file, in their order.
-fn run_all(s: &[u8]) {
+fn run_all(rt: &impl Print, s: &[u8]) -> io::Result<()> {
     let mut at = 0;
     let mut number = 0;
     while at < s.len() {
-        let size = run_record(&s[at..], number);
+        let size = run_record(rt, &s[at..], number)?;
         if size == 0 {
-            return;
+            return Ok(());
         }
         at += size;
         number += 1;
     }
+    Ok(())
 }
 
 // Zeros for the file. The contract gives only the length, so that no proof looks into the array.
@@ -55,14 +67,24 @@ fn room() -> [u8; 300000]
     [0; 300000]
 }
 
-fn main() {
-    let file = os::open_read(b"cases.bin");
-    if file < 0 {
-        os::fail(b"cases.bin");
-        return;
+// Reads until the buffer is full or the input ends, and answers how many bytes stand at the front of the buffer.
+fn read_full(file: &mut impl Read, buffer: &mut [u8]) -> io::Result<usize>
+    ensures { IfOk result (λ size. size ≤ length buffer.new) }
+{
+    let mut done = 0;
+    while done < buffer.len() {
+        let n = file.read(&mut buffer[done..])?;
+        if n == 0 {
+            return Ok(done);
+        }
+        done += n;
     }
+    Ok(done)
+}
+
+fn main(rt: HostRuntime) -> io::Result<()> {
+    let mut file = File::open(&rt, "cases.bin")?;
     let mut buffer = room();
-    let size = io::read_full(file, &mut buffer);
-    libc::close(file);
-    run_all(&buffer[..size]);
+    let size = read_full(&mut file, &mut buffer)?;
+    run_all(&rt, &buffer[..size])
 }

@@ -4,57 +4,58 @@
 
 ghost use Rattle.std.specs.Prelude.{length, ◌≤◌};
 
-use libc::STDOUT_FILENO;
+use std::io;
 
 // The first bytes of a text, so many, as a line.
-fn line(text: &[u8], size: usize)
+fn line(rt: &impl Print, text: &[u8], size: usize) -> io::Result<()>
     requires { size ≤ length text.now }
 {
-    io::write_all(STDOUT_FILENO, &text[..size]);
-    io::write_all(STDOUT_FILENO, b"\n");
+    rt.write_all(&text[..size])?;
+    rt.write_all(b"\n")
 }
 
-fn natural(n: u64) {
+fn natural(rt: &impl Print, n: u64) -> io::Result<()> {
     let mut text = [0u8; 20];
     let size = listing_text::put_natural(&mut text, 0, n);
-    line(&text, size);
+    line(rt, &text, size)
 }
 
-fn integer(z: i64) {
+fn integer(rt: &impl Print, z: i64) -> io::Result<()> {
     let mut text = [0u8; 20];
     let size = listing_text::put_integer(&mut text, 0, z);
-    line(&text, size);
+    line(rt, &text, size)
 }
 
-fn number(n: u64) {
-    natural(n);
+fn number(rt: &impl Print, n: u64) -> io::Result<()> {
+    natural(rt, n)?;
     if n < 9223372036854775808 {
         let z = n as i64;
-        integer(z);
-        integer(-z);
+        integer(rt, z)?;
+        integer(rt, -z)?;
     }
+    Ok(())
 }
 
-fn around(n: u64)
+fn around(rt: &impl Print, n: u64) -> io::Result<()>
     requires { (1 ≤ n) × (n ≤ 10000000000000000000) }
 {
-    number(n - 1);
-    number(n);
-    number(n + 1);
+    number(rt, n - 1)?;
+    number(rt, n)?;
+    number(rt, n + 1)
 }
 
-fn powers() {
+fn powers(rt: &impl Print) -> io::Result<()> {
     let mut power: u64 = 1;
     while power <= 1000000000000000000 {
-        around(power);
+        around(rt, power)?;
         power *= 10;
     }
-    around(power);
+    around(rt, power)
 }
 
-fn main() {
-    powers();
-    number(9223372036854775807);
-    integer(-9223372036854775808);
-    number(18446744073709551615);
+fn main(rt: HostRuntime) -> io::Result<()> {
+    powers(&rt)?;
+    number(&rt, 9223372036854775807)?;
+    integer(&rt, -9223372036854775808)?;
+    number(&rt, 18446744073709551615)
 }

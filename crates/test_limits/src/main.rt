@@ -4,61 +4,63 @@
 
 ghost use Rattle.std.specs.Prelude.{◌<◌, ◌≡◌, length};
 
-use libc::STDOUT_FILENO;
 use lists::Written;
+use std::io;
 
-fn word(text: &[u8]) {
-    io::write_all(STDOUT_FILENO, text);
+fn word(rt: &impl Print, text: &[u8]) -> io::Result<()> {
+    rt.write_all(text)
 }
 
-fn natural(n: u64) {
-    word(b" ");
-    io::print_decimal(STDOUT_FILENO, n);
+fn natural(rt: &impl Print, n: u64) -> io::Result<()> {
+    print!(rt; " {n}")
 }
 
-fn refusal(number: u8, place: u64) {
-    word(b" refused");
-    natural(number as u64);
-    natural(place);
+fn refusal(rt: &impl Print, number: u8, place: u64) -> io::Result<()> {
+    word(rt, b" refused")?;
+    natural(rt, number as u64)?;
+    natural(rt, place)
 }
 
-fn end() {
-    word(b"\n");
+fn end(rt: &impl Print) -> io::Result<()> {
+    word(rt, b"\n")
 }
 
 // Reads a source file: its counts.
-fn read(name: &[u8], task: &[u8]) {
-    word(name);
+fn read(rt: &impl Print, name: &[u8], task: &[u8]) -> io::Result<()> {
+    word(rt, name)?;
     match file_check::check_source(task) {
-        file_check::Verdict::Rejected(number, place) => refusal(number, place),
+        file_check::Verdict::Rejected(number, place) => refusal(rt, number, place)?,
         file_check::Verdict::Accepted(variables, modes, actions) => {
-            natural(variables as u64);
-            natural(modes as u64);
-            natural(actions as u64);
+            natural(rt, variables as u64)?;
+            natural(rt, modes as u64)?;
+            natural(rt, actions as u64)?;
         }
     }
-    end();
+    end(rt)
 }
 
 // V with a lower bound, an upper bound and a start of 0.
-fn read_bounds() {
+fn read_bounds(rt: &impl Print) -> io::Result<()> {
     read(
+        rt,
         b"bounds -10000 10000",
         b"V\xf0\xd8\xff\xff\x10\x27\0\0\0\0\0\0GZ",
-    );
+    )?;
     read(
+        rt,
         b"bounds -10000 10001",
         b"V\xf0\xd8\xff\xff\x11\x27\0\0\0\0\0\0GZ",
-    );
+    )?;
     read(
+        rt,
         b"bounds -10001 10000",
         b"V\xef\xd8\xff\xff\x10\x27\0\0\0\0\0\0GZ",
-    );
+    )
 }
 
-fn read_actions() {
-    read(b"actions 32", b"AAAAAAAAAAAAAAAAAAAAAAAAAAAAAAAAGZ");
-    read(b"actions 33", b"AAAAAAAAAAAAAAAAAAAAAAAAAAAAAAAAAGZ");
+fn read_actions(rt: &impl Print) -> io::Result<()> {
+    read(rt, b"actions 32", b"AAAAAAAAAAAAAAAAAAAAAAAAAAAAAAAAGZ")?;
+    read(rt, b"actions 33", b"AAAAAAAAAAAAAAAAAAAAAAAAAAAAAAAAAGZ")
 }
 
 // Zeros for two bytes more than the longest plan. The contract gives only the length, so that no proof looks into the array.
@@ -69,22 +71,22 @@ fn room() -> [u8; 2000002]
 }
 
 // Judges a plan of so many bytes, all of them 0, against a task whose only action asks for nothing: the count of steps.
-fn judge(name: &[u8], bytes: isize) {
+fn judge(rt: &impl Print, name: &[u8], bytes: usize) -> io::Result<()> {
     let plan = room();
-    let size = io::count(bytes, &plan);
-    word(name);
+    let size = bytes.min(plan.len());
+    word(rt, name)?;
     let judgement = source_walk::judge(b"AGZ", &plan[..size]);
     let verdict = judgement.verdict;
     match verdict {
-        source_walk::Verdict::Refused(number, place) => refusal(number, place),
-        source_walk::Verdict::Valid(steps) => natural(steps),
+        source_walk::Verdict::Refused(number, place) => refusal(rt, number, place)?,
+        source_walk::Verdict::Valid(steps) => natural(rt, steps)?,
     }
-    end();
+    end(rt)
 }
 
-fn judge_plans() {
-    judge(b"plan 1000000", 2000000);
-    judge(b"plan 1000001", 2000002);
+fn judge_plans(rt: &impl Print) -> io::Result<()> {
+    judge(rt, b"plan 1000000", 2000000)?;
+    judge(rt, b"plan 1000001", 2000002)
 }
 
 // The pattern that the output has before the call.
@@ -116,22 +118,22 @@ fn checksum(bytes: &[u8]) -> u64 {
 
 // Expands a plan, with so many bytes of output lent: the length of the result. The checksum of all lent bytes, which had a pattern, follows.
 // In the task, V 0 10000 9998, action 0 is L 0 with w0 9998, of price 19,999 throughout, and action 1 has no effect, of price 1.
-fn expand(name: &[u8], plan: &[u8], lent: isize) {
+fn expand(rt: &impl Print, name: &[u8], plan: &[u8], lent: usize) -> io::Result<()> {
     let mut room = room();
-    let size = io::count(lent, &room);
+    let size = lent.min(room.len());
     let out = &mut room[..size];
     fill(out);
-    word(name);
+    word(rt, name)?;
     match plan_expand::expand(
         b"V\0\0\0\0\x10\x27\0\0\x0e\x27\0\0AL\0\x0e\x27\0\0AGZ",
         plan,
         out,
     ) {
-        Written::Refused(number, place) => refusal(number, place),
-        Written::Bytes(count) => natural(count as u64),
+        Written::Refused(number, place) => refusal(rt, number, place)?,
+        Written::Bytes(count) => natural(rt, count as u64)?,
     }
-    natural(checksum(out));
-    end();
+    natural(rt, checksum(out))?;
+    end(rt)
 }
 
 // Action 0 fifty times, then action 1 fifty-one times: 50 × 19,999 + 50 is 1,000,000.
@@ -145,19 +147,19 @@ fn make_plan() -> [u8; 202] {
     plan
 }
 
-fn expand_plans() {
+fn expand_plans(rt: &impl Print) -> io::Result<()> {
     let plan = make_plan();
     let million = file_actions::part(&plan, 0, 200);
-    expand(b"expansion 1000000", million, 2000002);
-    expand(b"expansion 1000000, output exact", million, 2000000);
-    expand(b"expansion 1000000, output one short", million, 1999999);
-    expand(b"expansion 1000001", &plan, 2000002);
-    expand(b"expansion 1059947", &[0u8; 106], 2000002);
+    expand(rt, b"expansion 1000000", million, 2000002)?;
+    expand(rt, b"expansion 1000000, output exact", million, 2000000)?;
+    expand(rt, b"expansion 1000000, output one short", million, 1999999)?;
+    expand(rt, b"expansion 1000001", &plan, 2000002)?;
+    expand(rt, b"expansion 1059947", &[0u8; 106], 2000002)
 }
 
-fn main() {
-    read_bounds();
-    read_actions();
-    judge_plans();
-    expand_plans();
+fn main(rt: HostRuntime) -> io::Result<()> {
+    read_bounds(&rt)?;
+    read_actions(&rt)?;
+    judge_plans(&rt)?;
+    expand_plans(&rt)
 }

@@ -2,14 +2,10 @@
 use mathlib.Core.Path.{◌≡◌, sym}
 use Prim.Native.Nat.{ℕ}
 use lib.ListN.{length, replicate, length-replicate}
-use Rattle.test_limits.proofs.room.Statement.{statement}
-use Rattle.test_limits.proofs.room.Tie as tie
+use Rattle.test_limits.proofs.room.Goals as goal
 
 size : (n : ℕ) → n ≡ length {A = ℕ} (replicate n 0)
 size n = sym (length-replicate n 0)
 
-returns : tie.Need-returns
+pub returns : goal.returns
 returns c = size 2000002
-
-pub room-spec : {M : Type 1} → statement M
-room-spec = tie.close (tie.spec returns)
