@@ -1,13 +1,9 @@
 -- `lowering_file::any_several` meets its contract: the loop goes over all actions. Assumes nothing.
-use mathlib.Core.Path.{◌≡◌, refl}
-use Prim.Native.Nat.{◌-◌}
+use mathlib.Core.Path.{refl}
 use native.Mathlib.Omega.{arith}
-use lib.ListN.{length}
-use Rattle.file_parts.specs.Layout.{MARKS, NUMBERS}
 use Rattle.file_actions.proofs.Accepted.{bytes-of}
 use Rattle.lowering_file.proofs.Declared.{actions-few}
-use Rattle.lowering_file.proofs.Sums.{Seeking, seeking-start, seeking-next, seeking-end}
-use borrow.Author.Rules.{rules}
+use Rattle.lowering_file.proofs.Sums.{seeking-start, seeking-next, seeking-end}
 use Rattle.lowering_file.proofs.any_several.Goals as goal
 
 pub loop-k-init : goal.loop-k-init

@@ -2,7 +2,6 @@
 use native.Mathlib.Omega.{arith}
 use Rattle.file_actions.proofs.Accepted.{bytes-of}
 use Rattle.lowering_file.proofs.Declared.{placed}
-use borrow.Author.Rules.{rules}
 use Rattle.lowering_file.proofs.find_places.Goals as goal
 
 pub returns : goal.returns

@@ -4,7 +4,6 @@ use Rattle.lists.proofs.Lent.{refusal}
 use Rattle.model.specs.Reading.{Verdict}
 use Rattle.source_step.specs.Accepted.{AcceptedWith}
 use Rattle.lowering_file.proofs.File.{refused-lowers}
-use borrow.Author.Rules.{rules}
 use Rattle.lowering_file.proofs.lower.Goals as goal
 
 pub lower_accepted-requires : goal.lower_accepted-requires

@@ -5,7 +5,6 @@ use Rattle.lists.proofs.Writing.{room-count, room_as, wrote_as}
 use Rattle.lists.proofs.Lent.{counted-short, counted-room, counted-written}
 use Rattle.lowering_file.proofs.Sums.{few-variables, kept_of_lem}
 use Rattle.lowering_file.proofs.File.{file-is, same-long, task-short, accepted-lowers}
-use borrow.Author.Rules.{rules}
 use Rattle.lowering_file.proofs.lower_accepted.Goals as goal
 
 pub find_sums-sums-requires : goal.find_sums-sums-requires

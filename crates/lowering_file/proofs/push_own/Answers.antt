@@ -1,6 +1,5 @@
 -- `lowering_file::push_own` meets its contract: in a task without sums the action has none, and its rows say the same. Assumes nothing.
 use Rattle.lowering_file.proofs.Sums.{none-pushed}
-use borrow.Author.Rules.{rules}
 use Rattle.lowering_file.proofs.push_own.Goals as goal
 
 pub returns-then-sums-eq0 : goal.returns-then-sums-eq0

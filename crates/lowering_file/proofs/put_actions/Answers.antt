@@ -1,16 +1,12 @@
 -- `lowering_file::put_actions` meets its contract: the loop writes what each action becomes. Assumes nothing.
-use mathlib.Core.Path.{◌≡◌, refl}
-use Prim.Native.Nat.{◌-◌}
+use mathlib.Core.Path.{refl}
 use native.Mathlib.Omega.{arith}
 use lib.ListN.{length}
 use Rattle.lists.proofs.Writing.{long}
-use Rattle.file_parts.specs.Layout.{MARKS, NUMBERS}
 use Rattle.lowering_stages.specs.Shapes.{lower_of, upper_of}
 use Rattle.lowering_rows.specs.Macros.{stages_in}
-use Rattle.lowering_file.specs.Held.{kept}
 use Rattle.lowering_file.proofs.Walk.{few-actions, numbers-low, walk_none, own_room, macro-ready, told, goal-sum-is}
-use Rattle.lowering_file.proofs.WalkLoops.{Putting, putting-start, putting-room, putting-next, putting-end}
-use borrow.Author.Rules.{rules}
+use Rattle.lowering_file.proofs.WalkLoops.{putting-start, putting-room, putting-next, putting-end}
 use Rattle.lowering_file.proofs.put_actions.Goals as goal
 
 pub loop-k-init : goal.loop-k-init

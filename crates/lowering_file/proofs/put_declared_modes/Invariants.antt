@@ -1,9 +1,7 @@
 -- `lowering_file::put_declared_modes` meets its contract: the loop writes each M. Assumes nothing.
 use Prim.Native.Nat.{◌-◌}
-use native.Mathlib.Omega.{arith}
 use Rattle.lowering_file.specs.Parts.{mode_bytes, mode_at}
-use Rattle.lowering_rows.proofs.Loops.{Writing, writing_start, writing-room, writing-next, writing-end, writing-long}
-use borrow.Author.Rules.{rules}
+use Rattle.lowering_rows.proofs.Loops.{Writing}
 use Rattle.lowering_file.proofs.put_declared_modes.Given as goal
 
 abbrev pub invariant-loop-i : goal.invariant-loop-i

@@ -1,6 +1,6 @@
 -- `lowering_file::put_declared_starts` meets its contract: the loop writes each U. Assumes nothing.
 use mathlib.Core.Path.{◌≡◌, sym, ap}
-use Prim.Native.Nat.{ℕ, ◌-◌}
+use Prim.Native.Nat.{ℕ}
 use native.Mathlib.Omega.{arith}
 use mir.Facts.{to_z-of_z}
 use mir.Syntax.{w64}
@@ -11,7 +11,7 @@ use lib.IntN.{pos, nat_abs}
 use Rattle.lists.proofs.Writing.{room_as, wrote_as}
 use Rattle.lowering_sums.specs.Views.{start_bytes}
 use Rattle.lists.proofs.Loops.{there-all}
-use Rattle.lists.proofs.WritingLoops.{Going, going_start, going-room, going_next, going_end, going-long}
+use Rattle.lists.proofs.WritingLoops.{going_start, going-room, going_next, going_end, going-long}
 use Rattle.commands.specs.Encoding.{encode}
 use Rattle.commands.specs.declared.Command.TheVariants.{Start}
 use borrow.Author.Rules.{rules}

@@ -4,7 +4,6 @@ use mathlib.Core.List.{List, [], ◌∷◌}
 use Prim.Native.Nat.{ℕ}
 use native.Mathlib.Omega.{arith}
 use lib.ListN.{length-append}
-use borrow.Author.Rules.{rules}
 use Rattle.lists.proofs.Writing.{step, done, room, room_as, wrote_as}
 use Rattle.commands.specs.Table.{letter_g}
 use Rattle.model.specs.Tasks.{RestrictedAction}
@@ -24,14 +23,17 @@ pub put_row-end-requires : goal.put_row-end-requires
 put_row-end-requires c =
     let numbers = c.args.numbers.now in
     let z = sized numbers c.requires.goal_writable.room in
-    let says = c.push_mode_condition.ensures numbers c.requires.goal_writable.numbers_long in record { writable = writable says
+    let says = c.push_mode_condition.ensures numbers c.requires.goal_writable.numbers_long in record {
+      writable = writable says
           (record {
             conditions = z.conditions;
             mode_conditions = omega (arith, z.mode_conditions, length-append (row_is c.args.marks.now numbers).mode_conditions ((c.args.control, 0) ∷ []));
             mode_effects = z.mode_effects;
             additions = z.additions;
           })
-          (record { constants = c.requires.goal_writable.fit.constants; amounts = c.requires.goal_writable.fit.amounts }); room = room_as (sym (ap bytes says.is)) (room c.requires.room (goal-begun _ _ _)) }
+          (record { constants = c.requires.goal_writable.fit.constants; amounts = c.requires.goal_writable.fit.amounts });
+      room = room_as (sym (ap bytes says.is)) (room c.requires.room (goal-begun _ _ _));
+    }
 
 pub put_end-requires : goal.put_end-requires
 put_end-requires c =

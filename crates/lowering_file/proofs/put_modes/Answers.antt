@@ -2,7 +2,6 @@
 use Rattle.lowering_file.specs.Parts.{modes_in}
 use Rattle.lists.proofs.Writing.{step, done, room}
 use Rattle.lowering_file.proofs.File.{modes-begun}
-use borrow.Author.Rules.{rules}
 use Rattle.lowering_file.proofs.put_modes.Goals as goal
 
 pub put_declared_modes-last-requires : goal.put_declared_modes-last-requires

@@ -8,7 +8,6 @@ use Rattle.lowering_sums.specs.Views.{sums_in}
 use Rattle.lowering_file.specs.Parts.{holds_of}
 use Rattle.lowering_file.proofs.File.{starts-begun}
 use mathlib.Core.Path.{refl}
-use borrow.Author.Rules.{rules}
 use Rattle.lowering_file.proofs.put_starts.Goals as goal
 use Rattle.lowering_file.proofs.put_starts.Lts as lts
 use Rattle.lowering_file.proofs.put_starts.Reads as reads

@@ -5,7 +5,6 @@ use Rattle.file_actions.proofs.Accepted.{bytes-of}
 use Rattle.source_step.proofs.Judging.{accepted-task, zero_room}
 use Rattle.source_sums.specs.Found.{task_of}
 use Rattle.lowering_file.proofs.Declared.{declared}
-use borrow.Author.Rules.{rules}
 use Rattle.lowering_file.proofs.read_declarations.Goals as goal
 
 pub returns : goal.returns
