@@ -4,7 +4,7 @@ use mathlib.Core.Path.{◌≡◌, refl, sym, ap, ap₂, ◌∙◌}
 use Prim.Native.Nat.{ℕ, ◌≤◌}
 use native.Mathlib.Omega.{arith}
 use mathlib.Core.List.{List, map, ◌++◌}
-use lib.ListN.{length, take, drop, replicate, length-map, take-append-drop}
+use lib.ListN.{length, drop, replicate, length-map, take-append-drop}
 use lib.IntN.{ℤ, pos}
 use Rattle.lists.specs.Answer.{given, refused}
 use Rattle.model.specs.Tasks.{SourceVariable, SourceTask, RestrictedTask}

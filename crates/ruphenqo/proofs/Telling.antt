@@ -6,7 +6,7 @@ use mathlib.Core.Option.{Option, none, some, none-ne-some, some-injective}
 use Rattle.lists.specs.Answer.{Answer, given, refused}
 use Rattle.model.specs.Tasks.{State}
 use Rattle.restricted_state.specs.Alone.{step_answer_of}
-use Rattle.ruphenqo.specs.Told.{Told, code_of, place_of, result_or, end_over, itself}
+use Rattle.ruphenqo.specs.Told.{Told, end_over, itself}
 
 pub told-as : {A B : Type 0} {answer other : Answer A} {f : A → B} {old : B} {code place : ℕ} {after : B} → answer ≡ other → Told answer f old code place after → Told other f old code place after
 told-as {f = f} {old = old} {code = code} {place = place} {after = after} e h = subst (λ a. Told a f old code place after) e h

@@ -6,7 +6,6 @@ use Rattle.source_step.proofs.Tables.{usables}
 use Rattle.source_walk.specs.Opening.{Started}
 use Rattle.listing.proofs.Listing.{refused-listing, begun}
 use Rattle.listing.proofs.Longest.{refused-most}
-use borrow.Author.Rules.{rules}
 use Rattle.listing.proofs.begin.Goals as goal
 
 pub open-requires : goal.open-requires

@@ -2,7 +2,6 @@
 use mathlib.Core.Path.{ap}
 use Rattle.source_walk.specs.Walk.{Judging}
 use Rattle.listing.specs.Parts.{rest_by}
-use borrow.Author.Rules.{rules}
 use Rattle.listing.proofs.judge.Goals as goal
 
 pub returns-in-Refused : goal.returns-in-Refused

@@ -3,7 +3,6 @@
 use native.Mathlib.Omega.{arith}
 use Rattle.listing.specs.Lines.{for_these}
 use Rattle.listing.proofs.Parts.{listing-short, listing-room, listing-written}
-use borrow.Author.Rules.{rules}
 use Rattle.listing.proofs.list.Goals as goal
 
 pub returns-then-out-need : goal.returns-then-out-need

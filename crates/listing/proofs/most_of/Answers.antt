@@ -1,6 +1,5 @@
 -- `listing::most_of` meets its contract, by what is left. Assumes nothing.
 use native.Mathlib.Omega.{arith}
-use borrow.Author.Rules.{rules}
 use Rattle.listing.proofs.most_of.Goals as goal
 
 pub overflow_mul-result : goal.overflow_mul-result

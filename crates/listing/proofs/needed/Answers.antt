@@ -3,7 +3,6 @@ use native.Mathlib.Omega.{arith}
 use Rattle.model.specs.Plans.{plan_numbers}
 use Rattle.listing.specs.Lines.{for_most}
 use Rattle.listing.proofs.Parts.{most-fits, need-none, need-counted}
-use borrow.Author.Rules.{rules}
 use Rattle.listing.proofs.needed.Goals as goal
 
 pub most_of-requires : goal.most_of-requires

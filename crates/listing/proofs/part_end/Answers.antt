@@ -1,6 +1,5 @@
 -- `listing::part_end` meets its contract. Assumes nothing.
 use Rattle.listing.proofs.Parts.{end-early, end-last}
-use borrow.Author.Rules.{rules}
 use Rattle.listing.proofs.part_end.Goals as goal
 
 pub returns-then-most-steps : goal.returns-then-most-steps

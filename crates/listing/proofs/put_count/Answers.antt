@@ -6,7 +6,6 @@ use Rattle.lists.proofs.Writing.{Left, start, step, done, room}
 use Rattle.model.specs.Listing.{decimal}
 use Rattle.listing.specs.Lines.{field}
 use Rattle.listing.proofs.Lines.{natural}
-use borrow.Author.Rules.{rules}
 use Rattle.listing.proofs.put_count.Goals as goal
 use Rattle.listing.proofs.put_count.Lts as lts
 use Rattle.listing.proofs.put_count.Reads as reads

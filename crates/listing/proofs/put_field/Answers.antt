@@ -5,7 +5,6 @@ use mir.Facts.{to_z-of_z}
 use Rattle.lists.proofs.Writing.{Left, start, step, done, room}
 use Rattle.model.specs.Listing.{decimal_signed}
 use Rattle.listing.specs.Lines.{field}
-use borrow.Author.Rules.{rules}
 use Rattle.listing.proofs.put_field.Goals as goal
 use Rattle.listing.proofs.put_field.Lts as lts
 use Rattle.listing.proofs.put_field.Reads as reads

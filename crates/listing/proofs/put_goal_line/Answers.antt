@@ -5,7 +5,6 @@ use native.Mathlib.Omega.{arith}
 use mathlib.Core.List.{List, [], ◌∷◌}
 use lib.ListN.{drop}
 use lib.IntN.{pos}
-use borrow.Author.Rules.{rules}
 use Rattle.lists.proofs.Writing.{Left, start, step, done, room, long, wrote-long}
 use Rattle.model.specs.Listing.{goal_line}
 use Rattle.listing.specs.Lines.{field}

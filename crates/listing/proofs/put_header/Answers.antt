@@ -2,7 +2,6 @@
 use mathlib.Core.Path.{refl, sym}
 use Rattle.lists.proofs.Writing.{room_as, wrote_as}
 use Rattle.listing.proofs.Parts.{no_header, first-header}
-use borrow.Author.Rules.{rules}
 use Rattle.listing.proofs.put_header.Goals as goal
 
 pub returns-then-next-gt0 : goal.returns-then-next-gt0

@@ -1,28 +1,22 @@
 -- `listing::put_lines` meets its contract. The loop's invariant is `Writing`: what is left is still to be written, and to be paid. Assumes nothing.
-use mathlib.Core.Path.{◌≡◌, refl, sym, ◌∙◌}
-use Prim.Native.Nat.{◌-◌}
+use mathlib.Core.Path.{refl, sym, ◌∙◌}
 use native.Mathlib.Omega.{arith}
-use lib.ListN.{length}
 use borrow.Author.Tests.{not-true, not-false}
 use Rattle.lists.proofs.Numbers.{length-halves}
 use Rattle.model.specs.Plans.{plan_numbers}
 use Rattle.plan_bytes.proofs.Steps.{halves_long}
-use Rattle.source_step.specs.Step.{state}
 use Rattle.source_step.specs.Table.{table}
 use Rattle.listing.proofs.Lining as lining
 use borrow.Author.Rules.{rules}
-use mathlib.Core.Path.{ap}
-use mathlib.Core.Bool.{not}
 use Rattle.listing.proofs.put_lines.Goals as goal
 
 pub loop-i-init : goal.loop-i-init
-loop-i-init c =
-    (
-      lining.writing_begins (table c.args.count c.args.marks.now c.args.numbers.now c.args.n c.args.m)
-          (plan_numbers c.args.plan.now) c.args.from c.args.until c.args.before c.args.values.now c.args.modes.now
-          c.requires.listable c.args.out.now c.args.at,
-      refl,
-    )
+loop-i-init c = (
+  lining.writing_begins (table c.args.count c.args.marks.now c.args.numbers.now c.args.n c.args.m)
+      (plan_numbers c.args.plan.now) c.args.from c.args.until c.args.before c.args.values.now c.args.modes.now
+      c.requires.listable c.args.out.now c.args.at,
+  refl,
+)
 
 pub action_of-requires : goal.action_of-requires
 action_of-requires c = omega (arith, halves_long c.args.plan.now, c.loop-i-test.true, c.requires.listable.in_plan)
@@ -90,14 +84,13 @@ overflow_add-i c =
     omega (arith, c.loop-i-test.true, c.requires.listable.few)
 
 pub loop-i-preserved : goal.loop-i-preserved
-loop-i-preserved c =
-    (
-      lining.writing-next c.requires.listable c.loop-i.invariant.0 c.wide16-k.result (c.wide16-k.ensures ∙ c.action_of.ensures)
-          c.loop-i-test.true c.if-count-k.false c.take_priced-turn.ensures.turned
-          (not-false _ c.if-not-turn.false)
-          c.put_step_line-place.ensures.0 c.put_step_line-place.ensures.1,
-      c.take_priced-turn.ensures.times_len,
-    )
+loop-i-preserved c = (
+  lining.writing-next c.requires.listable c.loop-i.invariant.0 c.wide16-k.result (c.wide16-k.ensures ∙ c.action_of.ensures)
+      c.loop-i-test.true c.if-count-k.false c.take_priced-turn.ensures.turned
+      (not-false _ c.if-not-turn.false)
+      c.put_step_line-place.ensures.0 c.put_step_line-place.ensures.1,
+  c.take_priced-turn.ensures.times_len,
+)
 
 pub shape_of-out : goal.shape_of-out
 shape_of-out c = lining.writing-long c.requires.listable c.loop-i.invariant.0

@@ -1,16 +1,11 @@
 -- `listing::put_lines` meets its contract. The loop's invariant is `Writing`: what is left is still to be written, and to be paid. Assumes nothing.
-use mathlib.Core.Path.{◌≡◌, refl, sym, ◌∙◌}
+use mathlib.Core.Path.{◌≡◌}
 use Prim.Native.Nat.{◌-◌}
-use native.Mathlib.Omega.{arith}
 use lib.ListN.{length}
-use borrow.Author.Tests.{not-true, not-false}
-use Rattle.lists.proofs.Numbers.{length-halves}
 use Rattle.model.specs.Plans.{plan_numbers}
-use Rattle.plan_bytes.proofs.Steps.{halves_long}
 use Rattle.source_step.specs.Step.{state}
 use Rattle.source_step.specs.Table.{table}
 use Rattle.listing.proofs.Lining as lining
-use borrow.Author.Rules.{rules}
 use Rattle.listing.proofs.put_lines.Given as goal
 
 abbrev pub invariant-loop-i : goal.invariant-loop-i

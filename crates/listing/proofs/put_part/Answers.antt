@@ -2,7 +2,6 @@
 use native.Mathlib.Omega.{arith}
 use Rattle.listing.proofs.Lines.{room_most}
 use Rattle.listing.proofs.Parts.{stands}
-use borrow.Author.Rules.{rules}
 use Rattle.listing.proofs.put_part.Goals as goal
 
 pub put_rest-requires : goal.put_rest-requires

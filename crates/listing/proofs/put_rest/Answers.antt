@@ -3,7 +3,6 @@ use mathlib.Core.Path.{refl}
 use native.Mathlib.Omega.{arith}
 use Rattle.model.specs.Plans.{plan_numbers}
 use Rattle.listing.proofs.Parts.{refusal-room, part-refusal}
-use borrow.Author.Rules.{rules}
 use Rattle.listing.proofs.put_rest.Goals as goal
 
 pub put_refused_line-requires : goal.put_refused_line-requires

@@ -1,6 +1,5 @@
 -- `listing::put_sheet` meets its contract: the header or none, the lines until the end of the part, and the goal's line or none. Assumes nothing.
 use Rattle.listing.proofs.Parts.{part-listable, header-room, lines-room, part-broken, goal-room, part-last}
-use borrow.Author.Rules.{rules}
 use Rattle.listing.proofs.put_sheet.Goals as goal
 
 pub put_header-lines_at-requires : goal.put_header-lines_at-requires
@@ -12,7 +11,7 @@ put_lines-lined-requires c =
     rw c.part_end-until.ensures
     (record {
       listable = part-listable c.args.most c.requires.most_nonzero.1;
-      room_for = lines-room c.args.most c.requires.most_nonzero.1 c.requires.room_for h
+      room_for = lines-room c.args.most c.requires.most_nonzero.1 c.requires.room_for h;
     })
 
 pub returns-then-until-task : goal.returns-then-until-task

@@ -1,17 +1,7 @@
 -- `listing::put_values` meets its contract: the loop writes the field of each value. Assumes nothing.
 use Prim.Native.Nat.{◌+◌, ◌-◌, ◌*◌, ◌≤◌}
-use native.Mathlib.Omega.{arith}
-use lib.IntN.{pos}
-use mir.Syntax.{w64}
-use mir.Val.{SFits}
-use mir.Facts.{to_z-of_z}
-use Rattle.lists.proofs.Loops.{there-all}
-use Rattle.lists.proofs.WritingLoops.{Going, going_start, going-room, going_next, going_end, going-long}
-use Rattle.model.specs.Steps.{integer_at}
-use Rattle.listing_text.proofs.Sign.{signed-most}
+use Rattle.lists.proofs.WritingLoops.{Going}
 use Rattle.listing.specs.Lines.{field}
-use Rattle.listing.proofs.Lines.{room-either}
-use borrow.Author.Rules.{rules}
 use Rattle.listing.proofs.put_values.Given as goal
 
 abbrev pub invariant-loop-i : goal.invariant-loop-i

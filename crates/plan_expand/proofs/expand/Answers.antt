@@ -8,7 +8,6 @@ use Rattle.source_walk.specs.Walk.{Judging}
 use Rattle.source_walk.proofs.Opening.{refused-both}
 use Rattle.plan_expand.specs.Expanding.{length_of}
 use Rattle.plan_expand.proofs.Answering.{expansion_answer, expandable, answers}
-use borrow.Author.Rules.{rules}
 use Rattle.plan_expand.proofs.expand.Goals as goal
 
 pub open-requires : goal.open-requires

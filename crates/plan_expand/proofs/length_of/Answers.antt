@@ -1,6 +1,5 @@
 -- `plan_expand::length_of` meets its contract, case by case. Assumes nothing.
 use borrow.Author.Tests.{lt-ltb, le-ltb}
-use borrow.Author.Rules.{rules}
 use Rattle.source_walk.specs.Walk.{most}
 use Rattle.plan_expand.proofs.length_of.Goals as goal
 

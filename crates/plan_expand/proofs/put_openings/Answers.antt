@@ -1,6 +1,6 @@
 -- `plan_expand::put_openings` meets its contract. The loop's invariant is `Opening`: what is left to write are the openings of what is left of the plan.
 -- Assumes nothing.
-use Prim.Native.Nat.{◌-◌, ◌<◌}
+use Prim.Native.Nat.{◌<◌}
 use mathlib.Core.Path.{◌≡◌, sym, ap, ◌∙◌}
 use native.Mathlib.Omega.{arith}
 use lib.ListN.{length, get_or}
@@ -8,7 +8,7 @@ use Rattle.integers.specs.Numbers.{bytes_of}
 use Rattle.lists.proofs.Writing.{room_as, wrote_as}
 use Rattle.model.specs.Plans.{plan_numbers}
 use Rattle.plan_bytes.proofs.Steps.{halves_long}
-use Rattle.plan_expand.proofs.Writing.{Opening, opening-begins, opening-ends, opening-as-long, opening-room, opening-goes}
+use Rattle.plan_expand.proofs.Writing.{opening-begins, opening-ends, opening-as-long, opening-room, opening-goes}
 use borrow.Author.Rules.{rules}
 use Rattle.plan_expand.proofs.put_openings.Goals as goal
 use Rattle.plan_expand.proofs.put_openings.Lts as lts

@@ -1,6 +1,6 @@
 -- `plan_expand::put_plan` meets its contract. The loop's invariant: what is left to write is the expansion of what is left of the plan, from the
 -- state reached. Assumes nothing.
-use Prim.Native.Nat.{◌-◌, ◌<◌}
+use Prim.Native.Nat.{◌<◌}
 use mathlib.Core.Path.{◌≡◌, refl, ◌∙◌}
 use native.Mathlib.Omega.{arith}
 use lib.ListN.{length, get_or}
@@ -77,7 +77,7 @@ put_turn-place-requires c =
     record {
       opening_bound = ((s w).requires.usables.1 k (below w), u.variables_few, u.modes_few, (going w).long, l.invariant.1);
       keep_or_set = ((row w).keeps, read-when-held (s w).args.m l.values l.modes u.variables_few (row w) (holds (going w) (within w) k (is w)));
-      room = has_room (going w) (within w) k (is w) (s w).requires.room
+      room = has_room (going w) (within w) k (is w) (s w).requires.room;
     }
 
 pub overflow_add-i : goal.overflow_add-i

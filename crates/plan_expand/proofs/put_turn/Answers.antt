@@ -7,7 +7,6 @@ use Rattle.lists.proofs.Writing.{wrote_as, room_as}
 use Rattle.model.specs.Plans.{plan_bytes_of}
 use Rattle.plan_strokes.specs.Strokes.{step_numbers}
 use Rattle.plan_expand.proofs.Writing.{turn-taken}
-use borrow.Author.Rules.{rules}
 use Rattle.plan_expand.proofs.put_turn.Goals as goal
 
 pub put_strokes-count-requires : goal.put_strokes-count-requires

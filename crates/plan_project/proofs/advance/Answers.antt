@@ -7,7 +7,6 @@ use Rattle.model.specs.Plans.{plan_numbers}
 use Rattle.plan_strokes.specs.Made.{MacroIs}
 use Rattle.plan_strokes.proofs.Effects.{stays-few}
 use Rattle.plan_project.proofs.Advancing.{one-taken, one-refused}
-use borrow.Author.Rules.{rules}
 use mathlib.Core.Path.{ap}
 use mathlib.Core.Bool.{not}
 use Rattle.plan_project.proofs.advance.Goals as goal
@@ -24,14 +23,20 @@ take_single-requires c =
     (c.requires.n_bound.0, c.requires.n_bound.1, c.requires.n_bound.2, c.requires.usable, stays-few (stays c.before.before.before))
 
 pub returns-then-take_single : goal.returns-then-take_single
-returns-then-take_single c = record { advanced = one-taken c.args.n c.args.m c.args.marks.now c.args.numbers.now c.args.sums.now c.args.values.now
-          c.args.modes.now c.args.total c.args.at (plan_numbers c.args.plan.now) c.args.opening (stays c.before.before.before.before.before)
-          c.take_single.ensures c.requires.steps_value.3 (omega (arith, c.requires.steps_value.0, c.requires.steps_value.1)) c.if-take_single.true; times_len = c.requires.n_bound.3 }
+returns-then-take_single c = record {
+  advanced = one-taken c.args.n c.args.m c.args.marks.now c.args.numbers.now c.args.sums.now c.args.values.now
+      c.args.modes.now c.args.total c.args.at (plan_numbers c.args.plan.now) c.args.opening (stays c.before.before.before.before.before)
+      c.take_single.ensures c.requires.steps_value.3 (omega (arith, c.requires.steps_value.0, c.requires.steps_value.1)) c.if-take_single.true;
+  times_len = c.requires.n_bound.3;
+}
 
 pub returns-then-not-makes_macro : goal.returns-then-not-makes_macro
-returns-then-not-makes_macro c = record { advanced = one-refused c.args.n c.args.m c.args.marks.now c.args.numbers.now c.args.sums.now c.args.values.now
-          c.args.modes.now c.args.total c.args.at (plan_numbers c.args.plan.now) c.args.opening (stays c.before.before.before.before.before)
-          c.take_single.ensures c.if-take_single.false; times_len = c.requires.n_bound.3 }
+returns-then-not-makes_macro c = record {
+  advanced = one-refused c.args.n c.args.m c.args.marks.now c.args.numbers.now c.args.sums.now c.args.values.now
+      c.args.modes.now c.args.total c.args.at (plan_numbers c.args.plan.now) c.args.opening (stays c.before.before.before.before.before)
+      c.take_single.ensures c.if-take_single.false;
+  times_len = c.requires.n_bound.3;
+}
 
 pub advance_macro-requires : goal.advance_macro-requires
 advance_macro-requires c =

@@ -19,7 +19,6 @@ use Rattle.plan_strokes.proofs.Ranges.{sets-there}
 use Rattle.plan_project.specs.Following.{strokes_walked, numbers_at}
 use Rattle.plan_project.proofs.Numbers.{strokes-length}
 use Rattle.plan_project.proofs.Advancing.{macro-refused, macro-past, macro-into, one_outside, front-is, front-priced}
-use borrow.Author.Rules.{rules}
 use mathlib.Core.Bool.{not}
 use Rattle.plan_project.proofs.advance_macro.Goals as goal
 use Rattle.plan_project.proofs.advance_macro.Lts as lts
@@ -37,9 +36,12 @@ abbrev strokes_in : lts.Start tie.the-claims reads.Pre reads.Post tie.handed_cla
 strokes_in s = strokes_of (effects_at s.args.marks.now s.args.numbers.now) (integer_at (take s.args.n s.args.values.now))
 
 pub returns-then-not-holds : goal.returns-then-not-holds
-returns-then-not-holds c = record { advanced = macro-refused c.args.n c.args.m c.args.marks.now c.args.numbers.now c.args.sums.now c.args.values.now
-          c.args.modes.now c.args.total c.args.at (plan_of c.before.before.before.before) c.args.opening c.requires.macro_is.0
-          (sym c.holds.ensures ∙ not-true _ (ap not c.if-not-holds.true)); times_len = c.requires.n_bound.3 }
+returns-then-not-holds c = record {
+  advanced = macro-refused c.args.n c.args.m c.args.marks.now c.args.numbers.now c.args.sums.now c.args.values.now
+      c.args.modes.now c.args.total c.args.at (plan_of c.before.before.before.before) c.args.opening c.requires.macro_is.0
+      (sym c.holds.ensures ∙ not-true _ (ap not c.if-not-holds.true));
+  times_len = c.requires.n_bound.3;
+}
 
 -- the rows' test passed
 module _ (c : lts.Else1 tie.the-claims reads.Pre reads.Post tie.handed_clauses) where
@@ -108,9 +110,12 @@ past_macro-requires c =
 pub returns-then-finish : goal.returns-then-finish
 returns-then-finish c =
     let f = c.before.before.before.before.before.before.before.before in
-    let a = s (test f) in record { advanced = macro-past a.args.n a.args.m a.args.marks.now a.args.numbers.now a.args.sums.now a.args.values.now
+    let a = s (test f) in record {
+      advanced = macro-past a.args.n a.args.m a.args.marks.now a.args.numbers.now a.args.sums.now a.args.values.now
           a.args.modes.now a.args.total a.args.at (plan_of a) a.args.opening a.requires.macro_is.0
-          (passed (test f)) (matched-is f) c.finish.ensures c.if-finish.true (size_is c.before.before) c.past_macro.ensures.answers c.past_macro.ensures.further; times_len = (strokes_put f).put_strokes-count.ensures.listed.long }
+          (passed (test f)) (matched-is f) c.finish.ensures c.if-finish.true (size_is c.before.before) c.past_macro.ensures.answers c.past_macro.ensures.further;
+      times_len = (strokes_put f).put_strokes-count.ensures.listed.long;
+    }
 
 -- where it hangs
 first-is : (o : lts.After-first_outside tie.the-claims reads.Pre reads.Post tie.handed_clauses) → let a = s (test o.before.before.before.before.before.before.before) in
@@ -177,6 +182,9 @@ into_macro-requires c =
 pub returns : goal.returns
 returns c =
     let f = c.before.before.before.before.before.before.before.before.before.before.before.before in
-    let a = s (test f) in record { advanced = macro-into a.args.n a.args.m a.args.marks.now a.args.numbers.now a.args.sums.now a.args.values.now
+    let a = s (test f) in record {
+      advanced = macro-into a.args.n a.args.m a.args.marks.now a.args.numbers.now a.args.sums.now a.args.values.now
           a.args.modes.now a.args.total a.args.at (plan_of a) a.args.opening a.requires.macro_is.0
-          (passed (test f)) (matched-is f) c.finish.ensures c.if-finish.false (walked-size c.before.before) c.into_macro.ensures.answers c.into_macro.ensures.further; times_len = (strokes_put f).put_strokes-count.ensures.listed.long }
+          (passed (test f)) (matched-is f) c.finish.ensures c.if-finish.false (walked-size c.before.before) c.into_macro.ensures.answers c.into_macro.ensures.further;
+      times_len = (strokes_put f).put_strokes-count.ensures.listed.long;
+    }

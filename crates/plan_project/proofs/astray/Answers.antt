@@ -4,7 +4,6 @@ use native.Mathlib.Omega.{arith}
 use Rattle.model.specs.Plans.{plan_numbers}
 use Rattle.plan_bytes.proofs.Steps.{halves_long}
 use Rattle.plan_project.proofs.Advancing.{ended, not-applying, no_such}
-use borrow.Author.Rules.{rules}
 use Rattle.plan_project.proofs.astray.Goals as goal
 
 pub returns-then-steps-place : goal.returns-then-steps-place

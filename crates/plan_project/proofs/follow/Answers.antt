@@ -1,15 +1,14 @@
 -- `plan_project::follow` meets its contract. The loop's invariant is `Going`: what is left projects to what the whole projects to. Assumes nothing.
 use mathlib.Core.Path.{◌≡◌, refl, sym, ap, ◌∙◌}
-use Prim.Native.Nat.{◌-◌, ◌<◌}
+use Prim.Native.Nat.{◌<◌}
 use native.Mathlib.Omega.{arith}
 use lib.ListN.{length, get_or}
 use Rattle.model.specs.Plans.{plan_numbers}
 use Rattle.plan_bytes.proofs.Steps.{halves_long}
-use Rattle.source_step.specs.Step.{state}
 use Rattle.source_step.specs.Table.{Table, table}
 use Rattle.plan_project.specs.Sources.{entry_at}
 use Rattle.plan_project.specs.Following.{noted_at}
-use Rattle.plan_project.proofs.Going.{Going, begins, over, no-action, number_small, rows-here, stopped, rises, goes}
+use Rattle.plan_project.proofs.Going.{begins, over, no-action, number_small, rows-here, stopped, rises, goes}
 use borrow.Author.Rules.{rules}
 use Rattle.plan_project.proofs.follow.Goals as goal
 use Rattle.plan_project.proofs.follow.Lts as lts
@@ -33,12 +32,11 @@ entry-is : (w : lts.After-wide tie.the-claims reads.Pre reads.Post goal.the-inva
 entry-is w = w.wide-k.ensures ∙ w.source_of-source.ensures
 
 pub loop-at-init : goal.loop-at-init
-loop-at-init c =
-    (
-      begins (table_of c.before.before) c.args.total c.args.sources.now (plan_numbers c.args.plan.now) c.args.values.now c.args.modes.now
-          c.requires.modes_len.0 c.requires.modes_len.1,
-      refl,
-    )
+loop-at-init c = (
+  begins (table_of c.before.before) c.args.total c.args.sources.now (plan_numbers c.args.plan.now) c.args.values.now c.args.modes.now
+      c.requires.modes_len.0 c.requires.modes_len.1,
+  refl,
+)
 
 pub action_of-opening-requires : goal.action_of-opening-requires
 action_of-opening-requires c = omega (arith, halves_long c.args.plan.now, c.loop-at-test.true, c.requires.usables.2)
@@ -93,7 +91,7 @@ advance-next-requires c =
         omega (arith, inside v, s.requires.usables.2),
         number_small g.0 u s.requires.usables.1 k (number_is_lem v) (inside v) (entry-is v) c.if-count-k.false,
         number_is_lem v,
-      )
+      );
     }
 
 pub returns-in-Refused : goal.returns-in-Refused

@@ -1,16 +1,11 @@
 -- `plan_project::follow` meets its contract. The loop's invariant is `Going`: what is left projects to what the whole projects to. Assumes nothing.
-use mathlib.Core.Path.{◌≡◌, refl, sym, ap, ◌∙◌}
-use Prim.Native.Nat.{◌-◌, ◌<◌}
-use native.Mathlib.Omega.{arith}
-use lib.ListN.{length, get_or}
+use mathlib.Core.Path.{◌≡◌}
+use Prim.Native.Nat.{◌-◌}
+use lib.ListN.{length}
 use Rattle.model.specs.Plans.{plan_numbers}
-use Rattle.plan_bytes.proofs.Steps.{halves_long}
 use Rattle.source_step.specs.Step.{state}
-use Rattle.source_step.specs.Table.{Table, table}
-use Rattle.plan_project.specs.Sources.{entry_at}
-use Rattle.plan_project.specs.Following.{noted_at}
-use Rattle.plan_project.proofs.Going.{Going, begins, over, no-action, number_small, rows-here, stopped, rises, goes}
-use borrow.Author.Rules.{rules}
+use Rattle.source_step.specs.Table.{table}
+use Rattle.plan_project.proofs.Going.{Going}
 use Rattle.plan_project.proofs.follow.Given as goal
 
 abbrev pub invariant-loop-at : goal.invariant-loop-at

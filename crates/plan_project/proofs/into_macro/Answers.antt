@@ -3,7 +3,6 @@ use mathlib.Core.Path.{sym, ap, ◌∙◌}
 use Prim.Native.Nat.{ℕ, ◌+◌}
 use Rattle.model.specs.Plans.{plan_numbers}
 use Rattle.plan_project.specs.Following.{strayed_at}
-use borrow.Author.Rules.{rules}
 use Rattle.plan_project.proofs.into_macro.Goals as goal
 
 pub returns : goal.returns

@@ -1,7 +1,6 @@
 -- `plan_project::note` meets its contract: the number is stored where there is room. Assumes nothing.
 use mathlib.Core.Path.{refl}
 use borrow.Author.Tests.{lt-ltb, le-ltb}
-use borrow.Author.Rules.{rules}
 use Rattle.plan_project.proofs.note.Goals as goal
 
 pub returns-then-found-lt-NOTED : goal.returns-then-found-lt-NOTED

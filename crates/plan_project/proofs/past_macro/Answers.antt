@@ -3,7 +3,6 @@ use mathlib.Core.Path.{refl}
 use native.Mathlib.Omega.{arith}
 use Rattle.model.specs.Plans.{plan_numbers}
 use Rattle.plan_project.proofs.Advancing.{whole, part}
-use borrow.Author.Rules.{rules}
 use Rattle.plan_project.proofs.past_macro.Goals as goal
 
 pub returns-then-matched-size : goal.returns-then-matched-size

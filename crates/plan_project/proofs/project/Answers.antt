@@ -3,7 +3,6 @@
 use mathlib.Core.Path.{refl}
 use Rattle.source_walk.specs.Opening.{Started}
 use Rattle.plan_project.proofs.Opening.{refused-so, posed, task-projected}
-use borrow.Author.Rules.{rules}
 use Rattle.plan_project.proofs.project.Goals as goal
 
 pub open-requires : goal.open-requires

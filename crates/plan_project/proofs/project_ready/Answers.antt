@@ -1,10 +1,8 @@
 -- `plan_project::project_ready` meets its contract: the tables are those of the task's lowering, from whose start the plan is projected.
 -- Assumes nothing.
 use mathlib.Core.Path.{refl}
-use Prim.Native.Nat.{◌≤◌}
 use native.Mathlib.Omega.{arith}
 use Rattle.model.specs.Plans.{plan_numbers}
-use Rattle.source_step.specs.Table.{Usables, table}
 use Rattle.source_step.proofs.Tables.{usables}
 use Rattle.plan_project.proofs.Agreeing.{openable, below, kept, projected-so}
 use borrow.Author.Rules.{rules}
@@ -24,13 +22,16 @@ put_openers-requires c = (refl, openable c.openings_of-openings.ensures (usables
 
 pub project_rows-requires : goal.project_rows-requires
 project_rows-requires c =
-    let P = c.requires.posed in record { usables = (
+    let P = c.requires.posed in record {
+      usables = (
         usables P.rows,
         below P.rows c.openings_of-openings.ensures c.put_openers.ensures c.wide16-total.ensures,
         c.requires.steps_value.0,
         P.inside.shaped.modes_long,
-      ); kept = kept P.rows c.openings_of-openings.ensures c.put_openers.ensures c.wide16-total.ensures P.inside P.start (plan_numbers c.args.plan.now)
-          (omega (arith, c.requires.steps_value)) }
+      );
+      kept = kept P.rows c.openings_of-openings.ensures c.put_openers.ensures c.wide16-total.ensures P.inside P.start (plan_numbers c.args.plan.now)
+          (omega (arith, c.requires.steps_value));
+    }
 
 pub returns : goal.returns
 returns c =

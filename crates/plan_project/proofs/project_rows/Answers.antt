@@ -1,6 +1,5 @@
 -- `plan_project::project_rows` meets its contract: the plan is refused, or by the room that there is, or it is written. Assumes nothing.
 use native.Mathlib.Omega.{arith}
-use borrow.Author.Rules.{rules}
 use Rattle.plan_bytes.proofs.Steps.{halves_long}
 use Rattle.plan_project.proofs.Projecting.{when-stopped, few, when-short, puttable, noted-so, when-written}
 use Rattle.plan_project.proofs.project_rows.Goals as goal

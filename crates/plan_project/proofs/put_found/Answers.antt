@@ -3,7 +3,6 @@ use mathlib.Core.Path.{sym, ap}
 use Rattle.lists.proofs.Writing.{room_as, wrote_as}
 use Rattle.model.specs.Plans.{plan_bytes_of}
 use Rattle.plan_project.proofs.Putting.{noted-are}
-use borrow.Author.Rules.{rules}
 use Rattle.plan_project.proofs.put_found.Goals as goal
 
 pub put_noted-requires : goal.put_noted-requires

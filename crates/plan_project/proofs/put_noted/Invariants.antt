@@ -1,9 +1,6 @@
 -- `plan_project::put_noted` meets its contract. The loop's invariant is `Copying`: of the numbers found, those not passed are left to write. Assumes nothing.
 use Prim.Native.Nat.{◌-◌}
-use native.Mathlib.Omega.{arith}
-use Rattle.lists.proofs.Writing.{long}
-use Rattle.plan_project.proofs.Putting.{Copying, copying, copied, copy-room, copies}
-use borrow.Author.Rules.{rules}
+use Rattle.plan_project.proofs.Putting.{Copying}
 use Rattle.plan_project.proofs.put_noted.Given as goal
 
 abbrev pub invariant-loop-i : goal.invariant-loop-i

@@ -1,8 +1,6 @@
 -- `plan_project::put_openers` meets its contract. The loop's invariant is `Filling`: the actions passed have their entries, and there are no others. Assumes nothing.
-use Prim.Native.Nat.{◌-◌}
 use native.Mathlib.Omega.{arith}
-use Rattle.plan_project.proofs.Filling.{Filling, filling-start, filling-next, filling-end}
-use borrow.Author.Rules.{rules}
+use Rattle.plan_project.proofs.Filling.{filling-start, filling-next, filling-end}
 use Rattle.plan_project.proofs.put_openers.Goals as goal
 
 pub loop-k-init : goal.loop-k-init

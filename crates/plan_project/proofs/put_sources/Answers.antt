@@ -1,12 +1,12 @@
 -- `plan_project::put_sources` meets its contract. The loop's invariant is `Putting`: of the plan that is left, the source numbers are left to write. Assumes nothing.
 use mathlib.Core.Path.{◌≡◌}
-use Prim.Native.Nat.{◌+◌, ◌-◌, ◌≤◌, ◌<◌}
+use Prim.Native.Nat.{◌+◌, ◌≤◌, ◌<◌}
 use native.Mathlib.Omega.{arith}
 use lib.ListN.{length, get_or}
 use Rattle.lists.proofs.Writing.{long}
 use Rattle.model.specs.Plans.{plan_numbers}
 use Rattle.plan_bytes.proofs.Steps.{halves_long}
-use Rattle.plan_project.proofs.Putting.{Putting, begins, over, room-here, puts, passes, further, passes-run}
+use Rattle.plan_project.proofs.Putting.{begins, over, room-here, puts, passes, further, passes-run}
 use borrow.Author.Rules.{rules}
 use Rattle.plan_project.proofs.put_sources.Goals as goal
 use Rattle.plan_project.proofs.put_sources.Lts as lts

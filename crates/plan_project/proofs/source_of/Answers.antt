@@ -1,6 +1,5 @@
 -- `plan_project::source_of` meets its contract. Assumes nothing.
 use Rattle.plan_project.proofs.Filling.{entry_in, entry-out}
-use borrow.Author.Rules.{rules}
 use Rattle.plan_project.proofs.source_of.Goals as goal
 
 pub returns-then-i-lt-OPENINGS : goal.returns-then-i-lt-OPENINGS

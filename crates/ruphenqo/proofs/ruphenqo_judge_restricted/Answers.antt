@@ -2,7 +2,6 @@
 use mathlib.Core.Path.{refl, ap}
 use Rattle.restricted_judge.specs.Judging.{verdict_is, judgement_of, zeros}
 use Rattle.ruphenqo.proofs.Telling.{told-judged-refusal, told-judged-valid}
-use borrow.Author.Rules.{rules}
 use Rattle.ruphenqo.proofs.ruphenqo_judge_restricted.Goals as goal
 
 pub returns-in-Refused : goal.returns-in-Refused

@@ -1,6 +1,5 @@
 -- `ruphenqo::ruphenqo_price_step` meets its contract. Assumes nothing.
 use Rattle.ruphenqo.proofs.Telling.{told-as}
-use borrow.Author.Rules.{rules}
 use Rattle.ruphenqo.proofs.ruphenqo_price_step.Goals as goal
 
 pub returns : goal.returns

@@ -2,7 +2,6 @@
 use mathlib.Core.Path.{ap}
 use Rattle.ruphenqo.specs.Told.{counts_of}
 use Rattle.ruphenqo.proofs.Telling.{told-as}
-use borrow.Author.Rules.{rules}
 use Rattle.ruphenqo.proofs.ruphenqo_read_source.Goals as goal
 
 pub returns : goal.returns

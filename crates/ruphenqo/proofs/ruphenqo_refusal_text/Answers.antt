@@ -1,7 +1,6 @@
 -- `ruphenqo::ruphenqo_refusal_text` meets its contract. Assumes nothing.
 use mathlib.Core.Path.{ap}
 use Rattle.ruphenqo.proofs.Telling.{told-as}
-use borrow.Author.Rules.{rules}
 use Rattle.ruphenqo.proofs.ruphenqo_refusal_text.Goals as goal
 
 pub returns : goal.returns

@@ -4,7 +4,6 @@ use Rattle.restricted_judge.specs.Judging.{zeros}
 use Rattle.ruphenqo.specs.Told.{state_over}
 use Rattle.ruphenqo.proofs.Telling.{told-result, told-refusal}
 use Rattle.ruphenqo.proofs.Starting.{restricted-start-refused, restricted-started, restricted-laid}
-use borrow.Author.Rules.{rules}
 use Rattle.ruphenqo.proofs.ruphenqo_restricted_start.Goals as goal
 
 pub returns-in-Rejected : goal.returns-in-Rejected

@@ -1,6 +1,5 @@
 -- `ruphenqo::ruphenqo_source_action` meets its contract. Assumes nothing.
 use Rattle.ruphenqo.proofs.Telling.{told-as}
-use borrow.Author.Rules.{rules}
 use Rattle.ruphenqo.proofs.ruphenqo_source_action.Goals as goal
 
 pub returns : goal.returns

@@ -4,7 +4,6 @@ use Rattle.source_walk.specs.Answers.{zeros}
 use Rattle.ruphenqo.specs.Start.{declares_over}
 use Rattle.ruphenqo.proofs.Telling.{told-result, told-refusal}
 use Rattle.ruphenqo.proofs.Starting.{source-start-refused, source-started, source-laid}
-use borrow.Author.Rules.{rules}
 use Rattle.ruphenqo.proofs.ruphenqo_source_start.Goals as goal
 
 pub returns-in-Rejected : goal.returns-in-Rejected

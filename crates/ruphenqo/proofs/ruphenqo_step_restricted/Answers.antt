@@ -2,7 +2,6 @@
 use mathlib.Core.Path.{refl, ap}
 use Rattle.restricted_state.specs.Alone.{refusal_is}
 use Rattle.ruphenqo.proofs.Telling.{told-step-refusal, told-step-applied}
-use borrow.Author.Rules.{rules}
 use Rattle.ruphenqo.proofs.ruphenqo_step_restricted.Goals as goal
 
 pub returns-in-Refused : goal.returns-in-Refused

@@ -4,7 +4,6 @@ use Rattle.source_state.specs.Alone.{verdict_over}
 use Rattle.source_state.specs.Step.{whole_is}
 use Rattle.ruphenqo.specs.Told.{itself}
 use Rattle.ruphenqo.proofs.Telling.{told-refusal, told-result}
-use borrow.Author.Rules.{rules}
 use Rattle.ruphenqo.proofs.ruphenqo_step_source.Goals as goal
 
 pub returns-in-Refused : goal.returns-in-Refused

@@ -3,7 +3,6 @@ use mathlib.Core.Path.{refl, ap}
 use Rattle.file_check.specs.Views.{verdict_is}
 use Rattle.ruphenqo.specs.Told.{counts_of, itself}
 use Rattle.ruphenqo.proofs.Telling.{told-result, told-refusal}
-use borrow.Author.Rules.{rules}
 use Rattle.ruphenqo.proofs.tell_counts.Goals as goal
 
 pub returns-in-Rejected : goal.returns-in-Rejected

@@ -3,7 +3,6 @@ use mathlib.Core.Path.{refl, ap}
 use Rattle.file_actions.specs.Places.{placed_is}
 use Rattle.ruphenqo.specs.Told.{itself}
 use Rattle.ruphenqo.proofs.Telling.{told-result, told-refusal}
-use borrow.Author.Rules.{rules}
 use Rattle.ruphenqo.proofs.tell_place.Goals as goal
 
 pub returns-in-Refused : goal.returns-in-Refused
