@@ -1,9 +1,10 @@
 // The listing program: what it prints for what its two files hold, and the files themselves.
 //
-// What a file gives and what reaches the standard output can't be stated. So far as a contract reaches, `print_files` writes the program's output
-// for what the two files hold, `listing_program_of`, and nothing more, wherever it writes: `first_part` ensures that this is its bytes and what is
-// left then; `listing::put_part`, that what was left is its bytes and what is left then; and the loop ends where nothing is left. It is proved
-// that it ends, and that nothing is read or stored out of bounds.
+// What a file gives and what reaches the standard output can't be stated. So far as a contract reaches, `print_files`, where it answers that it
+// could write, has written the program's output for what the two files hold, `listing_program_of`, and nothing more (of a writer that tells what it
+// holds; of a failed write nothing is said): `first_part` ensures that this is its bytes and what is left then; `listing::put_part`, that what was
+// left is its bytes and what is left then; and the loop ends where nothing is left. It is proved that it ends, and that nothing is read or stored
+// out of bounds.
 #![tactic(auto)]
 
 ghost use Rattle.std.specs.Prelude.{◌≡◌, ◌≤◌, OnOk, length, take, replicate, pos};

@@ -1,4 +1,4 @@
-// The library for C: every entry point as an exported function of numbers and slices. include/ruphenqo.h is its manual.
+// The library for C: every entry point as a function of numbers and slices, as ruphenqo_c exports it. include/ruphenqo.h is its manual.
 //
 // A function returns 0 or the refusal's number. It never asks anything of its input, and on a refusal it leaves what it was lent, but for the place, as it was.
 #![tactic(auto)]
