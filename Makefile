@@ -14,7 +14,7 @@ SONAME := libruphenqo.so.$(firstword $(subst ., ,$(VERSION)))
 ARCHIVE := target/staticlib/libruphenqo.a
 SHARED := target/shared/libruphenqo.so.$(VERSION)
 LIST := target/bin/list
-SOURCES := crates.txt $(shell find crates -name '*.rt' -o -name '*.antt')
+SOURCES := crates.txt $(shell find crates -path '*/out' -prune -o \( -name '*.rt' -o -name '*.antt' \) -print)
 
 prefix := $(abspath $(PREFIX))
 bin := $(DESTDIR)$(prefix)/bin

@@ -71,9 +71,9 @@ fn room() -> [u8; 2000002]
 }
 
 // Judges a plan of so many bytes, all of them 0, against a task whose only action asks for nothing: the count of steps.
-fn judge(rt: &impl Print, name: &[u8], bytes: usize) -> io::Result<()> {
+fn judge(rt: &impl Print, name: &[u8], bytes: isize) -> io::Result<()> {
     let plan = room();
-    let size = bytes.min(plan.len());
+    let size = usize::try_from(bytes).unwrap_or(0).min(plan.len());
     word(rt, name)?;
     let judgement = source_walk::judge(b"AGZ", &plan[..size]);
     let verdict = judgement.verdict;
@@ -118,9 +118,9 @@ fn checksum(bytes: &[u8]) -> u64 {
 
 // Expands a plan, with so many bytes of output lent: the length of the result. The checksum of all lent bytes, which had a pattern, follows.
 // In the task, V 0 10000 9998, action 0 is L 0 with w0 9998, of price 19,999 throughout, and action 1 has no effect, of price 1.
-fn expand(rt: &impl Print, name: &[u8], plan: &[u8], lent: usize) -> io::Result<()> {
+fn expand(rt: &impl Print, name: &[u8], plan: &[u8], lent: isize) -> io::Result<()> {
     let mut room = room();
-    let size = lent.min(room.len());
+    let size = usize::try_from(lent).unwrap_or(0).min(room.len());
     let out = &mut room[..size];
     fill(out);
     word(rt, name)?;
