@@ -16,7 +16,8 @@
  * more.
  *
  *    reading, the place of an action, a start, a refusal's text        1 KB
- *    a step, the price of a step                                       4 KB
+ *    a step of a source task, the price of a step                      4 KB
+ *    a restricted step                                                 6 KB
  *    lowering                                                          8 KB
  *    judging or pricing a source plan, expanding, listing             19 KB
  *    projecting                                                       23 KB

@@ -49,10 +49,11 @@ alone() {
     return $ended
 }
 
-# What a crate is made from, as one word: the kit, the crate, and the crates under it.
+# stamp_of CRATE TARGET      what was made, and what from, as one word: its bytes, the kit, the crate, and the crates under it
 stamp_of() {
     {
         rt version
+        sha256sum "$2"
         for crate in $(resting_on "$1" | sort); do find "crates/$crate" \( -name '*.rt' -o -name '*.antt' \) -not -path '*/out/*' -exec sha256sum {} + | sort; done
     } 2>/dev/null | sha256sum
 }
@@ -69,11 +70,11 @@ in_crate() {
 make_from() {
     crate=$1 of=$2 target=$3
     shift 3
-    [ -f "$target" ] && [ "$(cat "$target.stamp" 2>/dev/null)" = "$(stamp_of "$crate")" ] && return 0
+    [ -f "$target" ] && [ "$(cat "$target.stamp" 2>/dev/null)" = "$(stamp_of "$crate" "$target")" ] && return 0
     echo "$target rests on $(resting_on "$crate" | wc -l) crates; what of them is not proved yet is proved, which takes some minutes."
     alone in_crate "$crate" "$@" || return 1
     mkdir -p "${target%/*}" && cp "crates/$crate/out/$of" "$target" || return 1
-    stamp_of "$crate" >"$target.stamp"
+    stamp_of "$crate" "$target" >"$target.stamp"
 }
 
 # make_archive      proves and writes the archive
