@@ -10,8 +10,10 @@ use lib.ListN.{get_or}
 use Rattle.integers.specs.All.{All}
 use Rattle.integers.proofs.All.{all_map}
 use Rattle.commands.specs.Table.{rows, row_of}
-use Rattle.commands.specs.Reading.{commands}
+use Rattle.commands.specs.Reading.{commands, made}
 use Rattle.commands.specs.Encoding.{row_number, operands, byte_of, NoRefusal}
+use Rattle.answers.specs.declared.Reason.{Reason}
+use Rattle.answers.specs.declared.Reason.TheVariants.{NotAllowed}
 use Rattle.commands.specs.declared.Command.{Command}
 use Rattle.commands.specs.declared.Command.TheVariants.{Variable, Start, Mode, Action, Condition, ModeCondition, ModeEffect, Add, Linear, Term, Quotient}
 use Rattle.commands.specs.declared.Command.TheVariants.{Residue, Goal, End, Sum, Refused}
@@ -23,9 +25,9 @@ at P d h [] a i = h
 at P d h (c ∷ cs) (a, as₁) zero = a
 at P d h (c ∷ cs) (a, as₁) (suc i) = at P d h cs as₁ i
 
-module _ (P : Command → Type 0) (row : (x y z : ℕ) → All P (commands x y z)) (refusal : (number : ℕ) → P (Refused number)) where
-  of : (x y z i : ℕ) → P (get_or (commands x y z) i (Refused 1))
-  of x y z i = at P (Refused 1) (refusal 1) (commands x y z) (row x y z) i
+module _ (P : Command → Type 0) (row : (x y z : ℕ) → All P (commands x y z)) (refusal : (reason : Reason) → P (Refused reason)) where
+  of : (x y z i : ℕ) → P (get_or (commands x y z) i (Refused NotAllowed))
+  of x y z i = at P (Refused NotAllowed) (refusal NotAllowed) (commands x y z) (row x y z) i
 
   pub every-command : (c : Command) → P c
   every-command (Variable lower upper start) = of lower upper start 0
@@ -43,7 +45,7 @@ module _ (P : Command → Type 0) (row : (x y z : ℕ) → All P (commands x y z
   every-command Goal = of 0 0 0 12
   every-command End = of 0 0 0 13
   every-command (Sum relation constant) = of relation constant 0 14
-  every-command (Refused number) = refusal number
+  every-command (Refused reason) = refusal reason
 
 -- ---- what is said of the commands of all rows at once
 all_same : {A : Type 0} (f g : Command → A) (cs : List Command) → map f cs ≡ map g cs → All (λ (c : Command). f c ≡ g c) cs
@@ -51,25 +53,21 @@ all_same f g [] e = tt
 all_same f g (c ∷ cs) e = (cc, all_same f g cs (cc))
 
 module _ {A : Type 0} (f g : Command → A) (row : (x y z : ℕ) → map f (commands x y z) ≡ map g (commands x y z)) where
-  pub same : ((number : ℕ) → f (Refused number) ≡ g (Refused number)) → (c : Command) → f c ≡ g c
+  pub same : ((reason : Reason) → f (Refused reason) ≡ g (Refused reason)) → (c : Command) → f c ≡ g c
   same = every-command (λ (c : Command). f c ≡ g c) (λ x y z. all_same f g (commands x y z) (row x y z))
 
   pub same_row : (c : Command) → NoRefusal c → f c ≡ g c
   same_row = every-command (λ (c : Command). NoRefusal c → f c ≡ g c)
       (λ x y z. all_map (λ (c : Command). f c ≡ g c) (λ (c : Command). NoRefusal c → f c ≡ g c) (λ c e h. e) (commands x y z)
       (all_same f g (commands x y z) (row x y z)))
-      (λ number h. absurd h)
+      (λ reason h. absurd h)
 
 -- a command is of the table, or it is a refusal
-pub row-or-refusal : (P : Command → Type 0) → ((c : Command) → NoRefusal c → P c) → ((number : ℕ) → P (Refused number)) → (c : Command) → P c
+pub row-or-refusal : (P : Command → Type 0) → ((c : Command) → NoRefusal c → P c) → ((reason : Reason) → P (Refused reason)) → (c : Command) → P c
 row-or-refusal P h = every-command P (λ x y z. all_map (λ (c : Command). ltb (row_number c) rows ≡ true) P (λ c e. h c (subst T (sym e) tt)) (commands x y z)
     (all_same (λ (c : Command). ltb (row_number c) rows) (λ (c : Command). true) (commands x y z) refl))
 
 -- ---- a command is its row and its operands
--- the command of a row, made of its operands
-abbrev pub made : ℕ → List ℕ → Command
-made i vs = get_or (commands (get_or vs 0 0) (get_or vs 1 0) (get_or vs 2 0)) i (Refused 1)
-
 pub made_again : (c : Command) → NoRefusal c → made (row_number c) (operands c) ≡ c
 made_again = same_row (λ (c : Command). made (row_number c) (operands c)) (λ (c : Command). c) (λ x y z. refl)
 

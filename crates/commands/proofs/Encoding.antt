@@ -14,12 +14,13 @@ use borrow.Author.Tests.{leb-true, leb-false, eqb-false}
 use Rattle.integers.specs.Numbers.{Bytes, bytes_of, number_of, number_at}
 use Rattle.integers.proofs.Numbers.{length-bytes, number-bytes, bytes-number, number_small}
 use Rattle.commands.specs.Table.{rows, row_at, row_of, size_of_row, size_of_byte}
-use Rattle.commands.specs.Reading.{command_at, read_row}
+use Rattle.commands.specs.Reading.{command_at, read_row, made}
 use Rattle.commands.specs.Encoding.{row_number, operands, byte_of, at_widths, encode, NoRefusal, InWidths, Fits}
+use Rattle.answers.specs.declared.Reason.TheVariants.{NotAllowed, CutShort}
 use Rattle.commands.specs.declared.Command.{Command}
 use Rattle.commands.specs.declared.Command.TheVariants.{Refused}
 use Rattle.commands.proofs.Every.{each_at}
-use Rattle.commands.proofs.Commands.{made, made_again}
+use Rattle.commands.proofs.Commands.{made_again}
 use Rattle.commands.proofs.Rows.{total, row-byte, size-total, size-of-byte, size-as}
 use Rattle.commands.proofs.Known.{whole-as}
 
@@ -141,8 +142,8 @@ unfolding command_at
 seen s h = by_tests (eqb (length s) 0) (leb rows (row_of (get_or s 0 0))) (leb (size_of_row (row_of (get_or s 0 0))) (length s)) refl refl refl h refl
   where
     by_tests : (x y z : Bool) → eqb (length s) 0 ≡ x → leb rows (row_of (get_or s 0 0)) ≡ y → leb (size_of_row (row_of (get_or s 0 0))) (length s) ≡ z
-        → NoRefusal (cond x (Refused 2) (cond y (Refused 1) (cond z (read_row s (row_of (get_or s 0 0))) (Refused 2))))
-        → command_at s ≡ cond x (Refused 2) (cond y (Refused 1) (cond z (read_row s (row_of (get_or s 0 0))) (Refused 2))) → Seen s
+        → NoRefusal (cond x (Refused CutShort) (cond y (Refused NotAllowed) (cond z (read_row s (row_of (get_or s 0 0))) (Refused CutShort))))
+        → command_at s ≡ cond x (Refused CutShort) (cond y (Refused NotAllowed) (cond z (read_row s (row_of (get_or s 0 0))) (Refused CutShort))) → Seen s
     by_tests true y z e₁ e₂ e₃ h e = absurd h
     by_tests false true z e₁ e₂ e₃ h e = absurd h
     by_tests false false false e₁ e₂ e₃ h e = absurd h

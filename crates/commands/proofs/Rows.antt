@@ -3,7 +3,7 @@
 use mathlib.Core.Bool.{Bool, true, false, cond}
 use mathlib.Core.List.{List, [], ◌∷◌}
 use mathlib.Core.Path.{◌≡◌, refl, sym, ap, ◌∙◌}
-use Prim.Native.Nat.{ℕ, suc, ◌+◌, ◌≤◌, ◌<◌}
+use Prim.Native.Nat.{ℕ, suc, ◌+◌, ◌<◌}
 use native.Mathlib.Nat.{zero-add}
 use native.Mathlib.Omega.{arith}
 use lib.Dec.{eqb}
@@ -38,9 +38,6 @@ pub size-as : (i : ℕ) {b : ℕ} → i < rows → b ≡ (row_at i).byte → siz
 unfolding size_of_byte
 size-as i h e = rw (e, row-of-byte i h, lt-ltb i rows h)
 
-pub sized : (i : ℕ) {b r : ℕ} → i < rows → b ≡ (row_at i).byte → (r ≡ size_of_row i) × (0 < r) × (r ≤ 13) → (r ≡ size_of_byte b) × (0 < r) × (r ≤ 13)
-sized i h e (size, more, most) = (size ∙ sym (size-as i h e), more, most)
-
 -- where the search for a byte ends within the rows, the row has the byte
 seek-at : (b : ℕ) (rs : List Row) (i : ℕ) → seek b rs i < i + length rs → (j : ℕ) × (seek b rs i ≡ i + j) × ((get_or rs j (row 0 [])).byte ≡ b)
 seek-at b [] i h = absurd (omega arith)
@@ -72,7 +69,3 @@ seek-past b (r ∷ rs) i N h =
 
 pub no_row : (b : ℕ) → Apart b table (Unit {0}) → row_of b ≡ rows
 no_row b h = (seek-past b table 0 (Unit {0}) h).1
-
-pub size-past : {b : ℕ} → Apart b table (Unit {0}) → size_of_byte b ≡ 1
-unfolding size_of_byte
-size-past {b} h = rw (no_row b h)

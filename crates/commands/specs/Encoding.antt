@@ -2,7 +2,7 @@
 -- Assumes nothing.
 use Rattle.std.specs.Prelude.{ℕ, ◌^◌, ◌<◌, List, [], ◌∷◌, ◌++◌, T, ltb, get_or}
 use Rattle.integers.specs.Numbers.{bytes_of}
-use Rattle.commands.specs.Table.{rows, row_at}
+use Rattle.commands.specs.Table.{rows, row_at, width_at}
 use Rattle.commands.specs.declared.Command.{Command}
 use Rattle.commands.specs.declared.Command.TheVariants.{Variable, Start, Mode, Action, Condition, ModeCondition, ModeEffect, Add, Linear, Term, Quotient}
 use Rattle.commands.specs.declared.Command.TheVariants.{Residue, Goal, End, Sum, Refused}
@@ -24,7 +24,7 @@ row_number (Residue target operand divisor) = 11
 row_number Goal = 12
 row_number End = 13
 row_number (Sum relation constant) = 14
-row_number (Refused number) = 15
+row_number (Refused reason) = 15
 
 abbrev pub operands : Command → List ℕ
 operands (Variable lower upper start) = lower ∷ upper ∷ start ∷ []
@@ -42,7 +42,7 @@ operands (Residue target operand divisor) = target ∷ operand ∷ divisor ∷ [
 operands Goal = []
 operands End = []
 operands (Sum relation constant) = relation ∷ constant ∷ []
-operands (Refused number) = []
+operands (Refused reason) = []
 
 abbrev pub byte_of : Command → ℕ
 byte_of c = (row_at (row_number c)).byte
@@ -57,8 +57,9 @@ abbrev pub encode : Command → List ℕ
 encode c = byte_of c ∷ at_widths (row_at (row_number c)).widths (operands c)
 
 -- the bytes of a command by its row as the code has it: the row's byte, then each of three numbers at its width, none where the width is 0
-abbrev pub row_bytes : ℕ → List ℕ → ℕ → ℕ → ℕ → List ℕ
-row_bytes byte widths x y z = at_widths (1 ∷ get_or widths 0 0 ∷ get_or widths 1 0 ∷ get_or widths 2 0 ∷ []) (byte ∷ x ∷ y ∷ z ∷ [])
+abbrev pub row_bytes : ℕ → List ℕ → List ℕ
+row_bytes i vs =
+    at_widths (1 ∷ width_at i 0 ∷ width_at i 1 ∷ width_at i 2 ∷ []) ((row_at i).byte ∷ get_or vs 0 0 ∷ get_or vs 1 0 ∷ get_or vs 2 0 ∷ [])
 
 -- the bytes of commands, one behind another
 abbrev pub encode_all : List Command → List ℕ

@@ -10,7 +10,7 @@ use lib.IntN.{ℤ}
 use lib.ListN.{length, get_or, drop, get_elem?, get_or-append, length-map}
 use Rattle.integers.specs.All.{All}
 use Rattle.integers.specs.Numbers.{Bytes}
-use Rattle.lists.specs.Answer.{given}
+use Rattle.answers.specs.Answer.{given}
 use Rattle.lists.specs.Writing.{splice}
 use Rattle.lists.proofs.Writing.{splice_front}
 use Rattle.commands.specs.declared.Command.{Command}

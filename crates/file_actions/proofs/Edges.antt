@@ -5,13 +5,14 @@ use mathlib.Core.List.{List, [], ◌∷◌}
 use Prim.Native.Nat.{ℕ, zero, suc, ◌+◌, ◌-◌, ◌<◌, ◌≤◌}
 use native.Mathlib.Omega.{arith}
 use native.Mathlib.Nat.{add-zero}
-use lib.ListN.{length, get_or, drop, drop_of_length-le, length-drop, get_or-eq_default}
+use lib.ListN.{length, get_or, set, length-set, drop, drop_of_length-le, length-drop, get_or-eq_default}
 use lib.Seq.{drop-drop, get_or-drop, set_out}
 use borrow.Author.Tests.{eq-eqb, ne_eqb}
 use Rattle.lists.specs.Writing.{splice}
 use Rattle.commands.specs.Table.{letter_a, letter_g, size_of_byte}
 use Rattle.model.specs.Reading.{remainders}
 use Rattle.model.specs.ActionBytes.{edges, edge_of, edges_along}
+use Rattle.file_actions.proofs.Walking.{size-positive}
 use Rattle.file_actions.specs.Places.{edges_of, EdgesLeft, Sought}
 
 pub all_left : (file : List ℕ) → EdgesLeft file 0 (edges_of file)
@@ -47,7 +48,11 @@ module _ (file : List ℕ) (at : ℕ) (left : List ℕ) (h : at < length file) w
       where
         go : (most : ℕ) → length file < most + at → left ≡ edges most at (drop at file) → (more : List ℕ) × (left ≡ at ∷ more) × EdgesLeft file (at + size) more
         go zero b q = absurd (omega arith)
-        go (suc most) b q = (edges most (at + size) (drop (at + size) file), q ∙ rw (ne_eqb _ 0 some, first, ← is, drop-drop size at file, g), record { most = most; enough = omega arith; are = refl })
+        go (suc most) b q = (
+          edges most (at + size) (drop (at + size) file),
+          q ∙ rw (ne_eqb _ 0 some, first, ← is, drop-drop size at file, g),
+          record { most = most; enough = omega arith; are = refl },
+        )
 
     pub at_other : (get_or file at 0 ≡ letter_g → ⊥) → (get_or file at 0 ≡ letter_a → ⊥) → EdgesLeft file at left → EdgesLeft file (at + size) left
     unfolding remainders edges_along
@@ -55,7 +60,11 @@ module _ (file : List ℕ) (at : ℕ) (left : List ℕ) (h : at < length file) w
       where
         go : (most : ℕ) → length file < most + at → left ≡ edges most at (drop at file) → EdgesLeft file (at + size) left
         go zero b q = absurd (omega arith)
-        go (suc most) b q = record { most = most; enough = omega arith; are = q ∙ rw (ne_eqb _ 0 some, first, ne_eqb _ letter_g g, ne_eqb _ letter_a a, ← is, drop-drop size at file) }
+        go (suc most) b q = record {
+          most = most;
+          enough = omega arith;
+          are = q ∙ rw (ne_eqb _ 0 some, first, ne_eqb _ letter_g g, ne_eqb _ letter_a a, ← is, drop-drop size at file);
+        }
 
 -- ---- in search of one of them
 pub sought-first : (file : List ℕ) (k : ℕ) → Sought file k 0 k
@@ -97,8 +106,10 @@ module _ {file : List ℕ} {k at number : ℕ} (s : Sought file k at number) whe
   found_here z more e =
       let i : k ≡ 0 + k = omega arith in
       let n : 0 + number ≡ 0 = omega arith in
-      let one : suc number ≡ 1 = omega arith in
-      (sym (ap (edge_of file) i ∙ s.sought 0 ∙ ap (λ (x : ℕ). get_or s.left x (length file)) n ∙ ap (λ (l : List ℕ). get_or l 0 (length file)) e), record { left = s.left; there = s.there; sought = λ j. behind j ∙ ap (λ (x : ℕ). get_or s.left (j + x) (length file)) one })
+      let one : suc number ≡ 1 = omega arith in (
+        sym (ap (edge_of file) i ∙ s.sought 0 ∙ ap (λ (x : ℕ). get_or s.left x (length file)) n ∙ ap (λ (l : List ℕ). get_or l 0 (length file)) e),
+        record { left = s.left; there = s.there; sought = λ j. behind j ∙ ap (λ (x : ℕ). get_or s.left (j + x) (length file)) one },
+      )
 
   module _ (h : at < length file) where
     pub found-goal : get_or file at 0 ≡ letter_g → number ≡ 0 → (at ≡ edge_of file k) × Sought file (suc k) at 1
@@ -107,14 +118,23 @@ module _ {file : List ℕ} {k at number : ℕ} (s : Sought file k at number) whe
     pub past-goal : get_or file at 0 ≡ letter_g → (number ≡ 0 → ⊥) → (length file ≡ edge_of file k) × Sought file (suc k) (length file) 1
     past-goal g z = none_found (at ∷ []) (at-goal file at s.left h g s.there) (omega (arith, z))
 
-    module _ (size : ℕ) (is : size ≡ size_of_byte (get_or file at 0)) (moves : 0 < size) where
-      pub found-action : get_or file at 0 ≡ letter_a → number ≡ 0 → (at ≡ edge_of file k) × Sought file (suc k) at 1
-      found-action g z = let (more, e, there) = at-action file at s.left h size is moves g s.there in found_here z more e
+    pub found-action : get_or file at 0 ≡ letter_a → number ≡ 0 → (at ≡ edge_of file k) × Sought file (suc k) at 1
+    found-action g z =
+        let b = get_or file at 0 in
+        let (more, e, there) = at-action file at s.left h (size_of_byte b) refl (size-positive b) g s.there in
+        found_here z more e
 
+    module _ {size : ℕ} (is : size ≡ size_of_byte (get_or file at 0)) (moves : 0 < size) where
       pub past-action : get_or file at 0 ≡ letter_a → (number ≡ 0 → ⊥) → Sought file k (at + size) (number - 1)
       past-action g z =
           let (more, e, there) = at-action file at s.left h size is moves g s.there in
-          record { left = more; there = there; sought = λ j. s.sought j ∙ ap (λ (l : List ℕ). get_or l (j + number) (length file)) e ∙ ap (λ (i : ℕ). get_or (at ∷ more) i (length file)) (one_less j) }
+          record {
+            left = more;
+            there = there;
+            sought = λ j.
+                s.sought j ∙ ap (λ (l : List ℕ). get_or l (j + number) (length file)) e
+                ∙ ap (λ (i : ℕ). get_or (at ∷ more) i (length file)) (one_less j);
+          }
         where
           one_less : (j : ℕ) → j + number ≡ suc (j + (number - 1))
           one_less j = omega (arith, z)
@@ -132,6 +152,23 @@ pub record Stores (file old table : List ℕ) (at n : ℕ) : Type 0 where
 
 pub stores-begin : (file old : List ℕ) → Stores file old old 0 0
 stores-begin file old = record { left = edges_of file; there = all_left file; same = refl; long = refl; bound = omega arith }
+
+-- one command more: an A is stored, and any other but G passed by
+module _ {file old table : List ℕ} {at n : ℕ} (s : Stores file old table at n) (h : at < length file)
+    {size : ℕ} (is : size ≡ size_of_byte (get_or file at 0)) (moves : 0 < size) where
+  pub stores-action : get_or file at 0 ≡ letter_a → (n ≡ length table → ⊥) → Stores file old (set table n at) (at + size) (n + 1)
+  stores-action a room =
+      let (more, e, there) = at-action file at s.left h size is moves a s.there in
+      record {
+        left = more;
+        there = there;
+        same = ap (splice table n) (sym e) ∙ s.same;
+        long = length-set table n at ∙ s.long;
+        bound = omega (arith, length-set table n at, s.bound, room);
+      }
+
+  pub stores-other : (get_or file at 0 ≡ letter_g → ⊥) → (get_or file at 0 ≡ letter_a → ⊥) → Stores file old table (at + size) n
+  stores-other g a = record { left = s.left; there = at_other file at s.left h size is moves g a s.there; same = s.same; long = s.long; bound = s.bound }
 
 -- past the end of the table nothing is stored
 pub splice-out : (left table : List ℕ) (n : ℕ) → length table ≤ n → splice table n left ≡ table

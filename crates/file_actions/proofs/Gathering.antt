@@ -39,6 +39,12 @@ pub gathering-begin : (s : List ℕ) (restricted : Bool) {marks : List ℕ} {num
 gathering-begin s restricted {marks} {numbers} blank =
     left-begin s (PartsTaken s restricted marks numbers) (record { passed = []; whole = refl; parts = says-as blank (nothing-taken restricted) })
 
+-- where none is left
+all-gathered : {s : List ℕ} {restricted : Bool} {marks : List ℕ} {numbers : List ℤ} → PartsTaken s restricted marks numbers []
+    → Says (fitting_restricted (parts_of restricted (decode_action s))) marks numbers
+all-gathered {s} {restricted} p =
+    says-as p.parts (ap (λ (z : List Command). fitting_restricted (parts_of restricted z)) (sym (p.whole ∙ append-nil p.passed)))
+
 module _ {s : List ℕ} {restricted : Bool} {at : ℕ} {marks : List ℕ} {numbers : List ℤ} (g : Gathering s restricted at marks numbers) where
   -- what a push asks
   pub gathering-room : PartsFit 0 0 0 0 marks
@@ -46,17 +52,15 @@ module _ {s : List ℕ} {restricted : Bool} {at : ℕ} {marks : List ℕ} {numbe
 
   -- after the last command
   pub gathering-end : length s ≤ at → Says (fitting_restricted (parts_of restricted (decode_action s))) marks numbers
-  gathering-end h =
-      let p = left_end (PartsTaken s restricted marks numbers) g h in
-      says-as p.parts (ap (λ (z : List Command). fitting_restricted (parts_of restricted z)) (sym (p.whole ∙ append-nil p.passed)))
+  gathering-end h = all-gathered (left_end (PartsTaken s restricted marks numbers) g h)
 
 module _ {s : List ℕ} {restricted : Bool} {at : ℕ} {marks : List ℕ} {numbers : List ℤ} {rest : List ℕ} {size : ℕ}
     (t : Turn s at rest size) (g : Gathering s restricted at marks numbers) where
   abbrev there : 0 < length rest
   there = some t (PartsTaken s restricted marks numbers) g
 
-  pub turn-edge : OneOf (letter_a ∷ letter_g ∷ []) (get_or rest 0 0) → Gathering s restricted (length s) marks numbers
-  turn-edge = left-edge t (PartsTaken s restricted marks numbers) g
+  pub turn-edge : OneOf (letter_a ∷ letter_g ∷ []) (get_or rest 0 0) → Says (fitting_restricted (parts_of restricted (decode_action s))) marks numbers
+  turn-edge b = all-gathered (left-edge t (PartsTaken s restricted marks numbers) g b)
 
   turn : {marks' : List ℕ} {numbers' : List ℤ} → is_edge (command_at rest) ≡ false → Takes restricted (command_at rest) marks numbers marks' numbers'
       → Gathering s restricted (at + size) marks' numbers'

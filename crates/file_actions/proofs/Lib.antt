@@ -6,7 +6,6 @@ pub mod Fits
 pub mod Gathering
 pub mod GoalBytes
 pub mod NumericPart
-pub mod Parts
 pub mod Refusals
 pub mod SumPart
 pub mod Sums

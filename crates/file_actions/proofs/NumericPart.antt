@@ -5,6 +5,7 @@ use mathlib.Core.Path.{◌≡◌, refl, ◌∙◌, sym, ap, subst}
 use mathlib.Core.Bool.{Bool, true, false, cond}
 use mathlib.Core.List.{List, [], ◌∷◌, ◌++◌, append_assoc, map, map-append}
 use mathlib.Core.Logic.{inl, inr}
+use Rattle.std.specs.Prelude.{Option, Some, None}
 use Prim.Native.Nat.{ℕ, ◌+◌, ◌<◌, ◌≤◌}
 use native.Mathlib.Omega.{arith}
 use denote.Enum.Declared.{tag_of}
@@ -31,16 +32,15 @@ use Rattle.file_parts.specs.Row.{Says}
 use Rattle.file_actions.specs.declared.Terms.{Terms}
 use Rattle.file_actions.specs.declared.NumericEffect.{NumericEffect}
 use Rattle.file_actions.specs.declared.Effects.{Effects}
-use Rattle.file_actions.specs.declared.Given.{Given}
 use Rattle.file_actions.specs.Places.{body_start}
 use Rattle.file_actions.specs.Taking.{CommandsLeft, parts_of}
 use Rattle.file_actions.specs.Views.{effect_room, term_room, term_is, terms_is, numeric_is, effects_is, fitting_effect}
 use Rattle.file_actions.specs.Views.{plain_action_of, fitting_source, fitting_restricted, SourceDecoded}
 use Rattle.file_actions.specs.Numeric.{term, with_term, TermsRead, no_terms}
-use Rattle.file_actions.specs.Numeric.{no_effects, giving_none, given_is, effect_in, FewTerms, EffectGiven}
+use Rattle.file_actions.specs.Numeric.{no_effects, given_is, effect_in, FewTerms, EffectGiven}
 use Rattle.file_actions.proofs.Filling.{front-enough, whole, stored, filled, stored-with, dropped-with, taken-few, all_set}
 use Rattle.file_actions.proofs.Taking.{of_row, other-inside}
-use Rattle.file_actions.proofs.Walking.{Turn, next-command, no-command-left, all-passed, Left, left-begin, left_end, some, left-edge, left-next}
+use Rattle.file_actions.proofs.Walking.{Turn, next-command, no-command-left, Left, left-begin, left_end, some, left-edge, left-next}
 
 -- ---- terms
 -- the T's read, with those that are left from an offset on, are all of them
@@ -49,9 +49,6 @@ pub record TermsFrom (s : List ℕ) (from at : ℕ) (r : Terms) : Type 0 where
   pub long : length r.places ≡ term_room
   pub are : (left : List Command) → CommandsLeft s from left
       → (more : List Command) × CommandsLeft s at more × (take term_room (terms_is r.count r.places ++ terms_of more) ≡ take term_room (terms_of left))
-
-pub terms-begin : (s : List ℕ) (from : ℕ) → TermsFrom s from from no_terms
-terms-begin s from = record { few = omega arith; long = refl; are = λ left there. (left, there, refl) }
 
 -- one term more
 module _ (r : Terms) (v : ℕ) (w : ℤ) where
@@ -77,7 +74,8 @@ module _ (r : Terms) (v : ℕ) (w : ℤ) where
   term-read rest long = go (ltb r.count term_room) refl
     where
       go : (t : Bool) → ltb r.count term_room ≡ t
-          → take term_room (terms_is (cond t one_more r).count (cond t one_more r).places ++ rest) ≡ take term_room (terms_is r.count r.places ++ ((v, w) ∷ rest))
+          → take term_room (terms_is (cond t one_more r).count (cond t one_more r).places ++ rest)
+          ≡ take term_room (terms_is r.count r.places ++ ((v, w) ∷ rest))
       go true e = stored-with term_is term_room r.places r.count (term v w) long rest (ltb-true r.count term_room e)
       go false e = dropped-with term_is term_room r.places r.count (term v w) long rest (ltb-false r.count term_room e)
 
@@ -101,29 +99,30 @@ no-term (Sum a b) more h = refl
 no-term (Refused a) more h = refl
 
 module _ {s : List ℕ} {from at : ℕ} {r : Terms} (g : TermsFrom s from at r) where
+  -- where no more T's are left
+  enough : (more : List Command) → terms_of more ≡ [] → terms_is r.count r.places ≡ take term_room (terms_is r.count r.places ++ terms_of more)
+  enough more e =
+      whole term_room (terms_is r.count r.places) (taken-few term_is r.count r.places term_room g.few)
+      ∙ ap (λ (z : List (ℕ × ℤ)). take term_room (terms_is r.count r.places ++ z)) (sym e)
+
   -- after the last command
   pub terms-end : length s ≤ at → TermsRead s from r
   terms-end h = record {
     few = g.few;
     are = λ left there.
         let (more, behind, same) = g.are left there in
-        whole term_room (terms_is r.count r.places) (taken-few term_is r.count r.places term_room g.few)
-        ∙ ap (λ (z : List Command). take term_room (terms_is r.count r.places ++ terms_of z)) (sym (no-command-left s at more h behind)) ∙ same;
+        enough more (ap terms_of (no-command-left s at more h behind)) ∙ same;
   }
 
   module _ {rest : List ℕ} {size : ℕ} (t : Turn s at rest size) where
-    pub terms-stop : {c : Command} → c ≡ command_at rest → Among (others 9) (tag_of the_type c) → TermsFrom s from (length s) r
+    pub terms-stop : {c : Command} → c ≡ command_at rest → Among (others 9) (tag_of the_type c) → TermsRead s from r
     terms-stop {c} e other = record {
       few = g.few;
-      long = g.long;
       are = λ left there.
           let (more, behind, same) = g.are left there in
-          let (fewer, is, next) = next-command t more behind in (
-            [],
-            all-passed s,
-            ap (λ (z : List (ℕ × ℤ)). take term_room (terms_is r.count r.places ++ z))
-                (sym (ap terms_of (is ∙ ap (λ (d : Command). d ∷ fewer) (sym e)) ∙ no-term c fewer other)) ∙ same,
-          );
+          let (fewer, is, next) = next-command t more behind in
+          let none : terms_of more ≡ [] = ap terms_of (is ∙ ap (λ (d : Command). d ∷ fewer) (sym e)) ∙ no-term c fewer other in
+          enough more none ∙ same;
     }
 
     pub terms-next : (v bits : ℕ) → Term v bits ≡ command_at rest → TermsFrom s from (at + size) (with_term r v (constant bits))
@@ -232,17 +231,21 @@ effects-begin s = left-begin s (EffectsFrom s no_effects) (record {
   are = refl;
 })
 
--- after the last command, with rows that say the other parts
-pub effects-end : {s : List ℕ} {at : ℕ} {n : Effects} {marks : List ℕ} {numbers : List ℤ} → EffectsLeft s at n → length s ≤ at
-    → Says (fitting_restricted (parts_of false (decode_action s))) marks numbers → SourceDecoded (fitting_source (plain_action_of (decode_action s))) marks numbers n
-effects-end {s} {at} {n} g h parts =
-    let p = left_end (EffectsFrom s n) g h in
-    record { parts = parts; effects = all-taken p.held ∙ p.are; few = p.held.few; terms_few = p.held.terms_few }
+-- where none is left, with rows that say the other parts
+module _ {s : List ℕ} {n : Effects} {marks : List ℕ} {numbers : List ℤ}
+    (parts : Says (fitting_restricted (parts_of false (decode_action s))) marks numbers) where
+  all-effects : EffectsFrom s n [] → SourceDecoded (fitting_source (plain_action_of (decode_action s))) marks numbers n
+  all-effects p = record { parts = parts; effects = all-taken p.held ∙ p.are; few = p.held.few; terms_few = p.held.terms_few }
+
+  -- after the last command, and at an A or G
+  pub effects-end : {at : ℕ} → EffectsLeft s at n → length s ≤ at → SourceDecoded (fitting_source (plain_action_of (decode_action s))) marks numbers n
+  effects-end g h = all-effects (left_end (EffectsFrom s n) g h)
+
+  pub effects-edge : {at : ℕ} {rest : List ℕ} {size : ℕ} → Turn s at rest size → EffectsLeft s at n → OneOf (letter_a ∷ letter_g ∷ []) (get_or rest 0 0)
+      → SourceDecoded (fitting_source (plain_action_of (decode_action s))) marks numbers n
+  effects-edge t g b = all-effects (left-edge t (EffectsFrom s n) g b)
 
 module _ {s : List ℕ} {at : ℕ} {n : Effects} {rest : List ℕ} {size : ℕ} (t : Turn s at rest size) (g : EffectsLeft s at n) where
-  pub effects-edge : OneOf (letter_a ∷ letter_g ∷ []) (get_or rest 0 0) → EffectsLeft s (length s) n
-  effects-edge = left-edge t (EffectsFrom s n) g
-
   -- at any other command they grow by what it gives
   turn : {r : Effects} → is_edge (command_at rest) ≡ false
       → ((left : List Command) → CommandsLeft s (at + size) left → Held n → Grown n (map fitting_effect (effect_in (command_at rest) (terms_of left))) r)
@@ -266,7 +269,8 @@ module _ {s : List ℕ} {at : ℕ} {n : Effects} {rest : List ℕ} {size : ℕ} 
       })
 
   -- a C, E, K, P or T gives none
-  plain : (i : ℕ) → i < rows → get_or rest 0 0 ≡ (row_at i).byte → is_edge (read_row rest i) ≡ false → ((terms : List (ℕ × ℤ)) → effect_in (read_row rest i) terms ≡ [])
+  plain : (i : ℕ) → i < rows → get_or rest 0 0 ≡ (row_at i).byte → is_edge (read_row rest i) ≡ false
+      → ((terms : List (ℕ × ℤ)) → effect_in (read_row rest i) terms ≡ [])
       → EffectsLeft s (at + size) n
   plain i few b inside none =
       let there = some t (EffectsFrom s n) g in
@@ -286,44 +290,19 @@ module _ {s : List ℕ} {at : ℕ} {n : Effects} {rest : List ℕ} {size : ℕ} 
   effects-pass (inr (inr (inr (inr b)))) = plain 9 (lit< tt) b refl (λ terms. refl)
 
   -- any other command that is no A or G: it gives none, or one that is kept or dropped
-  module _ (no_edge : OneOf (letter_a ∷ letter_g ∷ []) (get_or rest 0 0) → ⊥) {r : Given} (e : EffectGiven s (at + size) (command_at rest) r) where
-    by : {more : List Effect} {q : Effects} → given_is r ≡ more → (Held n → Grown n more q) → EffectsLeft s (at + size) q
-    by {more} {q} is grown =
+  module _ (no_edge : OneOf (letter_a ∷ letter_g ∷ []) (get_or rest 0 0) → ⊥) where
+    by : {r : Option NumericEffect} {q : Effects} → EffectGiven s (at + size) (command_at rest) r → (Held n → Grown n (given_is r) q)
+        → EffectsLeft s (at + size) q
+    by {r} {q} e grown =
         turn (other-inside (get_or rest 0 0) (command_at rest) (byte-read rest) (λ b. no_edge (inl b)) (λ b. no_edge (inr b)))
-        (λ left behind h. subst (λ (z : List Effect). Grown n z q) (sym is ∙ e.are left behind) (grown h))
+        (λ left behind h. subst (λ (z : List Effect). Grown n z q) (e.are left behind) (grown h))
 
-    pub effects-none : r.given ≡ false → EffectsLeft s (at + size) n
-    effects-none is = by (rw is) (λ h. record { held = h; are = all-taken h })
+    pub effects-none : EffectGiven s (at + size) (command_at rest) None → EffectsLeft s (at + size) n
+    effects-none e = by e (λ h. record { held = h; are = all-taken h })
 
-    pub effects-kept : r.given ≡ true → n.count < effect_room
-        → EffectsLeft s (at + size) (record { count = n.count + 1; places = set n.places n.count r.place })
-    effects-kept is room = by (rw is) (λ h. one_kept h r.place e.terms_few room)
+    module _ {x : NumericEffect} (e : EffectGiven s (at + size) (command_at rest) (Some x)) where
+      pub effects-kept : n.count < effect_room → EffectsLeft s (at + size) (record { count = n.count + 1; places = set n.places n.count x })
+      effects-kept room = by e (λ h. one_kept h x e.terms_few room)
 
-    pub effects-dropped : r.given ≡ true → effect_room ≤ n.count → EffectsLeft s (at + size) n
-    effects-dropped is full = by (rw is) (λ h. one-dropped h r.place full)
-
--- ---- a command that gives no effect
--- its cases: all but those of +, L, Q and R
-abbrev pub plain_cases : List ℕ
-plain_cases = 0 ∷ 1 ∷ 2 ∷ 3 ∷ 4 ∷ 5 ∷ 6 ∷ 9 ∷ 12 ∷ 13 ∷ 14 ∷ 15 ∷ []
-
-no-effect : (c : Command) (terms : List (ℕ × ℤ)) → Among plain_cases (tag_of the_type c) → effect_in c terms ≡ []
-no-effect (Variable a b d) terms h = refl
-no-effect (Start a) terms h = refl
-no-effect (Mode a b) terms h = refl
-no-effect Action terms h = refl
-no-effect (Condition a b d) terms h = refl
-no-effect (ModeCondition a b) terms h = refl
-no-effect (ModeEffect a b) terms h = refl
-no-effect (Add a b) terms h = absurd (miss plain_cases 7 tt (opened h))
-no-effect (Linear a b) terms h = absurd (miss plain_cases 8 tt (opened h))
-no-effect (Term a b) terms h = refl
-no-effect (Quotient a b d) terms h = absurd (miss plain_cases 10 tt (opened h))
-no-effect (Residue a b d) terms h = absurd (miss plain_cases 11 tt (opened h))
-no-effect Goal terms h = refl
-no-effect End terms h = refl
-no-effect (Sum a b) terms h = refl
-no-effect (Refused a) terms h = refl
-
-pub gives_none : (s : List ℕ) (behind : ℕ) (c : Command) → Among plain_cases (tag_of the_type c) → EffectGiven s behind c giving_none
-gives_none s behind c plain = record { terms_few = omega arith; are = λ left there. ap (map fitting_effect) (sym (no-effect c (terms_of left) plain)) }
+      pub effects-dropped : effect_room ≤ n.count → EffectsLeft s (at + size) n
+      effects-dropped full = by e (λ h. one-dropped h x full)

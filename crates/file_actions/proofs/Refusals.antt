@@ -8,9 +8,15 @@ use mathlib.Core.List.{List, [], ◌∷◌}
 use lib.Dec.{eqb, leb, ltb}
 use lib.ListN.{length, get_or}
 use borrow.Author.Tests.{eqb-true, leb-true, ne_eqb, ltb-true, ltb-false}
+use Rattle.std.specs.Prelude.{Ok, Err}
 use Rattle.integers.specs.All.{All}
 use Rattle.lists.proofs.Loops.{and_left, and_right}
-use Rattle.lists.specs.Answer.{Answer, given, refused, then}
+use Rattle.answers.specs.Answer.{Answer, given, refused, then}
+use Rattle.answers.specs.Refusals.{number_of, refusal_is}
+use Rattle.answers.specs.declared.Reason.{Reason}
+use Rattle.answers.specs.declared.Reason.TheVariants.{NotAllowed, CutShort, BytesBehind, OverLimit, Undeclared, OutOfRange, NamedTwice}
+use Rattle.answers.specs.declared.Reason.TheVariants.{OutputShort, OverMillion, PlanLength, NoAction, DoesNotApply, GoalNotMet, SumWithoutTerm}
+use Rattle.answers.specs.declared.Refusal.{Refusal}
 use Rattle.integers.specs.Numbers.{number_at}
 use Rattle.commands.specs.Table.{rows, row_of, width_at, size_of_row, size_of_byte, letter_t}
 use Rattle.commands.specs.Encoding.{byte_of}
@@ -23,7 +29,8 @@ use Rattle.model.specs.Rules.{is_one_of, allowed, tests_of, next_of, onwards, ow
 use Rattle.model.specs.Reading.{remainders, Verdict, Accepted, Rejected, accepted_with, after_command, verdict_along, verdict_of}
 use Rattle.model.specs.Decoding.{on_verdict}
 use Rattle.model.specs.ActionBytes.{edge_of, action_part, of_verdict, action_place, part_at}
-use Rattle.file_actions.specs.Places.{bytes_told, BytesOfAction, step_place}
+use Rattle.file_actions.specs.declared.ActionBytes.{ActionBytes}
+use Rattle.file_actions.specs.Places.{bytes_told, told_is, BytesOfAction, step_place}
 
 -- ---- the numbers
 abbrev few : ℕ → Bool
@@ -65,7 +72,7 @@ module _ (l : Limits) (p : ReadingState) where
   unfolding tests_of
   all-ruled x y z = search (tt)
 
-  get-ruled : (cs : List Command) (i : ℕ) → All Ruled cs → Ruled (get_or cs i (Refused 1))
+  get-ruled : (cs : List Command) (i : ℕ) → All Ruled cs → Ruled (get_or cs i (Refused NotAllowed))
   unfolding tests_of
   get-ruled [] i h = (refl, tt)
   get-ruled (c ∷ cs) zero (h, hs) = h
@@ -85,7 +92,7 @@ module _ (l : Limits) (p : ReadingState) where
       by (eqb (length rest) 0) (leb rows i) (leb (size_of_row i) (length rest)) (row-ruled rest i)
     where
       by : (x y z : Bool) → Ruled (read_row rest (row_of (get_or rest 0 0)))
-          → Ruled (cond x (Refused 2) (cond y (Refused 1) (cond z (read_row rest (row_of (get_or rest 0 0))) (Refused 2))))
+          → Ruled (cond x (Refused CutShort) (cond y (Refused NotAllowed) (cond z (read_row rest (row_of (get_or rest 0 0))) (Refused CutShort))))
       by true y z r = (refl, tt)
       by false true z r = (refl, tt)
       by false false true r = r
@@ -110,6 +117,23 @@ module _ (l : Limits) (p : ReadingState) where
           let (tests, goes) = command-ruled rest in
           rule-numbered p (sum_tests l p c) (own_rule_of l p c) (sum-ruled c) (rule-numbered p (tests_of l p c) (onwards c (next_of p c)) tests goes)
       by false false = refl
+
+-- a reason's is not 0
+not_zero : (r : Reason) → number_of r ≡ 0 → ⊥
+not_zero NotAllowed e = omega arith
+not_zero CutShort e = omega arith
+not_zero BytesBehind e = omega arith
+not_zero OverLimit e = omega arith
+not_zero Undeclared e = omega arith
+not_zero OutOfRange e = omega arith
+not_zero NamedTwice e = omega arith
+not_zero OutputShort e = omega arith
+not_zero OverMillion e = omega arith
+not_zero PlanLength e = omega arith
+not_zero NoAction e = omega arith
+not_zero DoesNotApply e = omega arith
+not_zero GoalNotMet e = omega arith
+not_zero SumWithoutTerm e = omega arith
 
 -- ---- of a whole file
 abbrev NumberedVerdict : Verdict → Type 0
@@ -186,6 +210,13 @@ module _ (l : Limits) (file : List ℕ) (k : ℕ) where
       by : (a : Answer (ℕ × ℕ)) → bytes_told a file ≡ (number, place, bytes) → (number ≡ 0 → ⊥) → a ≡ refused number place
       by (given at) e h = absurd (h (sym (ap (λ (t : ℕ × ℕ × List ℕ). t.0) e)))
       by (refused n at) e h = ap (λ (t : ℕ × ℕ × List ℕ). refused t.0 t.1) e
+
+  -- as the code tells it
+  pub told-bytes : (a : ActionBytes) → told_is (Ok a) ≡ bytes_told (action_place l file k) file → BytesOfAction l file k a.bytes.now
+  told-bytes a e = told-given (sym e) refl
+
+  pub told-refusal : (r : Refusal) → told_is (Err r) ≡ bytes_told (action_place l file k) file → action_place l file k ≡ refusal_is r
+  told-refusal r e = told-refused (sym e) (not_zero r.reason)
 
   -- ---- the file whose action has these bytes is accepted, and they are the action's
   pub record GivenOf (bytes : List ℕ) : Type 0 where

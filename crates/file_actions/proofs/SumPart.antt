@@ -88,20 +88,22 @@ sums-begin s = left-begin s (SumsFrom s no_sums) (record {
   are = refl;
 })
 
+-- where none is left
+all-sums : {s : List ℕ} {n : SumConditions} → SumsFrom s n [] → SumsDecoded (sum_conditions_of (decode_action s)) n
+all-sums {n = n} p = record {
+  are = whole sum_room (sums_is n) (taken-few sum_is n.count n.places sum_room p.held.few) ∙ p.are;
+  few = p.held.few;
+  long = p.held.long;
+  terms_few = p.held.terms_few;
+}
+
 -- after the last command
 pub sums-end : {s : List ℕ} {at : ℕ} {n : SumConditions} → SumsLeft s at n → length s ≤ at → SumsDecoded (sum_conditions_of (decode_action s)) n
-sums-end {s} {at} {n} g h =
-    let p = left_end (SumsFrom s n) g h in
-    record {
-      are = whole sum_room (sums_is n) (taken-few sum_is n.count n.places sum_room p.held.few) ∙ p.are;
-      few = p.held.few;
-      long = p.held.long;
-      terms_few = p.held.terms_few;
-    }
+sums-end {s} {at} {n} g h = all-sums (left_end (SumsFrom s n) g h)
 
 module _ {s : List ℕ} {at : ℕ} {n : SumConditions} {rest : List ℕ} {size : ℕ} (t : Turn s at rest size) (g : SumsLeft s at n) where
-  pub sums-edge : OneOf (letter_a ∷ letter_g ∷ []) (get_or rest 0 0) → SumsLeft s (length s) n
-  sums-edge = left-edge t (SumsFrom s n) g
+  pub sums-edge : OneOf (letter_a ∷ letter_g ∷ []) (get_or rest 0 0) → SumsDecoded (sum_conditions_of (decode_action s)) n
+  sums-edge b = all-sums (left-edge t (SumsFrom s n) g b)
 
   -- a command that is no K
   passed : is_edge (command_at rest) ≡ false → eqb (byte_of (command_at rest)) letter_k ≡ false → SumsLeft s (at + size) n

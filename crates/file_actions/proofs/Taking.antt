@@ -10,6 +10,7 @@ use lib.IntN.{ℤ}
 use lib.ListN.{length, length-append, length-take, take, get_or, get_or-eq_default}
 use lib.Seq.{take-nil, take_all, take-append-le}
 use borrow.Author.Tests.{ne_eqb, ltb-false}
+use Rattle.answers.specs.declared.Reason.TheVariants.{CutShort}
 use Rattle.commands.specs.Table.{Row, rows, table, row_at, size_of_row, letter_a, letter_c, letter_p, letter_e, letter_g, plus_sign}
 use Rattle.commands.specs.Reading.{command_at, read_row}
 use Rattle.commands.specs.Encoding.{byte_of, row_number, NoRefusal}
@@ -20,7 +21,8 @@ use Rattle.model.specs.Rules.{constant}
 use Rattle.model.specs.Tasks.{NumericCondition, RestrictedAction}
 use Rattle.model.specs.Steps.{natural_at}
 use Rattle.model.specs.Decoding.{those, is_edge, condition_of, pair_of, amount_of, additions_of}
-use Rattle.file_parts.specs.Layout.{condition_room, mode_condition_room, mode_effect_room, addition_room, condition_count, mode_condition_count, mode_effect_count, addition_count}
+use Rattle.file_parts.specs.Layout.{condition_room, mode_condition_room, mode_effect_room, addition_room, condition_count}
+use Rattle.file_parts.specs.Layout.{mode_condition_count, mode_effect_count, addition_count}
 use Rattle.file_parts.specs.Row.{row_is, Says}
 use Rattle.file_parts.specs.With.{condition, blank_action, with_condition, with_mode_condition, with_mode_effect, with_addition}
 use Rattle.file_parts.proofs.Pushing.{Sized, pushed, says-as, conditions-counted, mode-conditions-counted, mode-effects-counted, additions-counted}
@@ -106,11 +108,16 @@ module _ (p : RestrictedAction) where
   fits-none = fitting-joined p blank_action (fitting_restricted p) same-modes same-conditions same-effects same-additions
 
   module _ (x : NumericCondition ℕ) where
-    fits-condition : length (take condition_room p.conditions) < condition_room → with_condition (fitting_restricted p) x ≡ fitting_restricted (joined p (with_condition blank_action x))
-    fits-condition h = fitting-joined p (with_condition blank_action x) (with_condition (fitting_restricted p) x) same-modes (grows condition_room p.conditions x h) same-effects same-additions
+    fits-condition : length (take condition_room p.conditions) < condition_room
+        → with_condition (fitting_restricted p) x ≡ fitting_restricted (joined p (with_condition blank_action x))
+    fits-condition h =
+        fitting-joined p (with_condition blank_action x) (with_condition (fitting_restricted p) x)
+        same-modes (grows condition_room p.conditions x h) same-effects same-additions
 
-    full-conditions : condition_room ≤ length (take condition_room p.conditions) → fitting_restricted p ≡ fitting_restricted (joined p (with_condition blank_action x))
-    full-conditions h = fitting-joined p (with_condition blank_action x) (fitting_restricted p) same-modes (full condition_room p.conditions x h) same-effects same-additions
+    full-conditions : condition_room ≤ length (take condition_room p.conditions)
+        → fitting_restricted p ≡ fitting_restricted (joined p (with_condition blank_action x))
+    full-conditions h =
+        fitting-joined p (with_condition blank_action x) (fitting_restricted p) same-modes (full condition_room p.conditions x h) same-effects same-additions
 
   module _ (x : ℕ × ℕ) where
     fits-mode-condition : length (take mode_condition_room p.mode_conditions) < mode_condition_room
@@ -128,15 +135,23 @@ module _ (p : RestrictedAction) where
     fits-mode-effect h = fitting-joined p (with_mode_effect blank_action x) (with_mode_effect (fitting_restricted p) x)
         same-modes same-conditions (grows mode_effect_room p.mode_effects x h) same-additions
 
-    full-mode-effects : mode_effect_room ≤ length (take mode_effect_room p.mode_effects) → fitting_restricted p ≡ fitting_restricted (joined p (with_mode_effect blank_action x))
-    full-mode-effects h = fitting-joined p (with_mode_effect blank_action x) (fitting_restricted p) same-modes same-conditions (full mode_effect_room p.mode_effects x h) same-additions
+    full-mode-effects : mode_effect_room ≤ length (take mode_effect_room p.mode_effects)
+        → fitting_restricted p ≡ fitting_restricted (joined p (with_mode_effect blank_action x))
+    full-mode-effects h =
+        fitting-joined p (with_mode_effect blank_action x) (fitting_restricted p)
+        same-modes same-conditions (full mode_effect_room p.mode_effects x h) same-additions
 
   module _ (x : ℕ × ℤ) where
-    fits-addition : length (take addition_room p.additions) < addition_room → with_addition (fitting_restricted p) x ≡ fitting_restricted (joined p (with_addition blank_action x))
-    fits-addition h = fitting-joined p (with_addition blank_action x) (with_addition (fitting_restricted p) x) same-modes same-conditions same-effects (grows addition_room p.additions x h)
+    fits-addition : length (take addition_room p.additions) < addition_room
+        → with_addition (fitting_restricted p) x ≡ fitting_restricted (joined p (with_addition blank_action x))
+    fits-addition h =
+        fitting-joined p (with_addition blank_action x) (with_addition (fitting_restricted p) x)
+        same-modes same-conditions same-effects (grows addition_room p.additions x h)
 
-    full-additions : addition_room ≤ length (take addition_room p.additions) → fitting_restricted p ≡ fitting_restricted (joined p (with_addition blank_action x))
-    full-additions h = fitting-joined p (with_addition blank_action x) (fitting_restricted p) same-modes same-conditions same-effects (full addition_room p.additions x h)
+    full-additions : addition_room ≤ length (take addition_room p.additions)
+        → fitting_restricted p ≡ fitting_restricted (joined p (with_addition blank_action x))
+    full-additions h =
+        fitting-joined p (with_addition blank_action x) (fitting_restricted p) same-modes same-conditions same-effects (full addition_room p.additions x h)
 
 -- ---- a command is taken
 pub nothing-taken : (r : Bool) → blank_action ≡ fitting_restricted (parts_of r [])
@@ -160,7 +175,8 @@ module _ (r : Bool) (c : Command) {q : RestrictedAction} (gives : parts_of r (c 
 
   -- they are pushed; or the rows stay
   module _ (marks : List ℕ) (numbers : List ℤ) where
-    taken : {B : Type 0} (f : RestrictedAction → B → RestrictedAction) {x : B} {marks' : List ℕ} {numbers' : List ℤ} → Says (f (row_is marks numbers) x) marks' numbers'
+    taken : {B : Type 0} (f : RestrictedAction → B → RestrictedAction) {x : B} {marks' : List ℕ} {numbers' : List ℤ}
+        → Says (f (row_is marks numbers) x) marks' numbers'
         → ((p : RestrictedAction) → Says (fitting_restricted p) marks numbers → f (fitting_restricted p) x ≡ fitting_restricted (joined p q))
         → Takes r c marks numbers marks' numbers'
     taken f w e passed h = says-as (pushed h f w) (e (parts_of r passed) h ∙ onto passed)
@@ -189,7 +205,8 @@ mode-effect-gives v w false = refl
 -- they and + are taken, or not, by whether there is room
 module _ (r : Bool) (marks : List ℕ) (numbers : List ℤ) where
   pub condition-taken : (v k bits : ℕ) {marks' : List ℕ} {numbers' : List ℤ} → natural_at marks condition_count < condition_room
-      → Says (with_condition (row_is marks numbers) (condition v k (constant bits))) marks' numbers' → Takes r (Condition v k bits) marks numbers marks' numbers'
+      → Says (with_condition (row_is marks numbers) (condition v k (constant bits))) marks' numbers'
+      → Takes r (Condition v k bits) marks numbers marks' numbers'
   condition-taken v k bits few w = taken r (Condition v k bits) (condition-gives v k bits r) marks numbers with_condition w
       (λ p h. fits-condition p _ (omega (arith, few, conditions-counted h)))
 
@@ -227,20 +244,20 @@ module _ (marks : List ℕ) (numbers : List ℤ) (v bits : ℕ) where
 
 -- the byte of row i: the command is that row's, or it is cut short
 pub of_row : (s : List ℕ) (i : ℕ) → i < rows → 0 < length s → get_or s 0 0 ≡ (row_at i).byte
-    → (P : Command → Type 0) → P (read_row s i) → P (Refused 2) → P (command_at s)
+    → (P : Command → Type 0) → P (read_row s i) → P (Refused CutShort) → P (command_at s)
 of_row s i few some b P whole short = subst⁻¹ P (read_as s i few some b) (go (leb (size_of_row i) (length s)))
   where
-    go : (t : Bool) → P (cond t (read_row s i) (Refused 2))
+    go : (t : Bool) → P (cond t (read_row s i) (Refused CutShort))
     go true = whole
     go false = short
 
 -- a command of row i that is cut short is not taken
-pub cut-passed : (r : Bool) (marks : List ℕ) (numbers : List ℤ) (c : Command) → c ≡ Refused 2 → Takes r c marks numbers marks numbers
+pub cut-passed : (r : Bool) (marks : List ℕ) (numbers : List ℤ) (c : Command) → c ≡ Refused CutShort → Takes r c marks numbers marks numbers
 cut-passed r marks numbers c e = subst⁻¹ (λ (d : Command). Takes r d marks numbers marks numbers) e (short r)
   where
-    short : (r : Bool) → Takes r (Refused 2) marks numbers marks numbers
-    short true = passed-by true (Refused 2) marks numbers refl
-    short false = passed-by false (Refused 2) marks numbers refl
+    short : (r : Bool) → Takes r (Refused CutShort) marks numbers marks numbers
+    short true = passed-by true (Refused CutShort) marks numbers refl
+    short false = passed-by false (Refused CutShort) marks numbers refl
 
 -- the + of a source action is no part
 pub addition-passed : (s : List ℕ) → 0 < length s → get_or s 0 0 ≡ plus_sign

@@ -30,14 +30,6 @@ size-positive b = go (ltb (row_of b) rows)
     go true = omega arith
     go false = omega arith
 
-pub no_body : (s : List ℕ) → length s ≡ 0 → 0 ≡ body_start s
-no_body [] h = refl
-no_body (b ∷ s) h = absurd (omega arith)
-
-pub body-behind : (s : List ℕ) → 0 < length s → size_of_byte (get_or s 0 0) ≡ body_start s
-body-behind [] h = absurd (omega arith)
-body-behind (b ∷ s) h = refl
-
 -- all but the first
 body-left : (s : List ℕ) → CommandsLeft s (body_start s) (drop 1 (commands_in (suc (length s)) s))
 unfolding remainders all_along
@@ -52,12 +44,8 @@ no-command-left s at left h e = e.are ∙ nothing e.most
     nothing zero = refl
     nothing (suc most) = rw (drop_of_length-le s h)
 
-pub all-passed : (s : List ℕ) → CommandsLeft s (length s) []
-unfolding remainders all_along
-all-passed s = record { most = 1; enough = omega arith; are = sym (rw (drop_of_length-le s {i = length s} (omega arith))) }
-
 -- what `&s[at..]` holds
-pub tail : (s : List ℕ) (at : ℕ) → take (length s - at) (drop at s) ≡ drop at s
+tail : (s : List ℕ) (at : ℕ) → take (length s - at) (drop at s) ≡ drop at s
 tail s at = take_all (length s - at) (drop at s) (omega (arith, length-drop at s))
 
 -- at a command: `rest` is what remains, and the command there has this size
@@ -66,6 +54,10 @@ pub record Turn (s : List ℕ) (at : ℕ) (rest : List ℕ) (size : ℕ) : Type 
   pub is : rest ≡ drop at s
   pub sized : size ≡ size_of_byte (get_or rest 0 0)
   pub moves : 0 < size
+
+pub here : {s : List ℕ} {at size : ℕ} → at < length s → size ≡ size_of_byte (get_or (take (length s - at) (drop at s)) 0 0) → 0 < size
+    → Turn s at (take (length s - at) (drop at s)) size
+here {s} {at} inside sized moves = record { inside = inside; is = tail s at; sized = sized; moves = moves }
 
 -- what is left there is the command, and those that are left behind it
 pub next-command : {s : List ℕ} {at : ℕ} {rest : List ℕ} {size : ℕ} → Turn s at rest size → (left : List Command) → CommandsLeft s at left
@@ -79,7 +71,8 @@ next-command {s} {at} {rest} {size} t left e = go e.most e.enough e.are
     sized : size ≡ size_of_byte (get_or (drop at s) 0 0)
     sized = t.sized ∙ ap (λ (l : List ℕ). size_of_byte (get_or l 0 0)) t.is
 
-    go : (most : ℕ) → length s < most + at → left ≡ commands_in most (drop at s) → (more : List Command) × (left ≡ command_at rest ∷ more) × CommandsLeft s (at + size) more
+    go : (most : ℕ) → length s < most + at → left ≡ commands_in most (drop at s)
+        → (more : List Command) × (left ≡ command_at rest ∷ more) × CommandsLeft s (at + size) more
     go zero b q = absurd (omega (arith, t.inside))
     go (suc most) b q = (
       commands_in most (drop (at + size) s),
@@ -106,13 +99,13 @@ module _ {s : List ℕ} {at : ℕ} {rest : List ℕ} {size : ℕ} (t : Turn s at
   some = omega (arith, ap length t.is, length-drop at s, t.inside)
 
   -- an A or G: nothing more belongs to the action
-  ends : is_edge (command_at rest) ≡ true → Left s (length s) P
+  ends : is_edge (command_at rest) ≡ true → P []
   ends e =
       let (more, is, there) = next-command t g.left g.there in
       let q : up_to g.left ≡ [] = ap up_to is ∙ ap (λ (b : Bool). cond b [] (command_at rest ∷ up_to more)) e in
-      record { left = []; there = all-passed s; holds = subst P q g.holds }
+      subst P q g.holds
 
-  pub left-edge : OneOf (letter_a ∷ letter_g ∷ []) (get_or rest 0 0) → Left s (length s) P
+  pub left-edge : OneOf (letter_a ∷ letter_g ∷ []) (get_or rest 0 0) → P []
   left-edge (inl b) = ends (rw (whole-as rest 3 (lit< tt) some b (omega (arith, some))))
   left-edge (inr b) = ends (rw (whole-as rest 12 (lit< tt) some b (omega (arith, some))))
 

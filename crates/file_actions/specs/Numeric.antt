@@ -1,7 +1,7 @@
 -- The numeric effects and the conditions on sums of a source action while its commands are read: as many as there is room for, an L or a K with the
 -- T's directly behind it.
 -- Assumes nothing.
-use Rattle.std.specs.Prelude.{◌≡◌, ℕ, ◌+◌, ◌≤◌, true, false, cond, List, [], ◌∷◌, map, ltb, ℤ, pos, take, set, replicate}
+use Rattle.std.specs.Prelude.{◌≡◌, ℕ, ◌+◌, ◌≤◌, cond, List, [], ◌∷◌, map, ltb, ℤ, pos, take, set, replicate, Option, Some, None, IfSome}
 use Rattle.integers.specs.All.{All}
 use Rattle.commands.specs.declared.Command.{Command}
 use Rattle.commands.specs.declared.Command.TheVariants.{Variable, Start, Mode, Action, Condition, ModeCondition, ModeEffect, Add as AddCommand}
@@ -13,10 +13,9 @@ use Rattle.model.specs.Decoding.{terms_of}
 use Rattle.file_actions.specs.declared.Term.{Term}
 use Rattle.file_actions.specs.declared.Terms.{Terms}
 use Rattle.file_actions.specs.declared.Effect.{Effect as DecodedEffect}
-use Rattle.file_actions.specs.declared.Effect.TheVariants.{None}
+use Rattle.file_actions.specs.declared.Effect.TheVariants.{None as NoEffect}
 use Rattle.file_actions.specs.declared.NumericEffect.{NumericEffect}
 use Rattle.file_actions.specs.declared.Effects.{Effects}
-use Rattle.file_actions.specs.declared.Given.{Given}
 use Rattle.file_actions.specs.declared.SumCondition.{SumCondition}
 use Rattle.file_actions.specs.declared.SumConditions.{SumConditions}
 use Rattle.file_actions.specs.Taking.{CommandsLeft}
@@ -39,25 +38,19 @@ pub record TermsRead (s : List ℕ) (at : ℕ) (r : Terms) : Type 0 where
   pub are : (left : List Command) → CommandsLeft s at left → terms_is r.count r.places ≡ take term_room (terms_of left)
 
 -- ---- effects
-abbrev pub numeric_effect : DecodedEffect → Terms → NumericEffect
-numeric_effect e ts = record { effect = e; term_count = ts.count; terms = ts.places }
+abbrev pub with_terms : DecodedEffect → Terms → NumericEffect
+with_terms e ts = record { effect = e; term_count = ts.count; terms = ts.places }
 
 abbrev pub no_effect : NumericEffect
-no_effect = numeric_effect None no_terms
+no_effect = with_terms NoEffect no_terms
 
 abbrev pub no_effects : Effects
 no_effects = record { count = 0; places = replicate effect_room no_effect }
 
--- an effect that is given, and none
-abbrev pub giving : DecodedEffect → Terms → Given
-giving e ts = record { given = true; place = numeric_effect e ts }
-
-abbrev pub giving_none : Given
-giving_none = record { given = false; place = no_effect }
-
 -- what is given: none or one
-abbrev pub given_is : Given → List Effect
-given_is g = cond g.given (numeric_is g.place ∷ []) []
+abbrev pub given_is : Option NumericEffect → List Effect
+given_is None = []
+given_is (Some place) = numeric_is place ∷ []
 
 -- the effect that a command gives, an L with these terms
 abbrev pub effect_in : Command → List (ℕ × ℤ) → List Effect
@@ -76,15 +69,15 @@ effect_in (ModeEffect m x) terms = []
 effect_in Goal terms = []
 effect_in End terms = []
 effect_in (Sum r k) terms = []
-effect_in (Refused number) terms = []
+effect_in (Refused reason) terms = []
 
 -- none has more terms than there is room for
 abbrev pub FewTerms : Effects → Type 0
 FewTerms r = All (λ (e : NumericEffect). e.term_count ≤ term_room) r.places
 
 -- r is the effect that a command gives, behind which the commands from an offset on stand
-pub record EffectGiven (s : List ℕ) (behind : ℕ) (c : Command) (r : Given) : Type 0 where
-  pub terms_few : r.place.term_count ≤ term_room
+pub record EffectGiven (s : List ℕ) (behind : ℕ) (c : Command) (r : Option NumericEffect) : Type 0 where
+  pub terms_few : IfSome r (λ place. place.term_count ≤ term_room)
   pub are : (left : List Command) → CommandsLeft s behind left → given_is r ≡ map fitting_effect (effect_in c (terms_of left))
 
 -- ---- conditions on sums

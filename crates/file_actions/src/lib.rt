@@ -14,17 +14,19 @@ ghost use Rattle.model.specs.Limits.{source_limits, restricted_limits};
 ghost use Rattle.file_parts.specs.Layout.{MARKS, NUMBERS};
 ghost use Rattle.file_parts.specs.Row.{PartsFit, Says};
 ghost use Rattle.file_check.specs.Views.{verdict_is};
-ghost use Rattle.file_actions.specs.Places.{edges_of, Found, body_start, part_of, placed_is, bytes_told, step_place, goal_from, goal_part};
-ghost use Rattle.file_actions.specs.Numeric.{no_terms, with_term, TermsRead, no_effect, no_effects, giving, EffectGiven, no_sums, with_sum};
+ghost use Rattle.file_actions.specs.Places.{edges_of, Found, body_start, part_of, placed_is, bytes_told, told_is, at_step, goal_from, goal_part};
+ghost use Rattle.file_actions.specs.Numeric.{no_terms, with_term, TermsRead, no_effect, no_effects, with_terms, EffectGiven, sum_condition, no_sums, with_sum};
 ghost use Rattle.file_actions.specs.Taking.{parts_of, Takes};
 ghost use Rattle.file_actions.specs.Views.{plain_action_of, SourceDecoded, SumsDecoded, fitting_source, fitting_restricted};
 
+use answers::{Reason, Refusal};
 use commands::Command;
-use file_check::Verdict;
+use file_check::Accepted;
 use file_parts::{
     ADDITION_COUNT, ADDITIONS, CONDITION_COUNT, CONDITIONS, MARKS, MODE_CONDITION_COUNT,
     MODE_CONDITIONS, MODE_EFFECT_COUNT, MODE_EFFECTS, NUMBERS,
 };
+use std::ops::Range;
 
 // Room for the numeric effects of a source action, for the K of one or of the goal, and for the T of each of either.
 pub const EFFECTS: usize = 3;
@@ -92,22 +94,22 @@ fn edge_from(file: &[u8], from: usize, number: usize) -> usize
     let mut left = number;
     while at < file.len() {
         let byte = file[at];
-        let size = commands::size_of(byte);
-        if byte == b'G' {
-            if left == 0 {
-                return at;
+        match byte {
+            b'A' => {
+                if left == 0 {
+                    return at;
+                }
+                left -= 1;
             }
-            return file.len();
-        }
-        if byte == b'A' {
-            if left == 0 {
-                return at;
+            b'G' => {
+                if left == 0 {
+                    return at;
+                }
+                break;
             }
-            left -= 1;
-            at += size;
-        } else {
-            at += size;
+            _ => {}
         }
+        at += commands::size_of(byte);
     }
     file.len()
 }
@@ -126,58 +128,51 @@ pub fn action_places(file: &[u8], places: &mut [usize])
     let mut at: usize = 0;
     let mut n: usize = 0;
     while at < file.len() {
-        let byte = file[at];
-        let size = commands::size_of(byte);
         if n == places.len() {
             return;
         }
-        if byte == b'G' {
-            places[n] = at;
-            return;
-        }
-        if byte == b'A' {
-            places[n] = at;
-            n += 1;
-            at += size;
-        } else {
-            at += size;
-        }
-    }
-}
-
-// Where the bytes of an action stand, from its A up to the next A or G; or the number and place of the refusal.
-#[derive(Drop)]
-pub enum Placed {
-    At(usize, usize),
-    Refused(u8, u64),
-}
-
-// The place of action k in a file with this verdict.
-fn place_action(file: &[u8], verdict: Verdict, k: usize) -> Placed
-    ensures { placed_is result ≡ of_verdict (verdict_is verdict) file.now k }
-{
-    match verdict {
-        Verdict::Accepted(_, _, actions) => {
-            if k < actions as usize {
-                let start = edge_from(file, 0, k);
-                let end = edge_from(file, start, 1);
-                return Placed::At(start, end);
+        let byte = file[at];
+        match byte {
+            b'A' => {
+                places[n] = at;
+                n += 1;
             }
-            Placed::Refused(11, k as u64)
+            b'G' => {
+                places[n] = at;
+                break;
+            }
+            _ => {}
         }
-        Verdict::Rejected(number, place) => Placed::Refused(number, place),
+        at += commands::size_of(byte);
     }
 }
 
-// The place of action k of a source file: the file's own refusal first, then 11 with place k where there is no such action.
-pub fn place_source_action(file: &[u8], k: usize) -> Placed
+// Where action k of a file stands that was checked, from its A up to the next A or G.
+fn place_action(
+    file: &[u8],
+    checked: Result<Accepted, Refusal>,
+    k: usize,
+) -> Result<Range<usize>, Refusal>
+    ensures { placed_is result ≡ of_verdict (verdict_is checked) file.now k }
+{
+    let accepted = checked?;
+    if accepted.actions as usize <= k {
+        return Err(Reason::NoAction.at(k as u64));
+    }
+    let start = edge_from(file, 0, k);
+    let end = edge_from(file, start, 1);
+    Ok(start..end)
+}
+
+// The place of action k of a source file: the file's own refusal first, then that of an action which isn't there, at place k.
+pub fn place_source_action(file: &[u8], k: usize) -> Result<Range<usize>, Refusal>
     ensures { placed_is result ≡ action_place source_limits file.now k }
 {
     place_action(file, file_check::check_source(file), k)
 }
 
 // The same of a restricted file.
-pub fn place_restricted_action(file: &[u8], k: usize) -> Placed
+pub fn place_restricted_action(file: &[u8], k: usize) -> Result<Range<usize>, Refusal>
     ensures { placed_is result ≡ action_place restricted_limits file.now k }
 {
     place_action(file, file_check::check_restricted(file), k)
@@ -187,79 +182,63 @@ pub fn place_restricted_action(file: &[u8], k: usize) -> Placed
 pub fn part(file: &[u8], start: usize, end: usize) -> &[u8]
     ensures { result.now ≡ part_of file.now start end }
 {
+    let end = end.min(file.len());
     if end <= start {
         return &file[..0];
     }
-    if end <= file.len() {
-        return &file[start..end];
-    }
-    if start <= file.len() {
-        return &file[start..];
-    }
-    &file[..0]
+    &file[start..end]
 }
 
-// The part of a file where an action stands, and 0 with the place where it begins; or no bytes, and the number and place of the refusal.
-fn tell_part<'a>(file: &'a [u8], placed: Placed, number: &mut u8, place: &mut u64) -> &'a [u8]
-    ensures { bytes_told (placed_is placed) file.now ≡ (number.new, place.new, result.now) }
-{
-    match placed {
-        Placed::At(start, end) => {
-            *number = 0;
-            *place = start as u64;
-            part(file, start, end)
-        }
-        Placed::Refused(refusal, at) => {
-            *number = refusal;
-            *place = at;
-            &file[..0]
-        }
-    }
+// The bytes of an action, as a part of the caller's file, and the place where they begin.
+#[derive(Clone, Copy)]
+pub struct ActionBytes<'a> {
+    pub place: usize,
+    pub bytes: &'a [u8],
 }
 
-// The bytes of action k of a source file, as a part of the caller's file, from its A up to the next A or G. `number` and `place` say how it
-// went: 0 and the place where the part begins, or the refusal's number, which is never 0, and its place, and no bytes.
-pub fn source_action_bytes<'a>(
+// The part of a file where an action stands.
+fn bytes_at<'a>(
     file: &'a [u8],
-    k: usize,
-    number: &mut u8,
-    place: &mut u64,
-) -> &'a [u8]
-    ensures { bytes_told (action_place source_limits file.now k) file.now ≡ (number.new, place.new, result.now) }
+    placed: Result<Range<usize>, Refusal>,
+) -> Result<ActionBytes<'a>, Refusal>
+    ensures { told_is result ≡ bytes_told (placed_is placed) file.now }
 {
-    tell_part(file, place_source_action(file, k), number, place)
+    let place = placed?;
+    Ok(ActionBytes {
+        place: place.start,
+        bytes: part(file, place.start, place.end),
+    })
+}
+
+// The bytes of action k of a source file, from its A up to the next A or G.
+pub fn source_action_bytes<'a>(file: &'a [u8], k: usize) -> Result<ActionBytes<'a>, Refusal>
+    ensures { told_is result ≡ bytes_told (action_place source_limits file.now k) file.now }
+{
+    bytes_at(file, place_source_action(file, k))
 }
 
 // The same of a restricted file.
-pub fn restricted_action_bytes<'a>(
-    file: &'a [u8],
-    k: usize,
-    number: &mut u8,
-    place: &mut u64,
-) -> &'a [u8]
-    ensures { bytes_told (action_place restricted_limits file.now k) file.now ≡ (number.new, place.new, result.now) }
+pub fn restricted_action_bytes<'a>(file: &'a [u8], k: usize) -> Result<ActionBytes<'a>, Refusal>
+    ensures { told_is result ≡ bytes_told (action_place restricted_limits file.now k) file.now }
 {
-    tell_part(file, place_restricted_action(file, k), number, place)
+    bytes_at(file, place_restricted_action(file, k))
 }
 
-// The place of a refusal where a step by itself asks for its action: it is step 0, so 11 has place 0; a file's refusals keep theirs.
-pub fn step_place(number: u8, place: u64) -> u64
-    ensures { result ≡ step_place number place }
+// A refusal where a step by itself asks for its action: it is step 0, so that of an action which isn't there has place 0; a file's keep theirs.
+pub fn at_step(refusal: Refusal) -> Refusal
+    ensures { result ≡ at_step refusal }
 {
-    if number == 11 {
-        return 0;
+    match refusal.reason {
+        Reason::NoAction => Reason::NoAction.at(0),
+        _ => refusal,
     }
-    place
 }
 
 // The bytes of the goal of an accepted file, from its G, which stands at this place, up to its Z.
 pub fn goal_from(file: &[u8], place: usize) -> &[u8]
     ensures { result.now ≡ goal_from file.now place }
 {
-    if file.len() == 0 {
-        return &file[..0];
-    }
-    part(file, place, file.len() - 1)
+    part(file, place, file.len().saturating_sub(1))
 }
 
 // The bytes of the goal of an accepted file that has so many actions.
@@ -269,15 +248,9 @@ pub fn goal_bytes(file: &[u8], actions: usize) -> &[u8]
     goal_from(file, find_edge(file, actions))
 }
 
-fn wide(x: u16) -> usize
-    ensures { result ≡ x }
-{
-    x as usize
-}
-
 // A C at the front of what remains, pushed behind the others where there is room. A C that is cut short is not taken.
 fn take_condition(rest: &[u8], marks: &mut [u16; MARKS], numbers: &mut [i64; NUMBERS])
-    requires { (0 < length rest.now) × (get_or rest.now 0 0 ≡ letter_c) × PartsFit 0 0 0 0 marks.old × (length numbers.old ≡ NUMBERS) }
+    requires { (0 < length rest.now) × (get_or rest.now 0 0 ≡ letter_c) × PartsFit 0 0 0 0 marks.old }
     ensures { (restricted : Bool) → Takes restricted (command_at rest.now)
         marks.old numbers.old marks.new numbers.new }
 {
@@ -285,7 +258,7 @@ fn take_condition(rest: &[u8], marks: &mut [u16; MARKS], numbers: &mut [i64; NUM
         return;
     };
     let constant = integers::signed(bits);
-    if wide(marks[CONDITION_COUNT]) < CONDITIONS {
+    if (marks[CONDITION_COUNT] as usize) < CONDITIONS {
         file_parts::push_condition(marks, numbers, variable, relation, constant);
     }
 }
@@ -299,7 +272,7 @@ fn take_mode_condition(rest: &[u8], marks: &mut [u16; MARKS])
     let Command::ModeCondition(mode, value) = commands::read_mode_condition(rest) else {
         return;
     };
-    if wide(marks[MODE_CONDITION_COUNT]) < MODE_CONDITIONS {
+    if (marks[MODE_CONDITION_COUNT] as usize) < MODE_CONDITIONS {
         file_parts::push_mode_condition(marks, mode, value);
     }
 }
@@ -313,21 +286,21 @@ fn take_mode_effect(rest: &[u8], marks: &mut [u16; MARKS])
     let Command::ModeEffect(mode, value) = commands::read_mode_effect(rest) else {
         return;
     };
-    if wide(marks[MODE_EFFECT_COUNT]) < MODE_EFFECTS {
+    if (marks[MODE_EFFECT_COUNT] as usize) < MODE_EFFECTS {
         file_parts::push_mode_effect(marks, mode, value);
     }
 }
 
 // Likewise a + of a restricted action.
 fn take_addition(rest: &[u8], marks: &mut [u16; MARKS], numbers: &mut [i64; NUMBERS])
-    requires { (0 < length rest.now) × (get_or rest.now 0 0 ≡ plus_sign) × PartsFit 0 0 0 0 marks.old × (length numbers.old ≡ NUMBERS) }
+    requires { (0 < length rest.now) × (get_or rest.now 0 0 ≡ plus_sign) × PartsFit 0 0 0 0 marks.old }
     ensures { Takes true (command_at rest.now) marks.old numbers.old marks.new numbers.new }
 {
     let Command::Add(variable, bits) = commands::read_add(rest) else {
         return;
     };
     let amount = integers::signed(bits);
-    if wide(marks[ADDITION_COUNT]) < ADDITIONS {
+    if (marks[ADDITION_COUNT] as usize) < ADDITIONS {
         file_parts::push_addition(marks, numbers, variable, amount);
     }
 }
@@ -349,7 +322,6 @@ fn gather_parts(
     marks: &mut [u16; MARKS],
     numbers: &mut [i64; NUMBERS],
 )
-    requires { (length marks.old ≡ MARKS) × (length numbers.old ≡ NUMBERS) }
     ensures { Says (fitting_restricted (parts_of restricted (decode_action bytes.now))) marks.new numbers.new }
 {
     file_parts::blank(marks);
@@ -367,14 +339,14 @@ fn gather_parts(
                     take_addition(rest, marks, numbers);
                 }
             }
-            b'A' | b'G' => at = bytes.len(),
+            b'A' | b'G' => break,
             _ => {}
         }
     }
 }
 
 // The T of an L or a K: the first `count` places.
-#[derive(Drop)]
+#[derive(Clone, Copy)]
 struct Terms {
     count: usize,
     places: [Term; TERMS],
@@ -387,21 +359,20 @@ fn no_terms() -> Terms
         variable: 0,
         weight: 0,
     };
-    let places = [term; TERMS];
-    Terms { count: 0, places }
+    Terms {
+        count: 0,
+        places: [term; TERMS],
+    }
 }
 
 // A term behind the others, where there is room.
-fn with_term(terms: Terms, variable: u8, bits: u32) -> Terms
+fn with_term(mut terms: Terms, variable: u8, bits: u32) -> Terms
     ensures { result ≡ with_term terms variable (constant bits) }
 {
     let weight = integers::signed(bits);
-    let count = terms.count;
-    if count < TERMS {
-        let mut more = terms;
-        more.places[count] = Term { variable, weight };
-        more.count = count + 1;
-        return more;
+    if terms.count < TERMS {
+        terms.places[terms.count] = Term { variable, weight };
+        terms.count += 1;
     }
     terms
 }
@@ -416,82 +387,63 @@ fn terms_at(bytes: &[u8], from: usize) -> Terms
         let rest = &bytes[at..];
         at += commands::size_of(rest[0]);
         let Command::Term(variable, bits) = commands::read(rest) else {
-            at = bytes.len();
-            continue;
+            return terms;
         };
         terms = with_term(terms, variable, bits);
     }
     terms
 }
 
+// An effect with the terms that were read for it.
+fn with_terms(effect: Effect, read: Terms) -> NumericEffect
+    ensures { result ≡ with_terms effect read }
+{
+    let terms = read.places;
+    NumericEffect {
+        effect,
+        term_count: read.count,
+        terms,
+    }
+}
+
 // A place that holds no effect.
 fn no_effect() -> NumericEffect
     ensures { result ≡ no_effect }
 {
-    let none = no_terms();
-    let terms = none.places;
-    NumericEffect {
-        effect: Effect::None,
-        term_count: 0,
-        terms,
-    }
+    with_terms(Effect::None, no_terms())
 }
 
 fn no_effects() -> Effects
     ensures { result ≡ no_effects }
 {
-    let place = no_effect();
-    let places = [place; EFFECTS];
-    Effects { count: 0, places }
+    Effects {
+        count: 0,
+        places: [no_effect(); EFFECTS],
+    }
 }
 
-// The effect that a command gives, if any: without one, `place` holds none.
-#[derive(Drop)]
-struct Given {
-    given: bool,
-    place: NumericEffect,
-}
-
-// An effect that is given, with the terms that were read for it.
-fn give(effect: Effect, read: Terms) -> Given
-    ensures { result ≡ giving effect read }
-{
-    let terms = read.places;
-    let place = NumericEffect {
-        effect,
-        term_count: read.count,
-        terms,
-    };
-    Given { given: true, place }
-}
-
-// The effect that a command gives; the T of an L are those that stand from an offset on.
-fn effect_given(command: Command, bytes: &[u8], behind: usize) -> Given
+// The effect that a command gives, if any; the T of an L are those that stand from an offset on.
+fn effect_given(command: Command, bytes: &[u8], behind: usize) -> Option<NumericEffect>
     ensures { EffectGiven bytes.now behind command result }
 {
     match command {
-        Command::Add(target, bits) => {
-            give(Effect::Add(target, integers::signed(bits)), no_terms())
-        }
-        Command::Linear(target, bits) => give(
+        Command::Add(target, bits) => Some(with_terms(
+            Effect::Add(target, integers::signed(bits)),
+            no_terms(),
+        )),
+        Command::Linear(target, bits) => Some(with_terms(
             Effect::Linear(target, integers::signed(bits)),
             terms_at(bytes, behind),
-        ),
-        Command::Quotient(target, operand, bits) => give(
+        )),
+        Command::Quotient(target, operand, bits) => Some(with_terms(
             Effect::Quotient(target, operand, integers::signed(bits)),
             no_terms(),
-        ),
-        Command::Residue(target, operand, bits) => give(
+        )),
+        Command::Residue(target, operand, bits) => Some(with_terms(
             Effect::Residue(target, operand, integers::signed(bits)),
             no_terms(),
-        ),
-        _ => {
-            let place = no_effect();
-            Given {
-                given: false,
-                place,
-            }
-        }
+        )),
+        _ => None,
     }
 }
 
@@ -525,14 +477,11 @@ pub fn decode_source(
         at += commands::size_of(byte);
         match byte {
             b'C' | b'K' | b'P' | b'E' | b'T' => {}
-            b'A' | b'G' => at = bytes.len(),
+            b'A' | b'G' => break,
             _ => {
-                let read = effect_given(commands::read(rest), bytes, at);
-                let given = read.given;
-                let count = effects.count;
-                if given {
+                if let Some(place) = effect_given(commands::read(rest), bytes, at) {
+                    let count = effects.count;
                     if count < EFFECTS {
-                        let place = read.place;
                         effects.places[count] = place;
                         effects.count = count + 1;
                     }
@@ -543,38 +492,36 @@ pub fn decode_source(
     effects
 }
 
+// A K with the terms that were read for it.
+fn sum_condition(relation: u8, constant: i64, read: Terms) -> SumCondition
+    ensures { result ≡ sum_condition relation constant read }
+{
+    let terms = read.places;
+    SumCondition {
+        relation,
+        constant,
+        term_count: read.count,
+        terms,
+    }
+}
+
 fn no_sums() -> SumConditions
     ensures { result ≡ no_sums }
 {
-    let none = no_terms();
-    let terms = none.places;
-    let place = SumCondition {
-        relation: 0,
-        constant: 0,
-        term_count: 0,
-        terms,
-    };
-    let places = [place; SUMS];
-    SumConditions { count: 0, places }
+    SumConditions {
+        count: 0,
+        places: [sum_condition(0, 0, no_terms()); SUMS],
+    }
 }
 
-// A K behind the others, with the terms that were read for it, where there is room.
-fn with_sum(sums: SumConditions, relation: u8, bits: u32, read: Terms) -> SumConditions
+// A K behind the others, where there is room.
+fn with_sum(mut sums: SumConditions, relation: u8, bits: u32, read: Terms) -> SumConditions
     ensures { result ≡ with_sum sums relation (constant bits) read }
 {
     let constant = integers::signed(bits);
-    let count = sums.count;
-    if count < SUMS {
-        let terms = read.places;
-        let mut more = sums;
-        more.places[count] = SumCondition {
-            relation,
-            constant,
-            term_count: read.count,
-            terms,
-        };
-        more.count = count + 1;
-        return more;
+    if sums.count < SUMS {
+        sums.places[sums.count] = sum_condition(relation, constant, read);
+        sums.count += 1;
     }
     sums
 }
@@ -597,7 +544,7 @@ pub fn decode_sums(bytes: &[u8]) -> SumConditions
                 };
                 sums = with_sum(sums, relation, bits, terms_at(bytes, at));
             }
-            b'A' | b'G' => at = bytes.len(),
+            b'A' | b'G' => break,
             _ => {}
         }
     }

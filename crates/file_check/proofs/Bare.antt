@@ -75,8 +75,10 @@ module _ (l : Limits) (p : ReadingState) (s : List ℕ) (there : 0 < length s) (
   missing-term whole =
       let k = row_of (get_or s 0 0) in
       let L : Lacking l p (get_or s 0 0) = lacking l p (get_or s 0 0) h in
-      let read : command_at s ≡ read_row s k = whole-as s k few there (sym (row-byte (get_or s 0 0) few)) (omega (arith, size-of-byte (get_or s 0 0) few)) in
-      let byte : byte_of (command_at s) ≡ get_or s 0 0 = ap byte_of read ∙ ap (λ (i : ℕ). (row_at i).byte) (row_number_lem s k few) ∙ row-byte (get_or s 0 0) few in
+      let read : command_at s ≡ read_row s k =
+      whole-as s k few there (sym (row-byte (get_or s 0 0) few)) (omega (arith, size-of-byte (get_or s 0 0) few)) in
+      let byte : byte_of (command_at s) ≡ get_or s 0 0 =
+      ap byte_of read ∙ ap (λ (i : ℕ). (row_at i).byte) (row_number_lem s k few) ∙ row-byte (get_or s 0 0) few in
       let some : get_or s 0 0 ≡ 0 → ⊥ = λ z. omega (arith, ap row_of z) in
       rw (L.source, byte, L.other, ne_eqb (get_or s 0 0) 0 some, L.bare)
 
@@ -90,8 +92,8 @@ pub no-term-missing : (l : Limits) (p : ReadingState) (s : List ℕ) → lacks_t
     → (q : Taken) → q ≡ rule p (sum_tests l p (command_at s)) q
 no-term-missing l p s h q = by_tests (leb 1 p.bare_sum) l.restricted (is_one_of (byte_of (command_at s)) (letter_t ∷ 0 ∷ [])) refl h
   where
-    by_tests : (x y z : Bool) → is_one_of (byte_of (command_at s)) (letter_t ∷ 0 ∷ []) ≡ z → cond x (cond y false (not (eqb (get_or s 0 0) letter_t))) false ≡ false
-        → q ≡ rule p (cond y [] (cond z [] ((x, 14) ∷ []))) q
+    by_tests : (x y z : Bool) → is_one_of (byte_of (command_at s)) (letter_t ∷ 0 ∷ []) ≡ z
+        → cond x (cond y false (not (eqb (get_or s 0 0) letter_t))) false ≡ false → q ≡ rule p (cond y [] (cond z [] ((x, 14) ∷ []))) q
     by_tests x true z e h = refl
     by_tests x false true e h = refl
     by_tests false false false e h = refl

@@ -1,4 +1,4 @@
 pub mod Tests
-pub mod Taking
 pub mod Bare
+pub mod Taking
 pub mod Runs

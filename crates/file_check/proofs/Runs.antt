@@ -20,7 +20,8 @@ pub runs-begin : (l : Limits) (file : List ℕ) → Runs l file begin 0
 unfolding verdict_of
 runs-begin l file = (suc (length file), omega arith, refl)
 
-pub runs-out : (l : Limits) (file : List ℕ) (p : ReadingState) (at : ℕ) → length file ≤ at → Runs l file p at → refused_at 2 at (length file) ≡ verdict_of l file
+pub runs-out : (l : Limits) (file : List ℕ) (p : ReadingState) (at : ℕ) → length file ≤ at → Runs l file p at
+    → refused_at 2 at (length file) ≡ verdict_of l file
 unfolding remainders verdict_along take_of
 runs-out l file p at h (zero, b, e) = sym e
 runs-out l file p at h (suc most, b, e) = sym (e ∙ rw (drop_of_length-le file h))
@@ -30,7 +31,8 @@ pub tail : (s : List ℕ) (a : ℕ) → take (length s - a) (drop a s) ≡ drop 
 tail s a = take_all (length s - a) (drop a s) (omega (arith, length-drop a s))
 
 -- t comes of the command at the front of what remains
-module _ (l : Limits) (file : List ℕ) (p : ReadingState) (at : ℕ) (h : at < length file) {rest : List ℕ} (r : rest ≡ drop at file) (t : Taken) (s : t ≡ take_of l p rest) where
+module _ (l : Limits) (file : List ℕ) (p : ReadingState) (at : ℕ) (h : at < length file) {rest : List ℕ} (r : rest ≡ drop at file) {t : Taken}
+    (s : t ≡ take_of l p rest) where
   taken : t ≡ take_of l p (drop at file)
   taken = s ∙ ap (take_of l p) r
 

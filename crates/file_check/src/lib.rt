@@ -6,89 +6,97 @@
 // here mean in them.
 #![tactic(auto)]
 
-ghost use Rattle.std.specs.Prelude.{◌≡◌, true, List, ℕ, ◌+◌, ◌<◌, ◌^◌, leb, ltb, get_or, set, length, nat_abs};
+ghost use Rattle.std.specs.Prelude.{◌≡◌, true, false, ℕ, ◌+◌, ◌<◌, ◌^◌, leb, ltb, get_or, set, length, nat_abs, Err};
+ghost use Rattle.answers.specs.Refusals.{number_of};
 ghost use Rattle.commands.specs.Table.{letter_v, letter_u, letter_m, letter_c, letter_p, letter_e, plus_sign, letter_l, letter_t, letter_q, letter_r, letter_k};
 ghost use Rattle.commands.specs.Table.{rows, row_of};
 ghost use Rattle.commands.specs.Reading.{command_at};
-ghost use Rattle.commands.specs.declared.Command.TheVariants.{Action, Goal, End, Quotient};
+ghost use Rattle.commands.specs.declared.Command.TheVariants.{Action, Quotient};
 ghost use Rattle.model.specs.Limits.{source_limits, restricted_limits};
-ghost use Rattle.model.specs.ReadingState.{stop, go_on, opened, with_numeric_effect, with_sum, no_modes, no_variables, begin};
-ghost use Rattle.model.specs.Rules.{allowed, constant, is_zero, own_rule_of, rule_of, take_of};
+ghost use Rattle.model.specs.ReadingState.{opened, with_numeric_effect, begin};
+ghost use Rattle.model.specs.Rules.{allowed, constant, is_zero, rule_of, take_of};
 ghost use Rattle.model.specs.Reading.{refused_at, ended_at, verdict_of};
-ghost use Rattle.file_check.specs.Views.{limits_of, state_of, taken_of, lacks_term, verdict_is, Ruled};
+ghost use Rattle.file_check.specs.Views.{limits_of, number_of_section, flag_of, state_of, taken_of, lacks_term, verdict_is, Ruled};
 
+use answers::{Reason, Refusal};
 use commands::Command;
 
 // What a kind of file allows. `size` is of a mode; `conditions` are C and K of an action or goal, `mode_conditions` its P, `numeric_effects`
 // of an action, which in a restricted one are its +, `terms` T of an L or a K, `sums` K of a file. Every constant lies within ± `constant`, that
 // of a K within ± `sum_constant`; `relations` is the largest relation.
 #[derive(Clone, Copy)]
-pub struct Limits {
-    pub restricted: bool,
-    pub variables: u32,
-    pub modes: u32,
-    pub size: u32,
-    pub actions: u32,
-    pub conditions: u32,
-    pub mode_conditions: u32,
-    pub numeric_effects: u32,
-    pub terms: u32,
-    pub constant: u32,
-    pub relations: u32,
-    pub sums: u32,
-    pub sum_constant: u32,
+struct Limits {
+    restricted: bool,
+    variables: u32,
+    modes: u32,
+    size: u32,
+    actions: u32,
+    conditions: u32,
+    mode_conditions: u32,
+    numeric_effects: u32,
+    terms: u32,
+    constant: u32,
+    relations: u32,
+    sums: u32,
+    sum_constant: u32,
+}
+
+// The sections of a file.
+#[derive(Clone, Copy, PartialEq, Eq)]
+enum Section {
+    Declarations,
+    Action,
+    Goal,
 }
 
 // What a reading has counted so far: variables, modes, actions and `sums`, its K, in the file, the others in the action or goal. `terms` is 0
-// where no T may stand, else 1 plus the T's since their L or K; it passes its limit by one, and is wider for that. `bare_sum` is 1 from a K on
-// until its first T, else 0. The three that an answer gives stand apart: side by side two of them become one number in the compiled loop, and
+// where no T may stand, else 1 plus the T's since their L or K; it passes its limit by one, and is wider for that. `bare_sum` is whether the
+// last K has no T yet. The three that an answer gives stand apart: side by side two of them become one number in the compiled loop, and
 // a command takes more than twice the time.
 #[derive(Clone, Copy)]
-pub struct Counts {
-    pub sums: u32,
-    pub bare_sum: u32,
-    pub section: u32,
-    pub variables: u32,
-    pub conditions: u32,
-    pub modes: u32,
-    pub mode_conditions: u32,
-    pub actions: u32,
-    pub numeric_effects: u32,
-    pub terms: u64,
+struct Counts {
+    sums: u32,
+    bare_sum: bool,
+    section: Section,
+    variables: u32,
+    conditions: u32,
+    modes: u32,
+    mode_conditions: u32,
+    actions: u32,
+    numeric_effects: u32,
+    terms: u64,
 }
 
-// What comes of one command: the reading goes on, it is at the end, or it stops with a refusal's number.
+// Where a reading stands: its counts, the sizes of the modes, and marks on the modes that have their effect, on the variables that are a
+// target, and on those in a T of the last L or K.
 #[derive(Drop)]
-pub enum Progress {
+struct Reading {
+    counts: Counts,
+    sizes: [u16; MODES],
+    modes_set: [u8; MODES],
+    targets_seen: [u8; VARIABLES],
+    terms_seen: [u8; VARIABLES],
+}
+
+// What comes of a command that is not refused: the reading goes on, or it is at the end.
+#[derive(Clone, Copy)]
+enum Progress {
     Going,
     Ended,
-    Stopped(u8),
 }
 
-#[derive(Drop)]
-pub struct Taken {
-    pub counts: Counts,
-    pub progress: Progress,
-}
-
-// The answer to a file: accepted, with its variables, modes and actions; or a refusal's number and place.
-#[derive(Drop)]
-pub enum Verdict {
-    Accepted(u32, u32, u32),
-    Rejected(u8, u64),
+// What an accepted file has: so many variables, modes and actions.
+#[derive(Clone, Copy, Debug, PartialEq, Eq)]
+pub struct Accepted {
+    pub variables: u32,
+    pub modes: u32,
+    pub actions: u32,
 }
 
 // The most modes and variables that a file of either kind declares, as `restricted_limits` has them.
 const MODES: usize = 8;
 
 const VARIABLES: usize = 64;
-
-// The sections of a file.
-const IN_DECLARATIONS: u32 = 0;
-
-const IN_ACTION: u32 = 2;
-
-const IN_GOAL: u32 = 3;
 
 // The largest relation of a source file and of a restricted one.
 const SOURCE_RELATIONS: u32 = 4;
@@ -135,35 +143,11 @@ fn restricted_limits() -> Limits
     }
 }
 
-// The command is refused, and the state stays.
-fn refuse(p: Counts, number: u8) -> Taken
-    ensures { (sizes set targets terms : List ℕ) → taken_of result sizes set targets terms ≡ stop (state_of p sizes set targets terms) number }
-{
-    Taken {
-        counts: p,
-        progress: Progress::Stopped(number),
-    }
-}
-
-// The command is taken, with these counts after it.
-fn go_on(p: Counts) -> Taken
-    ensures { (sizes set targets terms : List ℕ) → taken_of result sizes set targets terms ≡ go_on (state_of p sizes set targets terms) }
-{
-    Taken {
-        counts: p,
-        progress: Progress::Going,
-    }
-}
-
 // Whether a value is not below a mode's size, as none is where there is no such mode.
 fn not_below_size(sizes: &[u16], mode: usize, value: u16) -> bool
     ensures { result ≡ leb (get_or sizes.now mode 0) value }
 {
-    if mode < sizes.len() {
-        sizes[mode] <= value
-    } else {
-        true
-    }
+    sizes.get(mode).is_none_or(|size| *size <= value)
 }
 
 fn put_size(sizes: &mut [u16], mode: usize, size: u16)
@@ -178,11 +162,7 @@ fn put_size(sizes: &mut [u16], mode: usize, size: u16)
 fn is_marked(marks: &[u8], i: usize) -> bool
     ensures { result ≡ leb 1 (get_or marks.now i 0) }
 {
-    if i < marks.len() {
-        1 <= marks[i]
-    } else {
-        false
-    }
+    marks.get(i).is_some_and(|mark| 1 <= *mark)
 }
 
 fn put_mark(marks: &mut [u8], i: usize)
@@ -206,647 +186,523 @@ fn is_zero(bits: u32) -> bool
     bits == 0
 }
 
-// Whether a command may stand where the reading is, by its byte alone.
-fn is_allowed(l: Limits, p: Counts, byte: u8) -> bool
-    ensures { (sizes set targets terms : List ℕ) → result ≡ allowed (limits_of l) (state_of p sizes set targets terms) byte }
-{
-    match byte {
-        b'V' => !l.restricted && p.section == IN_DECLARATIONS,
-        b'U' => l.restricted && p.section == IN_DECLARATIONS,
-        b'M' => p.section == IN_DECLARATIONS,
-        b'A' | b'G' => p.section <= IN_ACTION,
-        b'C' | b'P' => IN_ACTION <= p.section,
-        b'E' | b'+' => p.section == IN_ACTION,
-        b'L' | b'Q' => !l.restricted && p.section == IN_ACTION,
-        b'R' => !l.restricted && p.section == IN_ACTION,
-        b'T' => 1 <= p.terms,
-        b'Z' => p.section == IN_GOAL,
-        b'K' => !l.restricted && IN_ACTION <= p.section,
-        _ => false,
+// A command may be refused; then the reading stays where it stood.
+impl Reading {
+    // Before the first command.
+    fn begun() -> Reading
+        ensures { state_of result ≡ begin }
+    {
+        Reading {
+            counts: Counts {
+                sums: 0,
+                bare_sum: false,
+                section: Section::Declarations,
+                variables: 0,
+                conditions: 0,
+                modes: 0,
+                mode_conditions: 0,
+                actions: 0,
+                numeric_effects: 0,
+                terms: 0,
+            },
+            sizes: [0; MODES],
+            modes_set: [0; MODES],
+            targets_seen: [0; VARIABLES],
+            terms_seen: [0; VARIABLES],
+        }
+    }
+
+    // Whether a command may stand where the reading is, by its byte alone.
+    fn is_allowed(&self, l: &Limits, byte: u8) -> bool
+        ensures { result ≡ allowed (limits_of l.now) (state_of self.now) byte }
+    {
+        let section = self.counts.section;
+        match byte {
+            b'V' => !l.restricted && section == Section::Declarations,
+            b'U' => l.restricted && section == Section::Declarations,
+            b'M' => section == Section::Declarations,
+            b'A' | b'G' => section != Section::Goal,
+            b'C' | b'P' => section != Section::Declarations,
+            b'E' | b'+' => section == Section::Action,
+            b'L' | b'Q' | b'R' => !l.restricted && section == Section::Action,
+            b'T' => 1 <= self.counts.terms,
+            b'Z' => section == Section::Goal,
+            b'K' => !l.restricted && section != Section::Declarations,
+            _ => false,
+        }
+    }
+
+    // Whether a command with the byte stands where a T must: the K before it has none yet, in a file that is not restricted.
+    fn lacks_term(&self, l: &Limits, byte: u8) -> bool
+        ensures { result ≡ lacks_term l.now.restricted (flag_of self.now.counts.bare_sum) byte }
+    {
+        self.counts.bare_sum && !l.restricted && byte != b'T'
+    }
+
+    // Whether a condition, C or K, is one too many.
+    fn has_no_room_for_condition(&self, l: &Limits) -> bool
+        ensures { result ≡ leb l.now.conditions self.now.counts.conditions }
+    {
+        l.conditions <= self.counts.conditions
+    }
+
+    // Whether a numeric effect is one too many.
+    fn has_no_room(&self, l: &Limits) -> bool
+        ensures full { result ≡ leb l.now.numeric_effects self.now.counts.numeric_effects }
+        ensures room { result ≡ false → self.now.counts.numeric_effects + 1 < 2 ^ 32 }
+    {
+        l.numeric_effects <= self.counts.numeric_effects
+    }
+
+    // V lower, upper, start: the next variable of a source file.
+    fn take_variable(&mut self, l: &Limits, rest: &[u8]) -> Result<Progress, Reason>
+        requires { (0 < length rest.now) × (get_or rest.now 0 0 ≡ letter_v) }
+        ensures { Ruled l.now self.old (command_at rest.now) self.new result }
+    {
+        let Command::Variable(lower, upper, start) = commands::read_variable(rest) else {
+            return Err(Reason::CutShort);
+        };
+        if l.variables <= self.counts.variables {
+            return Err(Reason::OverLimit);
+        }
+        if is_outside(l.constant, lower) {
+            return Err(Reason::OutOfRange);
+        }
+        if is_outside(l.constant, upper) {
+            return Err(Reason::OutOfRange);
+        }
+        if !integers::bits_at_most(lower, upper) {
+            return Err(Reason::OutOfRange);
+        }
+        if !integers::bits_at_most(lower, start) {
+            return Err(Reason::OutOfRange);
+        }
+        if !integers::bits_at_most(start, upper) {
+            return Err(Reason::OutOfRange);
+        }
+        self.counts.variables += 1;
+        self.counts.terms = 0;
+        Ok(Progress::Going)
+    }
+
+    // U start: the next variable of a restricted file.
+    fn take_start(&mut self, l: &Limits, rest: &[u8]) -> Result<Progress, Reason>
+        requires { (0 < length rest.now) × (get_or rest.now 0 0 ≡ letter_u) }
+        ensures { Ruled l.now self.old (command_at rest.now) self.new result }
+    {
+        let Command::Start(start) = commands::read_start(rest) else {
+            return Err(Reason::CutShort);
+        };
+        if l.variables <= self.counts.variables {
+            return Err(Reason::OverLimit);
+        }
+        if is_outside(l.constant, start) {
+            return Err(Reason::OutOfRange);
+        }
+        self.counts.variables += 1;
+        self.counts.terms = 0;
+        Ok(Progress::Going)
+    }
+
+    // M size, start: the next mode. A start not below the size is 5, so a size of 0 is.
+    fn take_mode(&mut self, l: &Limits, rest: &[u8]) -> Result<Progress, Reason>
+        requires { (0 < length rest.now) × (get_or rest.now 0 0 ≡ letter_m) }
+        ensures { Ruled l.now self.old (command_at rest.now) self.new result }
+    {
+        let Command::Mode(size, start) = commands::read_mode(rest) else {
+            return Err(Reason::CutShort);
+        };
+        if l.modes <= self.counts.modes {
+            return Err(Reason::OverLimit);
+        }
+        if size <= start {
+            return Err(Reason::Undeclared);
+        }
+        if l.size < size as u32 {
+            return Err(Reason::OutOfRange);
+        }
+        put_size(&mut self.sizes, self.counts.modes as usize, size);
+        self.counts.modes += 1;
+        self.counts.terms = 0;
+        Ok(Progress::Going)
+    }
+
+    // An action or the goal begins: nothing is counted or marked in it yet.
+    fn open(&mut self, section: Section, actions: u32)
+        ensures { state_of self.new ≡ opened (state_of self.old) (number_of_section section) actions }
+    {
+        self.counts.section = section;
+        self.counts.actions = actions;
+        self.counts.conditions = 0;
+        self.counts.mode_conditions = 0;
+        self.counts.numeric_effects = 0;
+        self.counts.terms = 0;
+        self.modes_set = [0; MODES];
+        self.targets_seen = [0; VARIABLES];
+        self.terms_seen = [0; VARIABLES];
+    }
+
+    // A: the next action.
+    fn take_action(&mut self, l: &Limits) -> Result<Progress, Reason>
+        ensures { Ruled l.now self.old Action self.new result }
+    {
+        if l.actions <= self.counts.actions {
+            return Err(Reason::OverLimit);
+        }
+        self.open(Section::Action, self.counts.actions + 1);
+        Ok(Progress::Going)
+    }
+
+    // C variable, relation, constant.
+    fn take_condition(&mut self, l: &Limits, rest: &[u8]) -> Result<Progress, Reason>
+        requires { (0 < length rest.now) × (get_or rest.now 0 0 ≡ letter_c) }
+        ensures { Ruled l.now self.old (command_at rest.now) self.new result }
+    {
+        let Command::Condition(variable, relation, constant) = commands::read_condition(rest) else {
+            return Err(Reason::CutShort);
+        };
+        if self.has_no_room_for_condition(l) {
+            return Err(Reason::OverLimit);
+        }
+        if self.counts.variables <= variable as u32 {
+            return Err(Reason::Undeclared);
+        }
+        if l.relations < relation as u32 {
+            return Err(Reason::Undeclared);
+        }
+        if is_outside(l.constant, constant) {
+            return Err(Reason::OutOfRange);
+        }
+        self.counts.conditions += 1;
+        self.counts.terms = 0;
+        Ok(Progress::Going)
+    }
+
+    // K relation, constant: a condition more, of which no T is read yet; T must follow.
+    fn take_sum(&mut self, l: &Limits, rest: &[u8]) -> Result<Progress, Reason>
+        requires { (0 < length rest.now) × (get_or rest.now 0 0 ≡ letter_k) }
+        ensures { Ruled l.now self.old (command_at rest.now) self.new result }
+    {
+        let Command::Sum(relation, constant) = commands::read_sum(rest) else {
+            return Err(Reason::CutShort);
+        };
+        if self.has_no_room_for_condition(l) {
+            return Err(Reason::OverLimit);
+        }
+        if l.sums <= self.counts.sums {
+            return Err(Reason::OverLimit);
+        }
+        if l.relations < relation as u32 {
+            return Err(Reason::Undeclared);
+        }
+        if is_outside(l.sum_constant, constant) {
+            return Err(Reason::OutOfRange);
+        }
+        self.counts = Counts {
+            sums: self.counts.sums + 1,
+            bare_sum: true,
+            conditions: self.counts.conditions + 1,
+            terms: 1,
+            ..self.counts
+        };
+        self.terms_seen = [0; VARIABLES];
+        Ok(Progress::Going)
+    }
+
+    // P mode, value.
+    fn take_mode_condition(&mut self, l: &Limits, rest: &[u8]) -> Result<Progress, Reason>
+        requires { (0 < length rest.now) × (get_or rest.now 0 0 ≡ letter_p) }
+        ensures { Ruled l.now self.old (command_at rest.now) self.new result }
+    {
+        let Command::ModeCondition(mode, value) = commands::read_mode_condition(rest) else {
+            return Err(Reason::CutShort);
+        };
+        if l.mode_conditions <= self.counts.mode_conditions {
+            return Err(Reason::OverLimit);
+        }
+        if self.counts.modes <= mode as u32 {
+            return Err(Reason::Undeclared);
+        }
+        if not_below_size(&self.sizes, mode as usize, value) {
+            return Err(Reason::Undeclared);
+        }
+        self.counts.mode_conditions += 1;
+        self.counts.terms = 0;
+        Ok(Progress::Going)
+    }
+
+    // E mode, value: one for each mode of an action.
+    fn take_mode_effect(&mut self, l: &Limits, rest: &[u8]) -> Result<Progress, Reason>
+        requires { (0 < length rest.now) × (get_or rest.now 0 0 ≡ letter_e) }
+        ensures { Ruled l.now self.old (command_at rest.now) self.new result }
+    {
+        let Command::ModeEffect(mode, value) = commands::read_mode_effect(rest) else {
+            return Err(Reason::CutShort);
+        };
+        if self.counts.modes <= mode as u32 {
+            return Err(Reason::Undeclared);
+        }
+        if not_below_size(&self.sizes, mode as usize, value) {
+            return Err(Reason::Undeclared);
+        }
+        if is_marked(&self.modes_set, mode as usize) {
+            return Err(Reason::NamedTwice);
+        }
+        put_mark(&mut self.modes_set, mode as usize);
+        self.counts.terms = 0;
+        Ok(Progress::Going)
+    }
+
+    // A numeric effect on a target: the target is marked, no T of the effect is read yet, and `terms` is as given.
+    fn count_effect(&mut self, target: usize, terms: u64)
+        requires { self.old.counts.numeric_effects + 1 < 2 ^ 32 }
+        ensures { state_of self.new ≡ with_numeric_effect (state_of self.old) target terms }
+    {
+        put_mark(&mut self.targets_seen, target);
+        self.terms_seen = [0; VARIABLES];
+        self.counts.numeric_effects += 1;
+        self.counts.terms = terms;
+    }
+
+    // + variable, constant.
+    fn take_add(&mut self, l: &Limits, rest: &[u8]) -> Result<Progress, Reason>
+        requires { (0 < length rest.now) × (get_or rest.now 0 0 ≡ plus_sign) }
+        ensures { Ruled l.now self.old (command_at rest.now) self.new result }
+    {
+        let Command::Add(variable, constant) = commands::read_add(rest) else {
+            return Err(Reason::CutShort);
+        };
+        if self.has_no_room(l) {
+            return Err(Reason::OverLimit);
+        }
+        if self.counts.variables <= variable as u32 {
+            return Err(Reason::Undeclared);
+        }
+        if is_zero(constant) {
+            return Err(Reason::OutOfRange);
+        }
+        if is_outside(l.constant, constant) {
+            return Err(Reason::OutOfRange);
+        }
+        if is_marked(&self.targets_seen, variable as usize) {
+            return Err(Reason::NamedTwice);
+        }
+        self.count_effect(variable as usize, 0);
+        Ok(Progress::Going)
+    }
+
+    // L target, w0; T may follow.
+    fn take_linear(&mut self, l: &Limits, rest: &[u8]) -> Result<Progress, Reason>
+        requires { (0 < length rest.now) × (get_or rest.now 0 0 ≡ letter_l) }
+        ensures { Ruled l.now self.old (command_at rest.now) self.new result }
+    {
+        let Command::Linear(target, constant) = commands::read_linear(rest) else {
+            return Err(Reason::CutShort);
+        };
+        if self.has_no_room(l) {
+            return Err(Reason::OverLimit);
+        }
+        if self.counts.variables <= target as u32 {
+            return Err(Reason::Undeclared);
+        }
+        if is_outside(l.constant, constant) {
+            return Err(Reason::OutOfRange);
+        }
+        if is_marked(&self.targets_seen, target as usize) {
+            return Err(Reason::NamedTwice);
+        }
+        self.count_effect(target as usize, 1);
+        Ok(Progress::Going)
+    }
+
+    // T variable, weight.
+    fn take_term(&mut self, l: &Limits, rest: &[u8]) -> Result<Progress, Reason>
+        requires { (0 < length rest.now) × (get_or rest.now 0 0 ≡ letter_t) }
+        ensures { Ruled l.now self.old (command_at rest.now) self.new result }
+    {
+        let Command::Term(variable, weight) = commands::read_term(rest) else {
+            return Err(Reason::CutShort);
+        };
+        if u64::from(l.terms) < self.counts.terms {
+            return Err(Reason::OverLimit);
+        }
+        if self.counts.variables <= variable as u32 {
+            return Err(Reason::Undeclared);
+        }
+        if is_zero(weight) {
+            return Err(Reason::OutOfRange);
+        }
+        if is_outside(l.constant, weight) {
+            return Err(Reason::OutOfRange);
+        }
+        if is_marked(&self.terms_seen, variable as usize) {
+            return Err(Reason::NamedTwice);
+        }
+        put_mark(&mut self.terms_seen, variable as usize);
+        self.counts.terms += 1;
+        self.counts.bare_sum = false;
+        Ok(Progress::Going)
+    }
+
+    // The tests of Q and R, which are the same.
+    fn take_division(
+        &mut self,
+        l: &Limits,
+        target: u8,
+        operand: u8,
+        divisor: u32,
+    ) -> Result<Progress, Reason>
+        ensures { Ruled l.now self.old (Quotient target operand divisor) self.new result }
+    {
+        if self.has_no_room(l) {
+            return Err(Reason::OverLimit);
+        }
+        if self.counts.variables <= target as u32 {
+            return Err(Reason::Undeclared);
+        }
+        if self.counts.variables <= operand as u32 {
+            return Err(Reason::Undeclared);
+        }
+        if is_zero(divisor) {
+            return Err(Reason::OutOfRange);
+        }
+        if is_outside(l.constant, divisor) {
+            return Err(Reason::OutOfRange);
+        }
+        if is_marked(&self.targets_seen, target as usize) {
+            return Err(Reason::NamedTwice);
+        }
+        self.count_effect(target as usize, 0);
+        Ok(Progress::Going)
+    }
+
+    // Q target, operand, divisor.
+    fn take_quotient(&mut self, l: &Limits, rest: &[u8]) -> Result<Progress, Reason>
+        requires { (0 < length rest.now) × (get_or rest.now 0 0 ≡ letter_q) }
+        ensures { Ruled l.now self.old (command_at rest.now) self.new result }
+    {
+        let Command::Quotient(target, operand, divisor) = commands::read_quotient(rest) else {
+            return Err(Reason::CutShort);
+        };
+        self.take_division(l, target, operand, divisor)
+    }
+
+    // R target, operand, divisor.
+    fn take_residue(&mut self, l: &Limits, rest: &[u8]) -> Result<Progress, Reason>
+        requires { (0 < length rest.now) × (get_or rest.now 0 0 ≡ letter_r) }
+        ensures { Ruled l.now self.old (command_at rest.now) self.new result }
+    {
+        let Command::Residue(target, operand, divisor) = commands::read_residue(rest) else {
+            return Err(Reason::CutShort);
+        };
+        self.take_division(l, target, operand, divisor)
+    }
+
+    // A command that stands where a T must: 14, and before it 2 where the command is cut short.
+    fn refuse_bare(&self, l: &Limits, rest: &[u8]) -> Result<Progress, Reason>
+        requires { (0 < length rest.now) × (row_of (get_or rest.now 0 0) < rows)
+            × (lacks_term l.now.restricted (flag_of self.now.counts.bare_sum) (get_or rest.now 0 0) ≡ true) }
+        ensures { taken_of self.now result ≡ rule_of (limits_of l.now) (state_of self.now) (command_at rest.now) }
+    {
+        if rest.len() < commands::size_of(rest[0]) {
+            Err(Reason::CutShort)
+        } else {
+            Err(Reason::SumWithoutTerm)
+        }
+    }
+
+    // The command at the front of what remains of a file: 1 by its byte alone, 14 where it stands in the place of a T, else what its own rule
+    // says; 2 goes before 14 and all of that rule.
+    #[tactic(auto, using(crate::proofs::Taking::by_own_rule))]
+    fn take(&mut self, l: &Limits, rest: &[u8]) -> Result<Progress, Reason>
+        ensures { taken_of self.new result ≡ take_of (limits_of l.now) (state_of self.old) rest.now }
+    {
+        if rest.len() == 0 {
+            return Err(Reason::CutShort);
+        }
+        let byte = rest[0];
+        if !self.is_allowed(l, byte) {
+            return Err(Reason::NotAllowed);
+        }
+        if self.lacks_term(l, byte) {
+            return self.refuse_bare(l, rest);
+        }
+        match byte {
+            b'V' => self.take_variable(l, rest),
+            b'U' => self.take_start(l, rest),
+            b'M' => self.take_mode(l, rest),
+            b'A' => self.take_action(l),
+            b'C' => self.take_condition(l, rest),
+            b'P' => self.take_mode_condition(l, rest),
+            b'E' => self.take_mode_effect(l, rest),
+            b'+' => self.take_add(l, rest),
+            b'L' => self.take_linear(l, rest),
+            b'T' => self.take_term(l, rest),
+            b'Q' => self.take_quotient(l, rest),
+            b'R' => self.take_residue(l, rest),
+            b'G' => {
+                self.open(Section::Goal, self.counts.actions);
+                Ok(Progress::Going)
+            }
+            b'Z' => Ok(Progress::Ended),
+            b'K' => self.take_sum(l, rest),
+            _ => Err(Reason::NotAllowed),
+        }
+    }
+
+    // Z, with so many bytes remaining from it on: 3, at the offset after Z, where bytes follow it.
+    fn ended_at(&self, at: usize, remaining: usize) -> Result<Accepted, Refusal>
+        requires { at + 1 < 2 ^ 64 }
+        ensures { verdict_is result ≡ ended_at (state_of self.now) at remaining }
+    {
+        if remaining != 1 {
+            return Err(Reason::BytesBehind.at(at as u64 + 1));
+        }
+        Ok(Accepted {
+            variables: self.counts.variables,
+            modes: self.counts.modes,
+            actions: self.counts.actions,
+        })
     }
 }
 
-// V lower, upper, start: the next variable of a source file.
-fn take_variable(l: Limits, p: Counts, rest: &[u8]) -> Taken
-    requires { (0 < length rest.now) × (get_or rest.now 0 0 ≡ letter_v) }
-    ensures { Ruled result l p (command_at rest.now) }
+// The place of a refusal is the offset of the command; where the file ends too soon it is the file's length.
+fn refused_at(reason: Reason, at: usize, length: usize) -> Refusal
+    ensures { verdict_is (Err result) ≡ refused_at (number_of reason) at length }
 {
-    let Command::Variable(lower, upper, start) = commands::read_variable(rest) else {
-        return refuse(p, 2);
-    };
-    if l.variables <= p.variables {
-        return refuse(p, 4);
-    }
-    if is_outside(l.constant, lower) {
-        return refuse(p, 6);
-    }
-    if is_outside(l.constant, upper) {
-        return refuse(p, 6);
-    }
-    if !integers::bits_at_most(lower, upper) {
-        return refuse(p, 6);
-    }
-    if !integers::bits_at_most(lower, start) {
-        return refuse(p, 6);
-    }
-    if !integers::bits_at_most(start, upper) {
-        return refuse(p, 6);
-    }
-    let mut q = p;
-    q.variables = p.variables + 1;
-    q.terms = 0;
-    go_on(q)
-}
-
-// U start: the next variable of a restricted file.
-fn take_start(l: Limits, p: Counts, rest: &[u8]) -> Taken
-    requires { (0 < length rest.now) × (get_or rest.now 0 0 ≡ letter_u) }
-    ensures { Ruled result l p (command_at rest.now) }
-{
-    let Command::Start(start) = commands::read_start(rest) else {
-        return refuse(p, 2);
-    };
-    if l.variables <= p.variables {
-        return refuse(p, 4);
-    }
-    if is_outside(l.constant, start) {
-        return refuse(p, 6);
-    }
-    let mut q = p;
-    q.variables = p.variables + 1;
-    q.terms = 0;
-    go_on(q)
-}
-
-// M size, start: the next mode. A start not below the size is 5, so a size of 0 is.
-fn take_mode(l: Limits, p: Counts, rest: &[u8], sizes: &mut [u16; MODES]) -> Taken
-    requires { (0 < length rest.now) × (get_or rest.now 0 0 ≡ letter_m) }
-    ensures { (set targets terms : List ℕ) → taken_of result sizes.new set targets terms
-        ≡ own_rule_of (limits_of l) (state_of p sizes.old set targets terms) (command_at rest.now) }
-{
-    let Command::Mode(size, start) = commands::read_mode(rest) else {
-        return refuse(p, 2);
-    };
-    if l.modes <= p.modes {
-        return refuse(p, 4);
-    }
-    if size <= start {
-        return refuse(p, 5);
-    }
-    if l.size < size as u32 {
-        return refuse(p, 6);
-    }
-    put_size(sizes, p.modes as usize, size);
-    let mut q = p;
-    q.modes = p.modes + 1;
-    q.terms = 0;
-    go_on(q)
-}
-
-// The counts where an action or the goal begins: nothing is counted in it yet.
-fn open(p: Counts, section: u32, actions: u32) -> Counts
-    ensures { (sizes set targets terms : List ℕ) → state_of result sizes no_modes no_variables no_variables
-        ≡ opened (state_of p sizes set targets terms) section actions }
-{
-    Counts {
-        section,
-        variables: p.variables,
-        modes: p.modes,
-        actions,
-        conditions: 0,
-        mode_conditions: 0,
-        numeric_effects: 0,
-        terms: 0,
-        sums: p.sums,
-        bare_sum: p.bare_sum,
-    }
-}
-
-// A: the next action. Its marks are cleared.
-fn take_action(
-    l: Limits,
-    p: Counts,
-    modes_set: &mut [u8; MODES],
-    targets_seen: &mut [u8; VARIABLES],
-    terms_seen: &mut [u8; VARIABLES],
-) -> Taken
-    ensures { (sizes : List ℕ) → taken_of result sizes modes_set.new targets_seen.new terms_seen.new
-        ≡ own_rule_of (limits_of l) (state_of p sizes modes_set.old targets_seen.old terms_seen.old) Action }
-{
-    if l.actions <= p.actions {
-        return refuse(p, 4);
-    }
-    *modes_set = [0; MODES];
-    *targets_seen = [0; VARIABLES];
-    *terms_seen = [0; VARIABLES];
-    go_on(open(p, IN_ACTION, p.actions + 1))
-}
-
-// Whether a condition, C or K, is one too many.
-fn has_no_room_for_condition(l: Limits, p: Counts) -> bool
-    ensures { result ≡ leb l.conditions p.conditions }
-{
-    l.conditions <= p.conditions
-}
-
-// C variable, relation, constant.
-fn take_condition(l: Limits, p: Counts, rest: &[u8]) -> Taken
-    requires { (0 < length rest.now) × (get_or rest.now 0 0 ≡ letter_c) }
-    ensures { Ruled result l p (command_at rest.now) }
-{
-    let Command::Condition(variable, relation, constant) = commands::read_condition(rest) else {
-        return refuse(p, 2);
-    };
-    if has_no_room_for_condition(l, p) {
-        return refuse(p, 4);
-    }
-    if p.variables <= variable as u32 {
-        return refuse(p, 5);
-    }
-    if l.relations < relation as u32 {
-        return refuse(p, 5);
-    }
-    if is_outside(l.constant, constant) {
-        return refuse(p, 6);
-    }
-    let mut q = p;
-    q.conditions = p.conditions + 1;
-    q.terms = 0;
-    go_on(q)
-}
-
-// The counts after a K: a condition more, of which no T is read yet.
-fn with_sum(p: Counts) -> Counts
-    requires { (p.conditions + 1 < 2 ^ 32) × (p.sums + 1 < 2 ^ 32) }
-    ensures { (sizes set targets terms : List ℕ) → state_of result sizes set targets no_variables ≡ with_sum (state_of p sizes set targets terms) }
-{
-    Counts {
-        section: p.section,
-        variables: p.variables,
-        conditions: p.conditions + 1,
-        modes: p.modes,
-        mode_conditions: p.mode_conditions,
-        actions: p.actions,
-        numeric_effects: p.numeric_effects,
-        terms: 1,
-        sums: p.sums + 1,
-        bare_sum: 1,
-    }
-}
-
-// K relation, constant; T must follow.
-fn take_sum(l: Limits, p: Counts, rest: &[u8], terms_seen: &mut [u8; VARIABLES]) -> Taken
-    requires { (0 < length rest.now) × (get_or rest.now 0 0 ≡ letter_k) }
-    ensures { (sizes set targets : List ℕ) → taken_of result sizes set targets terms_seen.new
-        ≡ own_rule_of (limits_of l) (state_of p sizes set targets terms_seen.old) (command_at rest.now) }
-{
-    let Command::Sum(relation, constant) = commands::read_sum(rest) else {
-        return refuse(p, 2);
-    };
-    if has_no_room_for_condition(l, p) {
-        return refuse(p, 4);
-    }
-    if l.sums <= p.sums {
-        return refuse(p, 4);
-    }
-    if l.relations < relation as u32 {
-        return refuse(p, 5);
-    }
-    if is_outside(l.sum_constant, constant) {
-        return refuse(p, 6);
-    }
-    *terms_seen = [0; VARIABLES];
-    go_on(with_sum(p))
-}
-
-// P mode, value.
-fn take_mode_condition(l: Limits, p: Counts, rest: &[u8], sizes: &[u16; MODES]) -> Taken
-    requires { (0 < length rest.now) × (get_or rest.now 0 0 ≡ letter_p) }
-    ensures { (set targets terms : List ℕ) → taken_of result sizes.now set targets terms
-        ≡ own_rule_of (limits_of l) (state_of p sizes.now set targets terms) (command_at rest.now) }
-{
-    let Command::ModeCondition(mode, value) = commands::read_mode_condition(rest) else {
-        return refuse(p, 2);
-    };
-    if l.mode_conditions <= p.mode_conditions {
-        return refuse(p, 4);
-    }
-    if p.modes <= mode as u32 {
-        return refuse(p, 5);
-    }
-    if not_below_size(sizes, mode as usize, value) {
-        return refuse(p, 5);
-    }
-    let mut q = p;
-    q.mode_conditions = p.mode_conditions + 1;
-    q.terms = 0;
-    go_on(q)
-}
-
-// E mode, value: one for each mode of an action.
-fn take_mode_effect(
-    l: Limits,
-    p: Counts,
-    rest: &[u8],
-    sizes: &[u16; MODES],
-    modes_set: &mut [u8; MODES],
-) -> Taken
-    requires { (0 < length rest.now) × (get_or rest.now 0 0 ≡ letter_e) }
-    ensures { (targets terms : List ℕ) → taken_of result sizes.now modes_set.new targets terms
-        ≡ own_rule_of (limits_of l) (state_of p sizes.now modes_set.old targets terms) (command_at rest.now) }
-{
-    let Command::ModeEffect(mode, value) = commands::read_mode_effect(rest) else {
-        return refuse(p, 2);
-    };
-    if p.modes <= mode as u32 {
-        return refuse(p, 5);
-    }
-    if not_below_size(sizes, mode as usize, value) {
-        return refuse(p, 5);
-    }
-    if is_marked(modes_set, mode as usize) {
-        return refuse(p, 7);
-    }
-    put_mark(modes_set, mode as usize);
-    let mut q = p;
-    q.terms = 0;
-    go_on(q)
-}
-
-// Whether a numeric effect is one too many.
-fn has_no_room(l: Limits, p: Counts) -> bool
-    ensures { result ≡ leb l.numeric_effects p.numeric_effects }
-{
-    l.numeric_effects <= p.numeric_effects
-}
-
-// A numeric effect on a target is taken: the target is marked, no T of the effect is read yet, and `terms` is as given.
-fn go_on_with_effect(
-    p: Counts,
-    target: usize,
-    terms: u64,
-    targets_seen: &mut [u8; VARIABLES],
-    terms_seen: &mut [u8; VARIABLES],
-) -> Taken
-    requires { p.numeric_effects + 1 < 2 ^ 32 }
-    ensures { (sizes set : List ℕ) → taken_of result sizes set targets_seen.new terms_seen.new
-        ≡ go_on (with_numeric_effect (state_of p sizes set targets_seen.old terms_seen.old) target terms) }
-{
-    put_mark(targets_seen, target);
-    *terms_seen = [0; VARIABLES];
-    let mut q = p;
-    q.numeric_effects = p.numeric_effects + 1;
-    q.terms = terms;
-    go_on(q)
-}
-
-// + variable, constant.
-fn take_add(
-    l: Limits,
-    p: Counts,
-    rest: &[u8],
-    targets_seen: &mut [u8; VARIABLES],
-    terms_seen: &mut [u8; VARIABLES],
-) -> Taken
-    requires { (0 < length rest.now) × (get_or rest.now 0 0 ≡ plus_sign) }
-    ensures { (sizes set : List ℕ) → taken_of result sizes set targets_seen.new terms_seen.new
-        ≡ own_rule_of (limits_of l) (state_of p sizes set targets_seen.old terms_seen.old) (command_at rest.now) }
-{
-    let Command::Add(variable, constant) = commands::read_add(rest) else {
-        return refuse(p, 2);
-    };
-    if has_no_room(l, p) {
-        return refuse(p, 4);
-    }
-    if p.variables <= variable as u32 {
-        return refuse(p, 5);
-    }
-    if is_zero(constant) {
-        return refuse(p, 6);
-    }
-    if is_outside(l.constant, constant) {
-        return refuse(p, 6);
-    }
-    if is_marked(targets_seen, variable as usize) {
-        return refuse(p, 7);
-    }
-    go_on_with_effect(p, variable as usize, 0, targets_seen, terms_seen)
-}
-
-// L target, w0; T may follow.
-fn take_linear(
-    l: Limits,
-    p: Counts,
-    rest: &[u8],
-    targets_seen: &mut [u8; VARIABLES],
-    terms_seen: &mut [u8; VARIABLES],
-) -> Taken
-    requires { (0 < length rest.now) × (get_or rest.now 0 0 ≡ letter_l) }
-    ensures { (sizes set : List ℕ) → taken_of result sizes set targets_seen.new terms_seen.new
-        ≡ own_rule_of (limits_of l) (state_of p sizes set targets_seen.old terms_seen.old) (command_at rest.now) }
-{
-    let Command::Linear(target, constant) = commands::read_linear(rest) else {
-        return refuse(p, 2);
-    };
-    if has_no_room(l, p) {
-        return refuse(p, 4);
-    }
-    if p.variables <= target as u32 {
-        return refuse(p, 5);
-    }
-    if is_outside(l.constant, constant) {
-        return refuse(p, 6);
-    }
-    if is_marked(targets_seen, target as usize) {
-        return refuse(p, 7);
-    }
-    go_on_with_effect(p, target as usize, 1, targets_seen, terms_seen)
-}
-
-// T variable, weight.
-fn take_term(l: Limits, p: Counts, rest: &[u8], terms_seen: &mut [u8; VARIABLES]) -> Taken
-    requires { (0 < length rest.now) × (get_or rest.now 0 0 ≡ letter_t) }
-    ensures { (sizes set targets : List ℕ) → taken_of result sizes set targets terms_seen.new
-        ≡ own_rule_of (limits_of l) (state_of p sizes set targets terms_seen.old) (command_at rest.now) }
-{
-    let Command::Term(variable, weight) = commands::read_term(rest) else {
-        return refuse(p, 2);
-    };
-    if (l.terms as u64) < p.terms {
-        return refuse(p, 4);
-    }
-    if p.variables <= variable as u32 {
-        return refuse(p, 5);
-    }
-    if is_zero(weight) {
-        return refuse(p, 6);
-    }
-    if is_outside(l.constant, weight) {
-        return refuse(p, 6);
-    }
-    if is_marked(terms_seen, variable as usize) {
-        return refuse(p, 7);
-    }
-    put_mark(terms_seen, variable as usize);
-    let mut q = p;
-    q.terms = p.terms + 1;
-    q.bare_sum = 0;
-    go_on(q)
-}
-
-// The tests of Q and R, which are the same.
-fn take_division(
-    l: Limits,
-    p: Counts,
-    target: u8,
-    operand: u8,
-    divisor: u32,
-    targets_seen: &mut [u8; VARIABLES],
-    terms_seen: &mut [u8; VARIABLES],
-) -> Taken
-    ensures { (sizes set : List ℕ) → taken_of result sizes set targets_seen.new terms_seen.new
-        ≡ own_rule_of (limits_of l) (state_of p sizes set targets_seen.old terms_seen.old) (Quotient target operand divisor) }
-{
-    if has_no_room(l, p) {
-        return refuse(p, 4);
-    }
-    if p.variables <= target as u32 {
-        return refuse(p, 5);
-    }
-    if p.variables <= operand as u32 {
-        return refuse(p, 5);
-    }
-    if is_zero(divisor) {
-        return refuse(p, 6);
-    }
-    if is_outside(l.constant, divisor) {
-        return refuse(p, 6);
-    }
-    if is_marked(targets_seen, target as usize) {
-        return refuse(p, 7);
-    }
-    go_on_with_effect(p, target as usize, 0, targets_seen, terms_seen)
-}
-
-// Q target, operand, divisor.
-fn take_quotient(
-    l: Limits,
-    p: Counts,
-    rest: &[u8],
-    targets_seen: &mut [u8; VARIABLES],
-    terms_seen: &mut [u8; VARIABLES],
-) -> Taken
-    requires { (0 < length rest.now) × (get_or rest.now 0 0 ≡ letter_q) }
-    ensures { (sizes set : List ℕ) → taken_of result sizes set targets_seen.new terms_seen.new
-        ≡ own_rule_of (limits_of l) (state_of p sizes set targets_seen.old terms_seen.old) (command_at rest.now) }
-{
-    let Command::Quotient(target, operand, divisor) = commands::read_quotient(rest) else {
-        return refuse(p, 2);
-    };
-    take_division(l, p, target, operand, divisor, targets_seen, terms_seen)
-}
-
-// R target, operand, divisor.
-fn take_residue(
-    l: Limits,
-    p: Counts,
-    rest: &[u8],
-    targets_seen: &mut [u8; VARIABLES],
-    terms_seen: &mut [u8; VARIABLES],
-) -> Taken
-    requires { (0 < length rest.now) × (get_or rest.now 0 0 ≡ letter_r) }
-    ensures { (sizes set : List ℕ) → taken_of result sizes set targets_seen.new terms_seen.new
-        ≡ own_rule_of (limits_of l) (state_of p sizes set targets_seen.old terms_seen.old) (command_at rest.now) }
-{
-    let Command::Residue(target, operand, divisor) = commands::read_residue(rest) else {
-        return refuse(p, 2);
-    };
-    take_division(l, p, target, operand, divisor, targets_seen, terms_seen)
-}
-
-// G: the goal. The marks of the last action are cleared.
-fn take_goal(
-    l: Limits,
-    p: Counts,
-    modes_set: &mut [u8; MODES],
-    targets_seen: &mut [u8; VARIABLES],
-    terms_seen: &mut [u8; VARIABLES],
-) -> Taken
-    ensures { (sizes : List ℕ) → taken_of result sizes modes_set.new targets_seen.new terms_seen.new
-        ≡ own_rule_of (limits_of l) (state_of p sizes modes_set.old targets_seen.old terms_seen.old) Goal }
-{
-    *modes_set = [0; MODES];
-    *targets_seen = [0; VARIABLES];
-    *terms_seen = [0; VARIABLES];
-    go_on(open(p, IN_GOAL, p.actions))
-}
-
-// Z: the end.
-fn take_end(l: Limits, p: Counts) -> Taken
-    ensures { Ruled result l p End }
-{
-    Taken {
-        counts: p,
-        progress: Progress::Ended,
-    }
-}
-
-// Whether a command with the byte stands where a T must: the K before it has none yet, in a file that is not restricted.
-fn lacks_term(l: Limits, p: Counts, byte: u8) -> bool
-    ensures { result ≡ lacks_term l.restricted p.bare_sum byte }
-{
-    if p.bare_sum == 0 {
-        return false;
-    }
-    !l.restricted && byte != b'T'
-}
-
-// A command that stands where a T must: 14, and before it 2 where the command is cut short.
-fn refuse_bare(l: Limits, p: Counts, rest: &[u8]) -> Taken
-    requires { (0 < length rest.now) × (row_of (get_or rest.now 0 0) < rows)
-        × (lacks_term l.restricted p.bare_sum (get_or rest.now 0 0) ≡ true) }
-    ensures { (sizes set targets terms : List ℕ) → taken_of result sizes set targets terms
-        ≡ rule_of (limits_of l) (state_of p sizes set targets terms) (command_at rest.now) }
-{
-    if rest.len() < commands::size_of(rest[0]) {
-        refuse(p, 2)
-    } else {
-        refuse(p, 14)
-    }
-}
-
-// The command at the front of what remains of a file: 1 by its byte alone, 14 where it stands in the place of a T, else what its own rule
-// says; 2 goes before 14 and all of that rule. The arrays are what the state has beside its counts: the sizes of the modes, the modes that
-// have their effect, the variables that are a target, those in a T of the last L or K.
-fn take(
-    l: Limits,
-    p: Counts,
-    rest: &[u8],
-    sizes: &mut [u16; MODES],
-    modes_set: &mut [u8; MODES],
-    targets_seen: &mut [u8; VARIABLES],
-    terms_seen: &mut [u8; VARIABLES],
-) -> Taken
-    ensures { taken_of result sizes.new modes_set.new targets_seen.new terms_seen.new
-        ≡ take_of (limits_of l)
-        (state_of p sizes.old modes_set.old targets_seen.old terms_seen.old)
-        rest.now }
-{
-    if rest.len() == 0 {
-        return refuse(p, 2);
-    }
-    let byte = rest[0];
-    if !is_allowed(l, p, byte) {
-        return refuse(p, 1);
-    }
-    if lacks_term(l, p, byte) {
-        return refuse_bare(l, p, rest);
-    }
-    match byte {
-        b'V' => take_variable(l, p, rest),
-        b'U' => take_start(l, p, rest),
-        b'M' => take_mode(l, p, rest, sizes),
-        b'A' => take_action(l, p, modes_set, targets_seen, terms_seen),
-        b'C' => take_condition(l, p, rest),
-        b'P' => take_mode_condition(l, p, rest, sizes),
-        b'E' => take_mode_effect(l, p, rest, sizes, modes_set),
-        b'+' => take_add(l, p, rest, targets_seen, terms_seen),
-        b'L' => take_linear(l, p, rest, targets_seen, terms_seen),
-        b'T' => take_term(l, p, rest, terms_seen),
-        b'Q' => take_quotient(l, p, rest, targets_seen, terms_seen),
-        b'R' => take_residue(l, p, rest, targets_seen, terms_seen),
-        b'G' => take_goal(l, p, modes_set, targets_seen, terms_seen),
-        b'Z' => take_end(l, p),
-        b'K' => take_sum(l, p, rest, terms_seen),
-        _ => refuse(p, 1),
-    }
-}
-
-// Before the first command.
-fn begun() -> Counts
-    ensures { state_of result no_modes no_modes no_variables no_variables ≡ begin }
-{
-    Counts {
-        section: IN_DECLARATIONS,
-        variables: 0,
-        modes: 0,
-        actions: 0,
-        conditions: 0,
-        mode_conditions: 0,
-        numeric_effects: 0,
-        terms: 0,
-        sums: 0,
-        bare_sum: 0,
-    }
-}
-
-// The place of a refusal is the offset of the command; of 2 it is the file's length.
-fn refused_at(number: u8, at: usize, length: usize) -> Verdict
-    ensures { verdict_is result ≡ refused_at number at length }
-{
-    if number == 2 {
-        Verdict::Rejected(number, length as u64)
-    } else {
-        Verdict::Rejected(number, at as u64)
-    }
-}
-
-// Z, with so many bytes remaining from it on: 3, at the offset after Z, where bytes follow it.
-fn ended_at(p: Counts, at: usize, remaining: usize) -> Verdict
-    requires { at + 1 < 2 ^ 64 }
-    ensures { (sizes set targets terms : List ℕ) → verdict_is result ≡ ended_at (state_of p sizes set targets terms) at remaining }
-{
-    if remaining == 1 {
-        Verdict::Accepted(p.variables, p.modes, p.actions)
-    } else {
-        Verdict::Rejected(3, at as u64 + 1)
+    match reason {
+        Reason::CutShort => reason.at(length as u64),
+        _ => reason.at(at as u64),
     }
 }
 
 // The answer to a whole file, for any limits.
-fn check(l: Limits, file: &[u8]) -> Verdict
-    ensures { verdict_is result ≡ verdict_of (limits_of l) file.now }
+fn check(l: &Limits, file: &[u8]) -> Result<Accepted, Refusal>
+    ensures { verdict_is result ≡ verdict_of (limits_of l.now) file.now }
 {
-    let mut p = begun();
-    let mut sizes = [0u16; MODES];
-    let mut modes_set = [0u8; MODES];
-    let mut targets_seen = [0u8; VARIABLES];
-    let mut terms_seen = [0u8; VARIABLES];
+    let mut reading = Reading::begun();
     let mut at: usize = 0;
     while at < file.len() {
         let rest = &file[at..];
-        let taken = take(
-            l,
-            p,
-            rest,
-            &mut sizes,
-            &mut modes_set,
-            &mut targets_seen,
-            &mut terms_seen,
-        );
-        let counts = taken.counts;
-        let progress = taken.progress;
-        match progress {
-            Progress::Stopped(number) => return refused_at(number, at, file.len()),
-            Progress::Ended => return ended_at(counts, at, rest.len()),
-            Progress::Going => {}
+        match reading.take(l, rest) {
+            Ok(Progress::Going) => at += commands::size_of(rest[0]),
+            Ok(Progress::Ended) => return reading.ended_at(at, rest.len()),
+            Err(reason) => return Err(refused_at(reason, at, file.len())),
         }
-        p = counts;
-        at = at + commands::size_of(rest[0]);
     }
-    refused_at(2, at, file.len())
+    Err(refused_at(Reason::CutShort, at, file.len()))
 }
 
 // Whether a file is a source task, with its counts of variables, modes and actions; else the refusal that document 01 gives.
-pub fn check_source(file: &[u8]) -> Verdict
+pub fn check_source(file: &[u8]) -> Result<Accepted, Refusal>
     ensures { verdict_is result ≡ verdict_of source_limits file.now }
 {
-    check(source_limits(), file)
+    check(&source_limits(), file)
 }
 
 // The same for a restricted task.
-pub fn check_restricted(file: &[u8]) -> Verdict
+pub fn check_restricted(file: &[u8]) -> Result<Accepted, Refusal>
     ensures { verdict_is result ≡ verdict_of restricted_limits file.now }
 {
-    check(restricted_limits(), file)
+    check(&restricted_limits(), file)
 }

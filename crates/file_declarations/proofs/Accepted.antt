@@ -9,7 +9,7 @@ use mathlib.Core.List.{List, map}
 use lib.ListN.{length, take, length-map}
 use lib.Seq.{get_or-take}
 use lib.IntN.{ℤ, pos}
-use Rattle.lists.specs.Answer.{given}
+use Rattle.answers.specs.Answer.{given}
 use Rattle.model.specs.Tasks.{SourceVariable, SourceTask, RestrictedTask}
 use Rattle.model.specs.Decoding.{read_source, read_restricted}
 use Rattle.model.specs.Steps.{integer_at}
@@ -52,7 +52,13 @@ module _ {file : List ℕ} {lower upper start : List ℤ} {sizes values : List �
       let variable_count : r.variables ≡ length t.variables = held_lowers.count ∙ length-map t.variables _ in
       let mode_count : r.modes ≡ length t.modes = held_sizes.count ∙ length-map t.modes _ in
       record {
-        room = record { lower_long = held_lowers.long ∙ room.lower_long; upper_long = held_uppers.long ∙ room.upper_long; start_long = held_starts.long ∙ room.start_long; sizes_long = held_sizes.long ∙ room.sizes_long; values_long = held_values.long ∙ room.values_long };
+        room = record {
+          lower_long = held_lowers.long ∙ room.lower_long;
+          upper_long = held_uppers.long ∙ room.upper_long;
+          start_long = held_starts.long ∙ room.start_long;
+          sizes_long = held_sizes.long ∙ room.sizes_long;
+          values_long = held_values.long ∙ room.values_long;
+        };
         variable_count = variable_count;
         variables_few = omega (arith, ok.variables_few, variable_count);
         mode_count = mode_count;
@@ -83,7 +89,11 @@ module _ {file : List ℕ} {start : List ℤ} {sizes values : List ℕ} {r : Dec
       let held_values = each (λ (m : ℕ × ℕ). m.1) s.all.values_are ms ok.modes_few room.values_long in
       let mode_count : r.modes ≡ length t.modes = held_sizes.count ∙ length-map t.modes _ in
       record {
-        room = record { start_long = held_starts.long ∙ room.start_long; sizes_long = held_sizes.long ∙ room.sizes_long; values_long = held_values.long ∙ room.values_long };
+        room = record {
+          start_long = held_starts.long ∙ room.start_long;
+          sizes_long = held_sizes.long ∙ room.sizes_long;
+          values_long = held_values.long ∙ room.values_long;
+        };
         variable_count = held_starts.count;
         variables_few = omega (arith, ok.starts_few, held_starts.count);
         mode_count = mode_count;

@@ -1,5 +1,4 @@
--- The laws of an array that is filled from its front: one more element, none where there is no room, and one run behind another; and what the
--- array holds in the end.
+-- The laws of an array that is filled from its front: nothing more, one run behind another, and what the array holds in the end.
 -- Assumes nothing.
 use mathlib.Core.Path.{◌≡◌, refl, sym, ap, ◌∙◌, subst}
 use Prim.Native.Nat.{ℕ, suc, ◌+◌, ◌≤◌, ◌<◌}
@@ -25,16 +24,9 @@ module _ {A : Type 0} where
   sets-out [] old n h = refl
   sets-out (x ∷ xs) old n h = ap (λ (l : List A). sets l (suc n) xs) (set_out old n x h) ∙ sets-out xs old (suc n) (omega arith)
 
-  -- ---- one element more, or none
-  module _ {old : List A} {n : ℕ} (few : n ≤ length old) where
-    pub column-none : Column old n [] n old
-    column-none = record { count = omega (arith, few); is = refl }
-
-    pub column-full : {xs : List A} → length old ≤ n → Column old n xs n old
-    column-full {xs} full = record { count = omega (arith, few, full); is = sym (sets-out xs old n full) }
-
-  pub column-one : {old : List A} {n : ℕ} {x : A} → n < length old → Column old n (x ∷ []) (n + 1) (set old n x)
-  column-one h = record { count = omega (arith, h); is = refl }
+  -- ---- nothing more
+  pub column-none : {old : List A} {n : ℕ} → n ≤ length old → Column old n [] n old
+  column-none few = record { count = omega (arith, few); is = refl }
 
   -- ---- one run behind another
   module _ {old : List A} {xs : List A} {n : ℕ} {now : List A} (c : Column old 0 xs n now) where

@@ -9,7 +9,7 @@ use mathlib.Core.List.{List, [], ◌∷◌}
 use lib.Dec.{eqb, eqb→eq, leb, leb→le}
 use lib.IntN.{ℤ}
 use lib.ListN.{length, get_or, drop}
-use Rattle.lists.specs.Answer.{given}
+use Rattle.answers.specs.Answer.{given}
 use Rattle.commands.specs.Table.{letter_v, letter_u, letter_m, letter_a, letter_g, size_of_byte}
 use Rattle.commands.specs.Encoding.{byte_of}
 use Rattle.commands.specs.Reading.{command_at}
@@ -36,7 +36,8 @@ abbrev declared : List Command → Declarations
 declared cs = (variables_of cs, starts_of cs, modes_of cs)
 
 -- the state after a command that is taken, other than Z
-next : (l : Limits) (p : ReadingState) (c : Command) → onwards c (next_of p c) ≡ go_on (next_of p c) → (rule_of l p c).progress ≡ Going → next_of p c ≡ (rule_of l p c).state
+next : (l : Limits) (p : ReadingState) (c : Command) → onwards c (next_of p c) ≡ go_on (next_of p c) → (rule_of l p c).progress ≡ Going
+    → next_of p c ≡ (rule_of l p c).state
 next l p c n g =
     let (goes, own) = own-goes l p c g in
     sym (ap (λ (x : Taken). x.state) (own ∙ (rule-none p (tests_of l p c) (onwards c (next_of p c)) goes).1 ∙ n))
@@ -59,7 +60,8 @@ module _ (l : Limits) where
   abbrev Quiet : ReadingState → Command → Type 0
   Quiet p c = (in_action ≤ (rule_of l p c).state.section) × ((cs : List Command) → declared (c ∷ cs) ≡ declared cs)
 
-  still : (p : ReadingState) (c : Command) → onwards c (next_of p c) ≡ go_on (next_of p c) → (rule_of l p c).progress ≡ Going → in_action ≤ (next_of p c).section → in_action ≤ (rule_of l p c).state.section
+  still : (p : ReadingState) (c : Command) → onwards c (next_of p c) ≡ go_on (next_of p c) → (rule_of l p c).progress ≡ Going
+      → in_action ≤ (next_of p c).section → in_action ≤ (rule_of l p c).state.section
   still p c n g s = subst (λ (q : ReadingState). in_action ≤ q.section) (next l p c n g) s
 
   quiet : (p : ReadingState) (c : Command) → in_action ≤ p.section → allowed l p (byte_of c) ≡ true → (rule_of l p c).progress ≡ Going → Quiet p c
@@ -79,7 +81,7 @@ module _ (l : Limits) where
   quiet p Goal s a g = (still p Goal refl g (omega arith), λ d. refl)
   quiet p End s a g = absurd (end-never-goes l p g)
   quiet p (Sum x y) s a g = (still p (Sum x y) refl g s, λ d. refl)
-  quiet p (Refused number) s a g = absurd (clash (sym a))
+  quiet p (Refused reason) s a g = absurd (clash (sym a))
 
   none-declared : (cs : List Command) (p : ReadingState) → in_action ≤ p.section → Trail l p cs → declared cs ≡ ([], [], [])
   none-declared [] p s t = refl
@@ -108,34 +110,42 @@ module _ (l : Limits) where
   neither-G true = refl
   neither-G false = refl
 
-  declared-first : (p : ReadingState) (c : Command) (more cs : List Command) → Early p → allowed l p (byte_of c) ≡ true → (rule_of l p c).progress ≡ Going → Trail l (rule_of l p c).state cs
+  declared-first : (p : ReadingState) (c : Command) (more cs : List Command) → Early p → allowed l p (byte_of c) ≡ true → (rule_of l p c).progress ≡ Going
+      → Trail l (rule_of l p c).state cs
       → (Early (rule_of l p c).state → declared more ≡ declared cs) → Agree c more cs
   unfolding tests_of next_of
   declared-first p (Variable x y z) more cs (s, t) a g tr ih =
       rw (letter-V (source-only l.restricted (eqb p.section in_declarations) a).0)
-      (ap (λ (w : Declarations). (record { lower = constant x; upper = constant y; start = constant z } ∷ w.0, w.1, w.2)) (ih (subst Early (next l p (Variable x y z) refl g) (s, refl))))
+      (ap (λ (w : Declarations). (record { lower = constant x; upper = constant y; start = constant z } ∷ w.0, w.1, w.2))
+      (ih (subst Early (next l p (Variable x y z) refl g) (s, refl))))
   declared-first p (Start x) more cs (s, t) a g tr ih =
       rw (letter-U (restricted-only l.restricted (eqb p.section in_declarations) a).0)
       (ap (λ (w : Declarations). (w.0, constant x ∷ w.1, w.2)) (ih (subst Early (next l p (Start x) refl g) (s, refl))))
   declared-first p (Mode x y) more cs (s, t) a g tr ih =
       ap (λ (w : Declarations). (w.0, w.1, (x, y) ∷ w.2)) (ih (subst Early (next l p (Mode x y) refl g) (s, refl)))
-  declared-first p Action more cs (s, t) a g tr ih = rw (neither-A l.restricted) (sym (none-declared cs (rule_of l p Action).state (still p Action refl g (omega arith)) tr))
+  declared-first p Action more cs (s, t) a g tr ih = rw (neither-A l.restricted)
+      (sym (none-declared cs (rule_of l p Action).state (still p Action refl g (omega arith)) tr))
   declared-first p (Condition x y z) more cs (s, t) a g tr ih = absurd (omega (arith, s, leb→le in_action p.section (holds a)))
   declared-first p (ModeCondition x y) more cs (s, t) a g tr ih = absurd (omega (arith, s, leb→le in_action p.section (holds a)))
   declared-first p (ModeEffect x y) more cs (s, t) a g tr ih = absurd (omega (arith, s, is-equal p.section in_action a))
   declared-first p (Add x y) more cs (s, t) a g tr ih = absurd (omega (arith, s, is-equal p.section in_action a))
-  declared-first p (Linear x y) more cs (s, t) a g tr ih = absurd (omega (arith, s, is-equal p.section in_action (source-only l.restricted (eqb p.section in_action) a).1))
+  declared-first p (Linear x y) more cs (s, t) a g tr ih = absurd
+      (omega (arith, s, is-equal p.section in_action (source-only l.restricted (eqb p.section in_action) a).1))
   declared-first p (Term x y) more cs (s, t) a g tr ih = absurd (omega (arith, t, leb→le 1 p.terms (holds a)))
-  declared-first p (Quotient x y z) more cs (s, t) a g tr ih = absurd (omega (arith, s, is-equal p.section in_action (source-only l.restricted (eqb p.section in_action) a).1))
-  declared-first p (Residue x y z) more cs (s, t) a g tr ih = absurd (omega (arith, s, is-equal p.section in_action (source-only l.restricted (eqb p.section in_action) a).1))
-  declared-first p Goal more cs (s, t) a g tr ih = rw (neither-G l.restricted) (sym (none-declared cs (rule_of l p Goal).state (still p Goal refl g (omega arith)) tr))
+  declared-first p (Quotient x y z) more cs (s, t) a g tr ih = absurd
+      (omega (arith, s, is-equal p.section in_action (source-only l.restricted (eqb p.section in_action) a).1))
+  declared-first p (Residue x y z) more cs (s, t) a g tr ih = absurd
+      (omega (arith, s, is-equal p.section in_action (source-only l.restricted (eqb p.section in_action) a).1))
+  declared-first p Goal more cs (s, t) a g tr ih = rw (neither-G l.restricted)
+      (sym (none-declared cs (rule_of l p Goal).state (still p Goal refl g (omega arith)) tr))
   declared-first p End more cs (s, t) a g tr ih = absurd (end-never-goes l p g)
   declared-first p (Sum x y) more cs (s, t) a g tr ih =
       absurd (omega (arith, s, leb→le in_action p.section (holds (source-only l.restricted (leb in_action p.section) a).1)))
-  declared-first p (Refused number) more cs (s, t) a g tr ih = absurd (clash (sym a))
+  declared-first p (Refused reason) more cs (s, t) a g tr ih = absurd (clash (sym a))
 
   -- ---- along the file
-  declared-along : (most : ℕ) (p : ReadingState) (s : List ℕ) → Early p → Trail l p (commands_from l most p s) → declared (commands_with (declaring l.restricted) most s) ≡ declared (commands_from l most p s)
+  declared-along : (most : ℕ) (p : ReadingState) (s : List ℕ) → Early p → Trail l p (commands_from l most p s)
+      → declared (commands_with (declaring l.restricted) most s) ≡ declared (commands_from l most p s)
   unfolding remainders letters_along commands_along
   declared-along zero p s (e, _) t = absurd (omega (arith, e, t.0))
   declared-along (suc most) p s early t =
@@ -153,8 +163,10 @@ module _ (l : Limits) where
       step q Going e f (a, g, t) ih =
           let (_, b, kn) = take-inv l p s (subst Alive (sym f) tt) in
           let is : (rule_of l p (command_at s)).state ≡ q = sym (ap (λ (t : Taken). t.state) b) ∙ e in
-          subst (λ (x : ℕ). declared (cond (is_one_of x (declaring l.restricted)) (command_at s ∷ more) []) ≡ declared (command_at s ∷ behind q)) (byte-read s kn)
-          (declared-first p (command_at s) more (behind q) early a g t (λ early'. ih q (subst Early is early') (subst (λ (x : ReadingState). Trail l x (behind q)) is t)))
+          subst (λ (x : ℕ). declared (cond (is_one_of x (declaring l.restricted)) (command_at s ∷ more) []) ≡ declared (command_at s ∷ behind q))
+          (byte-read s kn)
+          (declared-first p (command_at s) more (behind q) early a g t
+          (λ early'. ih q (subst Early is early') (subst (λ (x : ReadingState). Trail l x (behind q)) is t)))
       step q Ended e f t ih = absurd (omega (arith, early.0, t.0))
       step q (Stopped n) e f t ih = absurd (omega (arith, early.0, t.0))
 
@@ -163,10 +175,12 @@ module _ (l : Limits) where
   unfolding commands_of
   all-declared file h = declared-along (suc (length file)) begin file (refl, refl) (accepted-trail l file h).0
 
-  read-declares : {A : Type 0} (file : List ℕ) (t u : A) → on_verdict (verdict_of l file) t ≡ given u → (declared (declarations l.restricted file) ≡ declared (commands_of l file)) × (t ≡ u)
+  read-declares : {A : Type 0} (file : List ℕ) (t u : A) → on_verdict (verdict_of l file) t ≡ given u
+      → (declared (declarations l.restricted file) ≡ declared (commands_of l file)) × (t ≡ u)
   read-declares {A} file t u e = go (verdict_of l file) refl e
     where
-      go : (v : Verdict) → verdict_of l file ≡ v → on_verdict v t ≡ given u → (declared (declarations l.restricted file) ≡ declared (commands_of l file)) × (t ≡ u)
+      go : (v : Verdict) → verdict_of l file ≡ v → on_verdict v t ≡ given u
+          → (declared (declarations l.restricted file) ≡ declared (commands_of l file)) × (t ≡ u)
       go (Accepted a b c) q e = (all-declared file (subst Is (sym q) tt), cc)
       go (Rejected n w) q e = let z : ◌≡◌ {A = ℕ} 0 1 = cc in absurd (omega arith)
 
@@ -180,5 +194,7 @@ source-declares file t e =
 pub restricted-declares : (file : List ℕ) (r : RestrictedTask) → read_restricted file ≡ given r
     → (starts_of (declarations true file) ≡ r.starts) × (modes_of (declarations true file) ≡ r.modes)
 restricted-declares file r e =
-    let (all, is) = read-declares restricted_limits file (restricted_task_of (commands_of restricted_limits file)) r e in
-    (ap (λ (w : Declarations). w.1) all ∙ ap (λ (u : RestrictedTask). u.starts) is, ap (λ (w : Declarations). w.2) all ∙ ap (λ (u : RestrictedTask). u.modes) is)
+    let (all, is) = read-declares restricted_limits file (restricted_task_of (commands_of restricted_limits file)) r e in (
+      ap (λ (w : Declarations). w.1) all ∙ ap (λ (u : RestrictedTask). u.starts) is,
+      ap (λ (w : Declarations). w.2) all ∙ ap (λ (u : RestrictedTask). u.modes) is,
+    )

@@ -12,6 +12,7 @@ use lib.IntN.{ℤ}
 use lib.ListN.{length, length-drop, get_or, take, drop, get_or-eq_default}
 use lib.Seq.{drop-drop, get_or-drop, take_all}
 use borrow.Author.Tests.{ne_eqb}
+use Rattle.answers.specs.declared.Reason.TheVariants.{CutShort}
 use Rattle.commands.specs.Table.{rows, row_at, letter_v, letter_u, letter_m, size_of_byte, size_of_row}
 use Rattle.commands.specs.Encoding.{byte_of}
 use Rattle.commands.specs.Reading.{command_at, read_row}
@@ -42,10 +43,10 @@ remains file at h = rw from-drop (omega (arith, length-drop at file))
 -- ---- what one command declares whose byte is known, and what commands declare one behind another
 module _ (s : List ℕ) (there : 0 < length s) where
   -- a command of row i is whole, or it is cut short
-  by_row : (P : Command → Type 0) (i : ℕ) → i < rows → get_or s 0 0 ≡ (row_at i).byte → P (read_row s i) → P (Refused 2) → P (command_at s)
+  by_row : (P : Command → Type 0) (i : ℕ) → i < rows → get_or s 0 0 ≡ (row_at i).byte → P (read_row s i) → P (Refused CutShort) → P (command_at s)
   by_row P i few e whole short = rw (read_as s i few there e) (by (leb (size_of_row i) (length s)))
     where
-      by : (b : Bool) → P (cond b (read_row s i) (Refused 2))
+      by : (b : Bool) → P (cond b (read_row s i) (Refused CutShort))
       by true = whole
       by false = short
 
@@ -65,7 +66,8 @@ those-append : (b : ℕ) (cs ds : List Command) → those b (cs ++ ds) ≡ those
 those-append b [] ds = refl
 those-append b (c ∷ cs) ds = by (eqb (byte_of c) b) (those-append b cs ds)
   where
-    by : (t : Bool) → those b (cs ++ ds) ≡ those b cs ++ those b ds → cond t (c ∷ those b (cs ++ ds)) (those b (cs ++ ds)) ≡ cond t (c ∷ those b cs) (those b cs) ++ those b ds
+    by : (t : Bool) → those b (cs ++ ds) ≡ those b cs ++ those b ds
+        → cond t (c ∷ those b (cs ++ ds)) (those b (cs ++ ds)) ≡ cond t (c ∷ those b cs) (those b cs) ++ those b ds
     by true e = ap (λ (l : List Command). c ∷ l) e
     by false e = e
 
@@ -83,7 +85,8 @@ module _ (cs ds : List Command) where
     both e c d = subst (λ (l : List A). Column old 0 l n' after) e (column-more c d)
 
   stored-both : {restricted : Bool} {lower₀ upper₀ start₀ : List ℤ} {sizes₀ values₀ : List ℕ} {n m : ℕ} {lower upper start : List ℤ} {sizes values : List ℕ}
-      {n' m' : ℕ} {lower' upper' start' : List ℤ} {sizes' values' : List ℕ} → Stored restricted cs 0 0 lower₀ upper₀ start₀ sizes₀ values₀ n m lower upper start sizes values
+      {n' m' : ℕ} {lower' upper' start' : List ℤ} {sizes' values' : List ℕ}
+      → Stored restricted cs 0 0 lower₀ upper₀ start₀ sizes₀ values₀ n m lower upper start sizes values
       → Stored restricted ds n m lower upper start sizes values n' m' lower' upper' start' sizes' values'
       → Stored restricted (cs ++ ds) 0 0 lower₀ upper₀ start₀ sizes₀ values₀ n' m' lower' upper' start' sizes' values'
   stored-both {restricted} s t = record {
@@ -102,8 +105,10 @@ module _ (letters file : List ℕ) (at : ℕ) where
   nothing_left zero h = refl
   nothing_left (suc most) h = rw (rw from-drop at h)
 
-  one_left : (most size : ℕ) → length file < most + at → at < length file → is_one_of (get_or (from file at) 0 0) letters ≡ true → size ≡ size_of_byte (get_or (from file at) 0 0) → 0 < size
-      → (more : ℕ) × (length file < more + (at + size)) × (commands_with letters most (drop at file) ≡ command_at (from file at) ∷ commands_with letters more (drop (at + size) file))
+  one_left : (most size : ℕ) → length file < most + at → at < length file → is_one_of (get_or (from file at) 0 0) letters ≡ true
+      → size ≡ size_of_byte (get_or (from file at) 0 0) → 0 < size
+      → (more : ℕ) × (length file < more + (at + size))
+      × (commands_with letters most (drop at file) ≡ command_at (from file at) ∷ commands_with letters more (drop (at + size) file))
   unfolding remainders letters_along
   one_left zero size enough h b is moves = absurd (omega arith)
   one_left (suc most) size enough h b is moves = (most, omega arith, rw (from-drop file at, rw from-drop at b, ← (rw from-drop at is), drop-drop size at file))
@@ -138,10 +143,12 @@ module _ (restricted : Bool) (file : List ℕ) (lower₀ upper₀ start₀ : Lis
       none_yet false = column-none (omega arith)
       none_yet true = column-none (omega arith)
 
-module _ {restricted : Bool} {file : List ℕ} {lower₀ upper₀ start₀ : List ℤ} {sizes₀ values₀ : List ℕ} {n m : ℕ} {lower upper start : List ℤ} {sizes values : List ℕ} {at : ℕ}
+module _ {restricted : Bool} {file : List ℕ} {lower₀ upper₀ start₀ : List ℤ} {sizes₀ values₀ : List ℕ} {n m : ℕ}
+    {lower upper start : List ℤ} {sizes values : List ℕ} {at : ℕ}
     (w : Walk restricted file lower₀ upper₀ start₀ sizes₀ values₀ n m lower upper start sizes values at) where
   -- ---- the arrays are as long as they were
-  pub lengths : (length lower ≡ length lower₀) × (length upper ≡ length upper₀) × (length start ≡ length start₀) × (length sizes ≡ length sizes₀) × (length values ≡ length values₀)
+  pub lengths : (length lower ≡ length lower₀) × (length upper ≡ length upper₀) × (length start ≡ length start₀) × (length sizes ≡ length sizes₀)
+      × (length values ≡ length values₀)
   lengths =
       let (l, u) = bounds restricted refl in
       (l, u, column-long w.stored.starts_are, column-long w.stored.sizes_are, column-long w.stored.values_are)
@@ -157,7 +164,8 @@ module _ {restricted : Bool} {file : List ℕ} {lower₀ upper₀ start₀ : Lis
   pub start-room : n ≤ length start
   start-room = column-few w.stored.starts_are
 
-  pub variable-room : restricted ≡ false → Lent restricted lower₀ upper₀ start₀ → (length lower ≡ length start) × (length upper ≡ length start) × (n ≤ length start)
+  pub variable-room : restricted ≡ false → Lent restricted lower₀ upper₀ start₀
+      → (length lower ≡ length start) × (length upper ≡ length start) × (n ≤ length start)
   variable-room e lent = let (l, u) = rw e at lent in (lengths.0 ∙ l ∙ sym lengths.2, lengths.1 ∙ u ∙ sym lengths.2, start-room)
 
   -- ---- it ends with the file, and at a command that declares nothing
@@ -176,8 +184,10 @@ module _ {restricted : Bool} {file : List ℕ} {lower₀ upper₀ start₀ : Lis
       neither true = refl
       neither false = refl
 
-  pub walk-stops : (get_or (from file at) 0 0 ≡ letter_m → ⊥) → (get_or (from file at) 0 0 ≡ letter_v → restricted ≡ false → ⊥) → (get_or (from file at) 0 0 ≡ letter_u → restricted ≡ true → ⊥) → AllStored
-  walk-stops k v u = over (rw (ne_eqb (get_or (from file at) 0 0) letter_m k, ne_eqb (get_or (from file at) 0 0) (variable_letter restricted) (neither restricted refl)))
+  pub walk-stops : (get_or (from file at) 0 0 ≡ letter_m → ⊥) → (get_or (from file at) 0 0 ≡ letter_v → restricted ≡ false → ⊥)
+      → (get_or (from file at) 0 0 ≡ letter_u → restricted ≡ true → ⊥) → AllStored
+  walk-stops k v u = over
+      (rw (ne_eqb (get_or (from file at) 0 0) letter_m k, ne_eqb (get_or (from file at) 0 0) (variable_letter restricted) (neither restricted refl)))
     where
       neither : (r : Bool) → restricted ≡ r → get_or (from file at) 0 0 ≡ variable_letter r → ⊥
       neither false e b = v b e
@@ -214,7 +224,8 @@ module _ {restricted : Bool} {file : List ℕ} {lower₀ upper₀ start₀ : Lis
 
     -- a variable of the kind of file: a V leaves bounds, a U leaves them as they were
     variable-put : {n' : ℕ} {lower' upper' start' : List ℤ} → get_or (from file at) 0 0 ≡ variable_letter restricted
-        → (restricted ≡ false → Column lower n (lowers (command_at (from file at) ∷ [])) n' lower') → (restricted ≡ false → Column upper n (uppers (command_at (from file at) ∷ [])) n' upper')
+        → (restricted ≡ false → Column lower n (lowers (command_at (from file at) ∷ [])) n' lower')
+        → (restricted ≡ false → Column upper n (uppers (command_at (from file at) ∷ [])) n' upper')
         → (restricted ≡ true → (lower' ≡ lower) × (upper' ≡ upper)) → Column start n (starts restricted (command_at (from file at) ∷ [])) n' start'
         → Walk restricted file lower₀ upper₀ start₀ sizes₀ values₀ n' m lower' upper' start' sizes values (at + size)
     variable-put b l u k s =

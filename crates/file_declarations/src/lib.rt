@@ -4,10 +4,9 @@
 // elsewhere. Of an accepted file it gives all that the task declares (proofs/Accepted).
 #![tactic(auto)]
 
-ghost use Rattle.std.specs.Prelude.{false, true, ◌≡◌, [], ◌∷◌, ◌<◌, ◌≤◌, length, get_or, set};
+ghost use Rattle.std.specs.Prelude.{false, true, ◌≡◌, [], ◌∷◌, ◌<◌, ◌≤◌, length, get_or};
 ghost use Rattle.commands.specs.Table.{letter_v, letter_u, letter_m};
 ghost use Rattle.commands.specs.Reading.{command_at};
-ghost use Rattle.model.specs.Rules.{constant};
 ghost use Rattle.file_declarations.specs.Declarations.{declarations};
 ghost use Rattle.file_declarations.specs.Stored.{lowers, uppers, starts, mode_sizes, mode_values, Column, Stored, Lent};
 ghost use Rattle.file_declarations.specs.Stored.{SourceStored, RestrictedStored};
@@ -24,18 +23,10 @@ pub const RESTRICTED_VARIABLES: usize = 64;
 pub const RESTRICTED_MODES: usize = 8;
 
 // How many variables and modes a file declares, as far as there was room for them.
-#[derive(Drop)]
+#[derive(Clone, Copy, Debug, PartialEq, Eq)]
 pub struct Declared {
     pub variables: usize,
     pub modes: usize,
-}
-
-// A constant at a place of an array.
-fn put_constant(array: &mut [i64], at: usize, bits: u32)
-    requires { at < length array.old }
-    ensures { array.new ≡ set array.old at (constant bits) }
-{
-    array[at] = integers::signed(bits);
 }
 
 // A V at the front of what remains, stored behind the first `count` variables where there is room; and the count after it. A V that is cut
@@ -57,9 +48,9 @@ fn put_variable(
         return count;
     };
     if count < start.len() {
-        put_constant(lower, count, lower_bits);
-        put_constant(upper, count, upper_bits);
-        put_constant(start, count, start_bits);
+        lower[count] = integers::signed(lower_bits);
+        upper[count] = integers::signed(upper_bits);
+        start[count] = integers::signed(start_bits);
         return count + 1;
     }
     count
@@ -74,7 +65,7 @@ fn put_start(rest: &[u8], start: &mut [i64], count: usize) -> usize
         return count;
     };
     if count < start.len() {
-        put_constant(start, count, bits);
+        start[count] = integers::signed(bits);
         return count + 1;
     }
     count

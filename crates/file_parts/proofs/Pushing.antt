@@ -101,10 +101,12 @@ module _ (marks : List ℕ) (long : length marks ≡ 116) (n u : ℕ) (more : u 
       let m = three 0 marks (1 + n) (25 + n) 0 v r u in
       let l = set numbers n c in
       let few = room.conditions in
-      let rest : (j : ℕ) → 49 ≤ j → natural_at m j ≡ natural_at marks j = λ j h. other 0 marks (1 + n) (25 + n) 0 v r u j (λ q. omega arith) (λ q. omega arith) (λ q. omega arith) in
+      let rest : (j : ℕ) → 49 ≤ j
+      → natural_at m j ≡ natural_at marks j = λ j h. other 0 marks (1 + n) (25 + n) 0 v r u j (λ q. omega arith) (λ q. omega arith) (λ q. omega arith) in
       by_parts marks m numbers l room (with_condition (row_is marks numbers) (condition v r c))
       (same-pairs marks m numbers l room 49 16 (omega (arith, room.mode_conditions)) (λ j h g. rest j (omega arith)))
-      (grows (condition_in marks numbers) (condition_in m l) (condition v r c) (third 0 marks (1 + n) (25 + n) 0 v r u (omega arith) ∙ more ∙ ap (λ (z : ℕ). z + 1) is)
+      (grows (condition_in marks numbers) (condition_in m l) (condition v r c)
+      (third 0 marks (1 + n) (25 + n) 0 v r u (omega arith) ∙ more ∙ ap (λ (z : ℕ). z + 1) is)
       (λ i b q. record {
         measured = variable (other 0 marks (1 + n) (25 + n) 0 v r u (1 + i) (λ q. omega arith) (λ q. omega arith) (λ q. omega arith) q);
         relation = relation_of (other 0 marks (1 + n) (25 + n) 0 v r u (25 + i) (λ q. omega arith) (λ q. omega arith) (λ q. omega arith) q);
@@ -123,7 +125,8 @@ module _ (marks : List ℕ) (long : length marks ≡ 116) (n u : ℕ) (more : u 
       tabulate (natural_at m at) (pair_in at size m) ≡ tabulate (natural_at marks at) (pair_in at size marks) ++ ((v, w) ∷ [])
   pairs-pushed at size fits is few v w =
       let m = three 0 marks (at + 1 + n) (at + 1 + size + n) at v w u in
-      grows (pair_in at size marks) (pair_in at size m) (v, w) (third 0 marks (at + 1 + n) (at + 1 + size + n) at v w u (omega arith) ∙ more ∙ ap (λ (z : ℕ). z + 1) is)
+      grows (pair_in at size marks) (pair_in at size m) (v, w)
+      (third 0 marks (at + 1 + n) (at + 1 + size + n) at v w u (omega arith) ∙ more ∙ ap (λ (z : ℕ). z + 1) is)
       (λ i b. ap₂ (λ (x y : ℕ). (x, y))
       (other 0 marks (at + 1 + n) (at + 1 + size + n) at v w u (at + 1 + i) (λ q. omega arith) (λ q. omega arith) (λ q. omega arith))
       (other 0 marks (at + 1 + n) (at + 1 + size + n) at v w u (at + 1 + size + i) (λ q. omega arith) (λ q. omega arith) (λ q. omega arith)))
@@ -136,8 +139,10 @@ module _ (marks : List ℕ) (long : length marks ≡ 116) (n u : ℕ) (more : u 
   is-mode-condition room is v w numbers =
       let m = three 0 marks (50 + n) (66 + n) 49 v w u in
       let few = room.mode_conditions in
-      let low : (j : ℕ) → j < 49 → natural_at m j ≡ natural_at marks j = λ j h. other 0 marks (50 + n) (66 + n) 49 v w u j (λ q. omega arith) (λ q. omega arith) (λ q. omega arith) in
-      let rest : (j : ℕ) → 82 ≤ j → natural_at m j ≡ natural_at marks j = λ j h. other 0 marks (50 + n) (66 + n) 49 v w u j (λ q. omega arith) (λ q. omega arith) (λ q. omega arith) in
+      let low : (j : ℕ) → j < 49
+      → natural_at m j ≡ natural_at marks j = λ j h. other 0 marks (50 + n) (66 + n) 49 v w u j (λ q. omega arith) (λ q. omega arith) (λ q. omega arith) in
+      let rest : (j : ℕ) → 82 ≤ j
+      → natural_at m j ≡ natural_at marks j = λ j h. other 0 marks (50 + n) (66 + n) 49 v w u j (λ q. omega arith) (λ q. omega arith) (λ q. omega arith) in
       by_parts marks m numbers numbers room (with_mode_condition (row_is marks numbers) (v, w))
       (pairs-pushed 49 16 (omega arith) is (omega arith) v w)
       (same-conditions marks m numbers numbers room low (λ j h. refl))
@@ -149,8 +154,10 @@ module _ (marks : List ℕ) (long : length marks ≡ 116) (n u : ℕ) (more : u 
   is-mode-effect room is v w numbers =
       let m = three 0 marks (83 + n) (91 + n) 82 v w u in
       let few = room.mode_effects in
-      let low : (j : ℕ) → j < 82 → natural_at m j ≡ natural_at marks j = λ j h. other 0 marks (83 + n) (91 + n) 82 v w u j (λ q. omega arith) (λ q. omega arith) (λ q. omega arith) in
-      let rest : (j : ℕ) → 99 ≤ j → natural_at m j ≡ natural_at marks j = λ j h. other 0 marks (83 + n) (91 + n) 82 v w u j (λ q. omega arith) (λ q. omega arith) (λ q. omega arith) in
+      let low : (j : ℕ) → j < 82
+      → natural_at m j ≡ natural_at marks j = λ j h. other 0 marks (83 + n) (91 + n) 82 v w u j (λ q. omega arith) (λ q. omega arith) (λ q. omega arith) in
+      let rest : (j : ℕ) → 99 ≤ j
+      → natural_at m j ≡ natural_at marks j = λ j h. other 0 marks (83 + n) (91 + n) 82 v w u j (λ q. omega arith) (λ q. omega arith) (λ q. omega arith) in
       by_parts marks m numbers numbers room (with_mode_effect (row_is marks numbers) (v, w))
       (same-pairs marks m numbers numbers room 49 16 (omega (arith, room.mode_conditions)) (λ j h g. low j (omega arith)))
       (same-conditions marks m numbers numbers room (λ j h. low j (omega arith)) (λ j h. refl))
@@ -163,7 +170,8 @@ module _ (marks : List ℕ) (long : length marks ≡ 116) (n u : ℕ) (more : u 
       let m = set (set marks (100 + n) v) 99 u in
       let l = set numbers (24 + n) x in
       let few = room.additions in
-      let two : (j : ℕ) → (j ≡ 100 + n → ⊥) → (j ≡ 99 → ⊥) → natural_at m j ≡ natural_at marks j = λ j f g. get_or-set_other (set marks (100 + n) v) 99 j u 0 g ∙ get_or-set_other marks (100 + n) j v 0 f in
+      let two : (j : ℕ) → (j ≡ 100 + n → ⊥) → (j ≡ 99 → ⊥)
+      → natural_at m j ≡ natural_at marks j = λ j f g. get_or-set_other (set marks (100 + n) v) 99 j u 0 g ∙ get_or-set_other marks (100 + n) j v 0 f in
       let low : (j : ℕ) → j < 99 → natural_at m j ≡ natural_at marks j = λ j h. two j (λ q. omega arith) (λ q. omega arith) in
       by_parts marks m numbers l room (with_addition (row_is marks numbers) (v, x))
       (same-pairs marks m numbers l room 49 16 (omega (arith, room.mode_conditions)) (λ j h g. low j (omega arith)))
@@ -171,7 +179,8 @@ module _ (marks : List ℕ) (long : length marks ≡ 116) (n u : ℕ) (more : u 
       (same-pairs marks m numbers l room 82 8 (omega (arith, room.mode_effects)) (λ j h g. low j (omega arith)))
       (grows (addition_in marks numbers) (addition_in m l) (v, x)
       (get_or-set_same (set marks (100 + n) v) 99 u 0 (omega (arith, length-set marks (100 + n) v)) ∙ more ∙ ap (λ (z : ℕ). z + 1) is)
-      (λ i b. ap₂ (λ (y : ℕ) (z : ℤ). (y, z)) (two (100 + i) (λ q. omega arith) (λ q. omega arith)) (get_or-set_other numbers (24 + n) (24 + i) x (pos 0) (λ q. omega arith)))
+      (λ i b. ap₂ (λ (y : ℕ) (z : ℤ). (y, z)) (two (100 + i) (λ q. omega arith) (λ q. omega arith))
+      (get_or-set_other numbers (24 + n) (24 + i) x (pos 0) (λ q. omega arith)))
       (rw (← is) (ap₂ (λ (y : ℕ) (z : ℤ). (y, z))
       (get_or-set_other (set marks (100 + n) v) 99 (100 + n) u 0 (λ q. omega arith) ∙ get_or-set_same marks (100 + n) v 0 (omega arith))
       (get_or-set_same numbers (24 + n) x (pos 0) (omega arith)))))
@@ -186,11 +195,19 @@ module _ (marks : List ℕ) (long : length marks ≡ 116) (n u : ℕ) (more : u 
 
   pub pushed-mode-condition : PartsFit 0 1 0 0 marks → n ≡ natural_at marks 49 → (v w : ℕ) (numbers : List ℤ) → length numbers ≡ 40
       → Says (with_mode_condition (row_is marks numbers) (v, w)) (set (set (set marks (50 + n) v) (66 + n) w) 49 u) numbers
-  pushed-mode-condition room is v w numbers broad = record { marks_long = kept3 marks (50 + n) (66 + n) 49 v w u ∙ long; numbers_long = broad; is = is-mode-condition room is v w numbers }
+  pushed-mode-condition room is v w numbers broad = record {
+    marks_long = kept3 marks (50 + n) (66 + n) 49 v w u ∙ long;
+    numbers_long = broad;
+    is = is-mode-condition room is v w numbers;
+  }
 
   pub pushed-mode-effect : PartsFit 0 0 1 0 marks → n ≡ natural_at marks 82 → (v w : ℕ) (numbers : List ℤ) → length numbers ≡ 40
       → Says (with_mode_effect (row_is marks numbers) (v, w)) (set (set (set marks (83 + n) v) (91 + n) w) 82 u) numbers
-  pushed-mode-effect room is v w numbers broad = record { marks_long = kept3 marks (83 + n) (91 + n) 82 v w u ∙ long; numbers_long = broad; is = is-mode-effect room is v w numbers }
+  pushed-mode-effect room is v w numbers broad = record {
+    marks_long = kept3 marks (83 + n) (91 + n) 82 v w u ∙ long;
+    numbers_long = broad;
+    is = is-mode-effect room is v w numbers;
+  }
 
   pub pushed-addition : (numbers : List ℤ) → length numbers ≡ 40 → PartsFit 0 0 0 1 marks → n ≡ natural_at marks 99 → (v : ℕ) (x : ℤ)
       → Says (with_addition (row_is marks numbers) (v, x)) (set (set marks (100 + n) v) 99 u) (set numbers (24 + n) x)
@@ -214,8 +231,13 @@ is-blank marks long numbers q =
       additions = tabulate-none (natural_at m 99) (addition_in m numbers) (third 0 l 49 82 99 0 0 0 (omega arith)) q;
     }
 
-pub blanked : (marks : List ℕ) → length marks ≡ 116 → (numbers : List ℤ) → length numbers ≡ 40 → Says blank_action (set (set (set (set marks 0 0) 49 0) 82 0) 99 0) numbers
-blanked marks long numbers broad = record { marks_long = kept3 (set marks 0 0) 49 82 99 0 0 0 ∙ length-set marks 0 0 ∙ long; numbers_long = broad; is = is-blank marks long numbers }
+pub blanked : (marks : List ℕ) → length marks ≡ 116 → (numbers : List ℤ) → length numbers ≡ 40
+    → Says blank_action (set (set (set (set marks 0 0) 49 0) 82 0) 99 0) numbers
+blanked marks long numbers broad = record {
+  marks_long = kept3 (set marks 0 0) 49 82 99 0 0 0 ∙ length-set marks 0 0 ∙ long;
+  numbers_long = broad;
+  is = is-blank marks long numbers;
+}
 
 -- ---- what a caller goes by
 -- how many parts an action has
@@ -253,5 +275,6 @@ module _ {x : RestrictedAction} {marks : List ℕ} {numbers : List ℤ} (h : Say
   says-as e = record { marks_long = h.marks_long; numbers_long = h.numbers_long; is = h.is ∙ e }
 
   -- a push, of rows that say x
-  pub pushed : {B : Type 0} (f : RestrictedAction → B → RestrictedAction) {y : B} {marks' : List ℕ} {numbers' : List ℤ} → Says (f (row_is marks numbers) y) marks' numbers' → Says (f x y) marks' numbers'
+  pub pushed : {B : Type 0} (f : RestrictedAction → B → RestrictedAction) {y : B} {marks' : List ℕ} {numbers' : List ℤ}
+      → Says (f (row_is marks numbers) y) marks' numbers' → Says (f x y) marks' numbers'
   pushed f {y} w = record { marks_long = w.marks_long; numbers_long = w.numbers_long; is = w.is ∙ ap (λ (z : RestrictedAction). f z y) h.is }

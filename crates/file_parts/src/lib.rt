@@ -4,7 +4,8 @@
 // takes a step.
 #![tactic(auto)]
 
-ghost use Rattle.std.specs.Prelude.{◌≡◌, ◌<◌, List, length, ℤ};
+ghost use Rattle.std.specs.Prelude.{◌≡◌, ◌+◌, ◌<◌, List, length, set, ℤ};
+ghost use Rattle.model.specs.Steps.{natural_at};
 ghost use Rattle.file_parts.specs.Layout.{MARKS, NUMBERS};
 ghost use Rattle.file_parts.specs.Row.{row_is, PartsFit, Says};
 ghost use Rattle.file_parts.specs.With.{condition, blank_action, with_condition, with_mode_condition, with_mode_effect, with_addition};
@@ -50,25 +51,6 @@ pub const ADDITION_VARIABLE: usize = 100;
 
 pub const ADDITION_AMOUNT: usize = 24;
 
-fn wide(x: u16) -> usize
-    ensures { result ≡ x }
-{
-    x as usize
-}
-
-fn mark(x: u8) -> u16
-    ensures { result ≡ x }
-{
-    x as u16
-}
-
-fn narrow(x: usize) -> u16
-    requires { x < 65536 }
-    ensures { result ≡ x }
-{
-    x as u16
-}
-
 // Rows of no part.
 pub fn blank(marks: &mut [u16; MARKS])
     requires { length marks.old ≡ MARKS }
@@ -92,11 +74,31 @@ pub fn push_condition(
     ensures { Says (with_condition (row_is marks.old numbers.old) (condition variable relation constant))
         marks.new numbers.new }
 {
-    let n = wide(marks[CONDITION_COUNT]);
-    marks[CONDITION_VARIABLE + n] = mark(variable);
-    marks[CONDITION_RELATION + n] = mark(relation);
+    let n = marks[CONDITION_COUNT] as usize;
+    marks[CONDITION_VARIABLE + n] = variable as u16;
+    marks[CONDITION_RELATION + n] = relation as u16;
     numbers[n] = constant;
-    marks[CONDITION_COUNT] = narrow(n + 1);
+    marks[CONDITION_COUNT] = n as u16 + 1;
+}
+
+// One mode and value more: counted at a place, the modes from `modes` on and the values from `values` on.
+fn push_pair(
+    marks: &mut [u16; MARKS],
+    count: usize,
+    modes: usize,
+    values: usize,
+    mode: u8,
+    value: u16,
+)
+    requires { (count < MARKS)
+        × (modes + natural_at marks.old count < MARKS) × (values + natural_at marks.old count < MARKS) }
+    ensures { let n = natural_at marks.old count in
+        marks.new ≡ set (set (set marks.old (modes + n) mode) (values + n) value) count (n + 1) }
+{
+    let n = marks[count] as usize;
+    marks[modes + n] = mode as u16;
+    marks[values + n] = value;
+    marks[count] = n as u16 + 1;
 }
 
 // One P more.
@@ -105,10 +107,14 @@ pub fn push_mode_condition(marks: &mut [u16; MARKS], mode: u8, value: u16)
     ensures { (numbers : List ℤ) → length numbers ≡ NUMBERS
         → Says (with_mode_condition (row_is marks.old numbers) (mode, value)) marks.new numbers }
 {
-    let n = wide(marks[MODE_CONDITION_COUNT]);
-    marks[MODE_CONDITION_MODE + n] = mark(mode);
-    marks[MODE_CONDITION_VALUE + n] = value;
-    marks[MODE_CONDITION_COUNT] = narrow(n + 1);
+    push_pair(
+        marks,
+        MODE_CONDITION_COUNT,
+        MODE_CONDITION_MODE,
+        MODE_CONDITION_VALUE,
+        mode,
+        value,
+    );
 }
 
 // One E more.
@@ -117,10 +123,14 @@ pub fn push_mode_effect(marks: &mut [u16; MARKS], mode: u8, value: u16)
     ensures { (numbers : List ℤ) → length numbers ≡ NUMBERS
         → Says (with_mode_effect (row_is marks.old numbers) (mode, value)) marks.new numbers }
 {
-    let n = wide(marks[MODE_EFFECT_COUNT]);
-    marks[MODE_EFFECT_MODE + n] = mark(mode);
-    marks[MODE_EFFECT_VALUE + n] = value;
-    marks[MODE_EFFECT_COUNT] = narrow(n + 1);
+    push_pair(
+        marks,
+        MODE_EFFECT_COUNT,
+        MODE_EFFECT_MODE,
+        MODE_EFFECT_VALUE,
+        mode,
+        value,
+    );
 }
 
 // One + more.
@@ -133,8 +143,8 @@ pub fn push_addition(
     requires { PartsFit 0 0 0 1 marks.old × (length numbers.old ≡ NUMBERS) }
     ensures { Says (with_addition (row_is marks.old numbers.old) (variable, amount)) marks.new numbers.new }
 {
-    let n = wide(marks[ADDITION_COUNT]);
-    marks[ADDITION_VARIABLE + n] = mark(variable);
+    let n = marks[ADDITION_COUNT] as usize;
+    marks[ADDITION_VARIABLE + n] = variable as u16;
     numbers[ADDITION_AMOUNT + n] = amount;
-    marks[ADDITION_COUNT] = narrow(n + 1);
+    marks[ADDITION_COUNT] = n as u16 + 1;
 }

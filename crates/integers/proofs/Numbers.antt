@@ -1,17 +1,16 @@
 -- Numbers of a width in bytes: what is written is read back, unsigned and signed, and the other way round. Every law is for any
 -- width. Assumes nothing.
-use mathlib.Core.Path.{◌≡◌, refl, ap, ap₂, ◌∙◌}
+use mathlib.Core.Path.{◌≡◌, refl, sym, ap, ap₂, ◌∙◌}
 use mathlib.Core.Bool.{Bool, true, false}
-use mathlib.Core.List.{List, [], ◌∷◌}
+use mathlib.Core.List.{List, [], ◌∷◌, ◌++◌, append_assoc, append-nil}
 use Prim.Native.Nat.{ℕ, zero, suc, ◌+◌, ◌-◌, ◌*◌, ◌/◌, ◌%◌, ◌^◌, ◌≤◌, ◌<◌}
-use native.Mathlib.Nat.{div-add-mod', div-lt_iff_lt-mul, mod-lt, pow-suc}
+use native.Mathlib.Nat.{div-add-mod', div-lt_iff_lt-mul, mod-lt, pow-suc, pow-le-pow_right}
 use native.Mathlib.Omega.{arith}
 use lib.Dec.{lit<, ltb}
-use lib.ListN.{length, get_or}
-use lib.Seq.{drop-cons}
+use lib.ListN.{length, length-append}
 use lib.IntN.{ℤ, pos, negsuc, nat_abs}
 use borrow.Author.Tests.{lt-ltb, le-ltb, ltb-true, ltb-false}
-use Rattle.integers.specs.Numbers.{Bytes, bytes_of, number_of, number_at, bits_of, signed_of}
+use Rattle.integers.specs.Numbers.{Bytes, bytes_of, number_of, bits_of, signed_of}
 
 -- ---- the bytes of a number
 pub length-bytes : (width n : ℕ) → length (bytes_of width n) ≡ width
@@ -39,9 +38,37 @@ pub number_small : (l : List ℕ) → Bytes l → number_of l < 256 ^ length l
 number_small [] h = omega arith
 number_small (b ∷ rest) (h, t) = rw pow-suc (omega (arith, number_small rest t))
 
--- the number at a place: its first byte, and the number of a lesser width at the next place
-pub number_step : (s : List ℕ) (place width : ℕ) → place < length s → number_at s place (suc width) ≡ get_or s place 0 + 256 * number_at s (suc place) width
-number_step s place width h = rw (drop-cons s place 0 h)
+-- ---- bytes read from the last on
+
+-- of the bytes `all` those behind `left` were read, and their number is `number`
+pub record Backward (all left : List ℕ) (number : ℕ) : Type 0 where
+  pub behind : List ℕ
+  pub whole : all ≡ left ++ behind
+  pub is : number ≡ number_of behind
+  pub below : number < 256 ^ length behind
+
+pub backward_start : (all : List ℕ) → Backward all all 0
+backward_start all = record { behind = []; whole = sym (append-nil all); is = refl; below = omega arith }
+
+module _ {all left : List ℕ} {number : ℕ} where
+  -- one byte more at the low end
+  pub backward_next : {byte : ℕ} → byte < 256 → Backward all (left ++ (byte ∷ [])) number → Backward all left (number * 256 + byte)
+  backward_next {byte} small b = record {
+    behind = byte ∷ b.behind;
+    whole = b.whole ∙ append_assoc left (byte ∷ []) b.behind;
+    is = omega (arith, b.is);
+    below = rw pow-suc (omega (arith, b.below));
+  }
+
+-- of four bytes at most, with one of them left, the number has room for it
+pub backward_room : (left : List ℕ) (byte : ℕ) {all : List ℕ} {number : ℕ} → length all ≤ 4 → Backward all (left ++ (byte ∷ [])) number → number * 256 + 255 < 256 ^ 4
+backward_room left byte {all} few b =
+    let n : length b.behind ≤ 3 = omega (arith, few, simp length-append at (ap length b.whole)) in
+    let most : 256 ^ length b.behind ≤ 256 ^ 3 = pow-le-pow_right (lit< tt) n in
+    omega (arith, b.below, most)
+
+pub backward_end : {all : List ℕ} {number : ℕ} → Backward all [] number → (number ≡ number_of all) × (number < 256 ^ length all)
+backward_end b = rw b.whole (b.is, b.below)
 
 -- ---- two's complement
 pub signed_low : (width bits : ℕ) → 2 * bits < 256 ^ width → signed_of width bits ≡ pos bits

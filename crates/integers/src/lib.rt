@@ -20,7 +20,7 @@ pub fn relation_holds(value: i64, relation: u16, constant: i64) -> bool
         1 => value <= constant,
         2 => constant <= value,
         3 => constant < value,
-        _ => is_between(constant, value, constant),
+        _ => value == constant,
     }
 }
 
@@ -35,18 +35,14 @@ pub fn is_between(lower: i64, value: i64, upper: i64) -> bool
 pub fn magnitude(z: i64) -> u64
     ensures { result ≡ nat_abs z }
 {
-    if 0 <= z {
-        z as u64
-    } else {
-        ((-(z + 1)) as u64) + 1
-    }
+    z.unsigned_abs()
 }
 
 // Whether |value| is at most a limit.
 pub fn is_within(value: i64, limit: u64) -> bool
     ensures { result ≡ within_limit limit value }
 {
-    magnitude(value) <= limit
+    value.unsigned_abs() <= limit
 }
 
 // The r with y = c × q + r and 0 ≤ r < |c|, for every sign of y and c; c is not 0.
@@ -54,11 +50,7 @@ pub fn residue(y: i64, c: i64) -> i64
     requires { Within 1000000000 y × Within 1000000000 c × (0 < nat_abs c) }
     ensures { result ≡ residue_of y c }
 {
-    let r = ((y as i32) % (c as i32)) as i64;
-    if 0 <= r {
-        return r;
-    }
-    if 0 < c { r + c } else { r - c }
+    (y as i32).rem_euclid(c as i32) as i64
 }
 
 // The q with y = c × q + r and 0 ≤ r < |c|, for every sign of y and c; c is not 0.
@@ -66,13 +58,7 @@ pub fn quotient(y: i64, c: i64) -> i64
     requires { Within 1000000000 y × Within 1000000000 c × (0 < nat_abs c) }
     ensures { result ≡ quotient_of y c }
 {
-    let a = y as i32;
-    let b = c as i32;
-    let q = (a / b) as i64;
-    if 0 <= a % b {
-        return q;
-    }
-    if 0 < b { q - 1 } else { q + 1 }
+    (y as i32).div_euclid(c as i32) as i64
 }
 
 // The number of a width that stands at a place, least byte first. It is below 256 to the width, so that a caller may narrow it.
@@ -81,11 +67,8 @@ pub fn number_at(s: &[u8], place: usize, width: usize) -> u32
     ensures { (result ≡ number_at s.now place width) × (result < 256 ^ width) }
 {
     let mut number: u32 = 0;
-    let mut i = width;
-    while 0 < i {
-        i -= 1;
-        let byte = s[place + i] as u32;
-        number = number * 256 + byte;
+    for byte in s[place..place + width].iter().rev() {
+        number = number * 256 + *byte as u32;
     }
     number
 }
@@ -94,11 +77,7 @@ pub fn number_at(s: &[u8], place: usize, width: usize) -> u32
 pub fn signed(bits: u32) -> i64
     ensures { result ≡ signed_of 4 bits }
 {
-    if bits < 2147483648 {
-        bits as i64
-    } else {
-        (bits as i64) - 4294967296
-    }
+    bits.cast_signed() as i64
 }
 
 // The 32 bits that stand for a number in two's complement; `signed` reads them back.
@@ -106,11 +85,7 @@ pub fn bits(z: i64) -> u32
     requires { nat_abs z < 2147483648 }
     ensures { result ≡ bits_of 4 z }
 {
-    if 0 <= z {
-        z as u32
-    } else {
-        (z + 4294967296) as u32
-    }
+    (z as i32).cast_unsigned()
 }
 
 // Whether 32 bits, as a signed number, are within a limit of 0.

@@ -19,10 +19,9 @@ use Rattle.source_step.proofs.Sound.{length-settled}
 use Rattle.source_step.specs.Row.{outcomes_at, values_after, modes_after}
 use Rattle.source_step.specs.Ready.{marks_of, numbers_of, sums_of}
 use Rattle.source_step.specs.Table.{Table, takes_by, price_by, Usables}
-use Rattle.plan_strokes.specs.declared.Turn.{Turn}
+use Rattle.std.specs.Prelude.{Option, Some, None}
 use Rattle.plan_strokes.specs.Made.{Turned}
 use Rattle.source_walk.proofs.Loop.{long_after}
-use Rattle.source_walk.proofs.Turns.{at-its-price}
 use Rattle.listing.specs.Lines.{line_of, LINE, RoomFor}
 use Rattle.listing.specs.Listed.{CEILING, Listable, lines_by, lines_to, prices_by, prices_to, LinedTo}
 use Rattle.listing.proofs.Lines.{room-for-either}
@@ -32,6 +31,11 @@ pub record Reached (p : List ℕ) (values : List ℤ) (modes : List ℕ) (i : �
   pub bound : i ≤ length p
   pub values_long : length values ≡ 8
   pub modes_long : length modes ≡ 4
+
+-- action k is tried in a state, and comes to a price or to none, and to the state after
+abbrev pub TurnsTo : Table → ℕ → List ℤ → List ℕ → Option ℕ → List ℤ → List ℕ → Type 0
+TurnsTo T k values modes r values' modes' =
+    Turned T.variables T.modes (marks_of T.marks k) (numbers_of T.numbers k) (sums_of T.numbers) values modes r values' modes'
 
 abbrev left_by : Table → List ℕ → ℕ → List ℤ → List ℕ → List ℕ
 left_by T p i values modes = lines_by T i (drop i p) (state values modes)
@@ -69,47 +73,45 @@ module _ (T : Table) (p : List ℕ) (values : List ℤ) (modes : List ℕ) (i : 
         let off = le-ltb k T.count l in
         (lines-at-step ∙ rw off refl, cost-at-step ∙ rw off refl)
 
-    module _ (l : k < T.count) {turn : Turn} {values' : List ℤ} {modes' : List ℕ}
-        (t : Turned T.variables T.modes (marks_of T.marks k) (numbers_of T.numbers k) (sums_of T.numbers) values modes turn values' modes')
-      where
-        not-applied : turn.applied ≡ false → Over
-        unfolding lines_by prices_by
-        not-applied f =
-            let on = lt-ltb k T.count l in
-            let off : takes_by T x k ≡ false = sym t.stepped.is ∙ f in
-            (lines-at-step ∙ rw (on, off) refl, cost-at-step ∙ rw (on, off) refl)
+    module _ (l : k < T.count) {values' : List ℤ} {modes' : List ℕ} where
+      not-applied : TurnsTo T k values modes None values' modes' → Over
+      unfolding lines_by prices_by
+      not-applied t =
+          let on = lt-ltb k T.count l in
+          let off : takes_by T x k ≡ false = sym t.stepped.is in
+          (lines-at-step ∙ rw (on, off) refl, cost-at-step ∙ rw (on, off) refl)
 
-        module _ (f : turn.applied ≡ true) where
-          on : takes_by T x k ≡ true
-          on = sym t.stepped.is ∙ f
+      module _ {price : ℕ} (t : TurnsTo T k values modes (Some price) values' modes') where
+        on : takes_by T x k ≡ true
+        on = sym t.stepped.is
 
-          values_are : values' ≡ values_after T.variables (marks_of T.marks k) (numbers_of T.numbers k) values
-          values_are = t.stepped.values_are ∙ rw on refl
+        values_are : values' ≡ values_after T.variables (marks_of T.marks k) (numbers_of T.numbers k) values
+        values_are = t.stepped.values_are ∙ rw on refl
 
-          modes_are : modes' ≡ modes_after T.modes (marks_of T.marks k) modes
-          modes_are = t.stepped.modes_are ∙ rw on refl
+        modes_are : modes' ≡ modes_after T.modes (marks_of T.marks k) modes
+        modes_are = t.stepped.modes_are ∙ rw on refl
 
-          lines_next : left_by T p i values modes ≡ line_of i k turn.price (take T.variables values') ++ left_by T p (i + 1) values' modes'
-          unfolding lines_by step_line
-          lines_next =
-              let cost : price_by T x k ≡ turn.price = sym ((at-its-price t).price f) in
-              lines-at-step ∙ rw (lt-ltb k T.count l, on, cost, values_are, modes_are, add-one i) refl
+        lines_next : left_by T p i values modes ≡ line_of i k price (take T.variables values') ++ left_by T p (i + 1) values' modes'
+        unfolding lines_by step_line
+        lines_next =
+            let cost : price_by T x k ≡ price = sym t.price in
+            lines-at-step ∙ rw (lt-ltb k T.count l, on, cost, values_are, modes_are, add-one i) refl
 
-          cost-next : cost_left T p i values modes ≡ turn.price + cost_left T p (i + 1) values' modes'
-          unfolding prices_by
-          cost-next =
-              let cost : price_by T x k ≡ turn.price = sym ((at-its-price t).price f) in
-              cost-at-step ∙ rw (lt-ltb k T.count l, on, cost, values_are, modes_are, add-one i) refl
+        cost-next : cost_left T p i values modes ≡ price + cost_left T p (i + 1) values' modes'
+        unfolding prices_by
+        cost-next =
+            let cost : price_by T x k ≡ price = sym t.price in
+            cost-at-step ∙ rw (lt-ltb k T.count l, on, cost, values_are, modes_are, add-one i) refl
 
-          reached-next : Usables T → Reached p values modes i → Reached p values' modes' (i + 1)
-          reached-next u r = record {
-            bound = omega arith;
-            values_long =
-                ap length values_are
-                ∙ length-settled T.variables (outcomes_at T.variables (marks_of T.marks k) (numbers_of T.numbers k) values) values
-                ∙ r.values_long;
-            modes_long = ap length modes_are ∙ long_after T.modes (marks_of T.marks k) modes u.modes_few r.modes_long;
-          }
+        reached-next : Usables T → Reached p values modes i → Reached p values' modes' (i + 1)
+        reached-next u r = record {
+          bound = omega arith;
+          values_long =
+              ap length values_are
+              ∙ length-settled T.variables (outcomes_at T.variables (marks_of T.marks k) (numbers_of T.numbers k) values) values
+              ∙ r.values_long;
+          modes_long = ap length modes_are ∙ long_after T.modes (marks_of T.marks k) modes u.modes_few r.modes_long;
+        }
 
 -- ---- the loop that writes: the lines left until the last step asked for are still to be written, and behind them come those of all other steps;
 -- and so it is with what the steps cost
@@ -204,51 +206,50 @@ module _ {T : Table} {p : List ℕ} {from until before : ℕ} {values₀ : List 
         stopped next m g.reached.values_long g.reached.modes_long
         (no-action T q values modes i k part-is in-part l) (no-action T p values modes i k e in-plan l)
 
-    module _ (l : k < T.count) {turn : Turn} {values' : List ℤ} {modes' : List ℕ}
-        (t : Turned T.variables T.modes (marks_of T.marks k) (numbers_of T.numbers k) (sums_of T.numbers) values modes turn values' modes')
-      where
-        pub writing-not-applied : turn.applied ≡ false → (next : ℕ) → next ≡ length p
-            → LinedTo T p from until before values₀ modes₀ old at out (record { place = place; spent = spent; next = next }) values' modes'
-        writing-not-applied f next m =
-            let off : takes_by T (state values modes) k ≡ false = sym t.stepped.is ∙ f in
-            let same-values : values' ≡ values = t.stepped.values_are ∙ rw off refl in
-            let same-modes : modes' ≡ modes = t.stepped.modes_are ∙ rw off refl in
-            stopped next m
-            (ap length same-values ∙ g.reached.values_long)
-            (ap length same-modes ∙ g.reached.modes_long)
-            (not-applied T q values modes i k part-is in-part l t f) (not-applied T p values modes i k e in-plan l t f)
+    module _ (l : k < T.count) {values' : List ℤ} {modes' : List ℕ} where
+      pub writing-not-applied
+          : TurnsTo T k values modes None values' modes' → (next : ℕ) → next ≡ length p
+          → LinedTo T p from until before values₀ modes₀ old at out (record { place = place; spent = spent; next = next }) values' modes'
+      writing-not-applied t next m =
+          let off : takes_by T (state values modes) k ≡ false = sym t.stepped.is in
+          let same-values : values' ≡ values = t.stepped.values_are ∙ rw off refl in
+          let same-modes : modes' ≡ modes = t.stepped.modes_are ∙ rw off refl in
+          stopped next m
+          (ap length same-values ∙ g.reached.values_long)
+          (ap length same-modes ∙ g.reached.modes_long)
+          (not-applied T q values modes i k part-is in-part l t) (not-applied T p values modes i k e in-plan l t)
 
-        module _ (f : turn.applied ≡ true) where
-          abbrev line : List ℕ
-          line = line_of i k turn.price (take T.variables values')
+      module _ {price : ℕ} (t : TurnsTo T k values modes (Some price) values' modes') where
+        abbrev line : List ℕ
+        line = line_of i k price (take T.variables values')
 
-          -- the line of the step comes next
-          parted : Left old at (lines_to T from until p (state values₀ modes₀)) out place (line ∷ left_by T q (i + 1) values' modes' ∷ [])
-          parted =
-              let rest = left_by T q (i + 1) values' modes' in
-              recast (ap (λ (z : List ℕ). z ++ []) (lines_next T q values modes i k part-is in-part l t f) ∙ append_assoc line rest []) g.lines
+        -- the line of the step comes next
+        parted : Left old at (lines_to T from until p (state values₀ modes₀)) out place (line ∷ left_by T q (i + 1) values' modes' ∷ [])
+        parted =
+            let rest = left_by T q (i + 1) values' modes' in
+            recast (ap (λ (z : List ℕ). z ++ []) (lines_next T q values modes i k part-is in-part l t) ∙ append_assoc line rest []) g.lines
 
-          pub writing-reached : Reached (take until p) values' modes' (i + 1)
-          writing-reached = reached-next T q values modes i k part-is in-part l t f L.usables g.reached
+        pub writing-reached : Reached (take until p) values' modes' (i + 1)
+        writing-reached = reached-next T q values modes i k part-is in-part l t L.usables g.reached
 
-          pub writing-room : RoomFor old at (LINE * (until - from)) (lines_to T from until p (state values₀ modes₀))
-              → RoomFor out place LINE (line_of i k turn.price (take T.variables values'))
-          writing-room r = room-for-either (omega (arith, g.few, g.begun)) writing-long (λ w. room w parted) r
+        pub writing-room : RoomFor old at (LINE * (until - from)) (lines_to T from until p (state values₀ modes₀))
+            → RoomFor out place LINE (line_of i k price (take T.variables values'))
+        writing-room r = room-for-either (omega (arith, g.few, g.begun)) writing-long (λ w. room w parted) r
 
-          pub writing-next : {after : List ℕ} {next : ℕ} → Wrote out place (line_of i k turn.price (take T.variables values')) after next
-              → next ≤ place + LINE
-              → Writing T p from until before (state values₀ modes₀) old at values' modes' (i + 1) after next (spent + turn.price)
-          writing-next w m = record {
-            reached = writing-reached;
-            begun = omega (arith, g.begun);
-            lines = step parted w;
-            few = omega (arith, g.few, g.begun, m);
-            left = λ z u. g.left z
-                (lines_next T p values modes i k e in-plan l t f
-                ∙ ap (λ (y : List ℕ). line ++ y) u
-                ∙ sym (append_assoc line (left_by T q (i + 1) values' modes') z)
-                ∙ ap (λ (y : List ℕ). y ++ z) (sym (lines_next T q values modes i k part-is in-part l t f)));
-            sum = omega (arith, g.sum, cost-next T q values modes i k part-is in-part l t f);
-            total = omega (arith, g.total, cost-next T p values modes i k e in-plan l t f);
-            cheap = omega (arith, g.cheap, t.few);
-          }
+        pub writing-next : {after : List ℕ} {next : ℕ} → Wrote out place (line_of i k price (take T.variables values')) after next
+            → next ≤ place + LINE
+            → Writing T p from until before (state values₀ modes₀) old at values' modes' (i + 1) after next (spent + price)
+        writing-next w m = record {
+          reached = writing-reached;
+          begun = omega (arith, g.begun);
+          lines = step parted w;
+          few = omega (arith, g.few, g.begun, m);
+          left = λ z u. g.left z
+              (lines_next T p values modes i k e in-plan l t
+              ∙ ap (λ (y : List ℕ). line ++ y) u
+              ∙ sym (append_assoc line (left_by T q (i + 1) values' modes') z)
+              ∙ ap (λ (y : List ℕ). y ++ z) (sym (lines_next T q values modes i k part-is in-part l t)));
+          sum = omega (arith, g.sum, cost-next T q values modes i k part-is in-part l t);
+          total = omega (arith, g.total, cost-next T p values modes i k e in-plan l t);
+          cheap = omega (arith, g.cheap, t.few);
+        }

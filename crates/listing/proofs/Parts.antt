@@ -2,7 +2,7 @@
 -- are the lines behind its end. And a whole listing into output that is lent.
 -- Assumes nothing.
 use mathlib.Core.Path.{◌≡◌, refl, sym, ap, ap₂, ◌∙◌}
-use Prim.Native.Nat.{ℕ, zero, suc, ◌+◌, ◌-◌, ◌*◌, ◌^◌, ◌≤◌, ◌<◌}
+use Prim.Native.Nat.{ℕ, zero, suc, min, ◌+◌, ◌-◌, ◌*◌, ◌^◌, ◌≤◌, ◌<◌}
 use native.Mathlib.Omega.{arith}
 use mathlib.Core.Bool.{Bool, true, false, cond}
 use mathlib.Core.List.{List, [], ◌∷◌, ◌++◌, append-nil, append_assoc}
@@ -11,11 +11,14 @@ use lib.ListN.{length, take, drop}
 use lib.Seq.{take_all, take-append_seam}
 use lib.IntN.{ℤ}
 use borrow.Author.Tests.{lt-ltb, le-ltb, ltb-true, ltb-false}
-use Rattle.lists.specs.Answer.{given}
+use Rattle.answers.specs.Answer.{given}
 use Rattle.lists.specs.Writing.{Room, Wrote}
-use Rattle.lists.specs.Written.{Lent}
-use Rattle.lists.specs.declared.Written.TheVariants.{Bytes, Refused}
-use Rattle.lists.proofs.Lent.{too_short, written}
+use Rattle.answers.specs.Lent.{Lent}
+use Rattle.std.specs.Prelude.{Ok, Err}
+use Rattle.answers.specs.Refusals.{number_of}
+use Rattle.answers.specs.declared.Refusal.{Refusal}
+use Rattle.answers.specs.declared.Reason.TheVariants.{OutputShort}
+use Rattle.answers.proofs.Lent.{too_short, written}
 use Rattle.lists.proofs.Writing.{Left, start, step, done, recast, room, room_by, long, splice_front, wrote-long}
 use Rattle.model.specs.Tasks.{State}
 use Rattle.model.specs.Plans.{plan_numbers}
@@ -26,7 +29,7 @@ use Rattle.source_walk.specs.Opening.{table_of}
 use Rattle.listing.specs.declared.Sheet.{Sheet}
 use Rattle.listing.specs.declared.Lined.{Lined}
 use Rattle.listing.specs.declared.Rest.{Rest}
-use Rattle.listing.specs.declared.Rest.TheVariants.{Refusal, Lines, Nothing}
+use Rattle.listing.specs.declared.Rest.TheVariants.{Refused, Lines, Nothing}
 use Rattle.listing.specs.declared.Part.{Part}
 use Rattle.listing.specs.Lines.{LINE, RoomFor}
 use Rattle.listing.specs.Listed.{Listable, LinedTo, lines_by, lines_to, prices_by}
@@ -35,8 +38,12 @@ use Rattle.listing.specs.Parts.{Unlisted, Pending, Begun, PutPart, NextPart}
 use Rattle.listing.proofs.Lines.{room-either, room-for-either}
 
 -- ---- the end of a part
-pub end-early : (next most steps : ℕ) → most < steps - next → next + most ≡ part_end next most steps
-end-early next most steps h = rw (lt-ltb most (steps - next) h)
+pub end-is : (next most steps : ℕ) → next ≤ steps → next + min most (steps - next) ≡ part_end next most steps
+end-is next most steps h = go (ltb most (steps - next)) refl
+  where
+    go : (b : Bool) → ltb most (steps - next) ≡ b → next + min most (steps - next) ≡ cond b (next + most) steps
+    go true e = omega (arith, ltb-true most (steps - next) e)
+    go false e = omega (arith, ltb-false most (steps - next) e)
 
 pub end-last : (next most steps : ℕ) → steps - next ≤ most → steps ≡ part_end next most steps
 end-last next most steps h = rw (le-ltb most (steps - next) h)
@@ -205,17 +212,21 @@ module _ {S : Sheet} (most : ℕ) {p : List ℕ} {marks : List (List ℕ)} {numb
             }
 
 -- ---- a refusal's line is a part
-module _ (number place : ℕ) (most : ℕ) where
-  pub refusal-room : {old : List ℕ} → RoomFor old 0 (50 + LINE * most) (refused_line number place) → RoomFor old 0 50 (refused_line number place)
+module _ (r : Refusal) (most : ℕ) where
+  abbrev line_of_refusal : List ℕ
+  line_of_refusal = refused_line (number_of r.reason) r.place
+
+  pub refusal-room : {old : List ℕ} → RoomFor old 0 (50 + LINE * most) (refused_line (number_of r.reason) r.place)
+      → RoomFor old 0 50 (refused_line (number_of r.reason) r.place)
   refusal-room R = room-for-either (omega arith) refl (λ r. r) R
 
   pub part-refusal : (p : List ℕ) (marks : List (List ℕ)) (numbers : List (List ℤ)) {values : List ℤ} {modes : List ℕ} {old after : List ℕ} {count : ℕ}
-      → Wrote old 0 (refused_line number place) after count → count ≤ 0 + 50
-      → PutPart (Refusal number place) most p marks numbers values modes old after (record { count = count; rest = Nothing }) values modes
+      → Wrote old 0 (refused_line (number_of r.reason) r.place) after count → count ≤ 0 + 50
+      → PutPart (Refused r) most p marks numbers values modes old after (record { count = count; rest = Nothing }) values modes
   part-refusal p marks numbers w m = record {
     wrote = w;
     few = omega arith;
-    left = sym (append-nil (refused_line number place));
+    left = sym (append-nil line_of_refusal);
     pending = tt;
     fewer = omega arith;
   }
@@ -224,7 +235,7 @@ module _ (number place : ℕ) (most : ℕ) where
 whole : (rest : Rest) (p : List ℕ) (marks : List (List ℕ)) (numbers : List (List ℤ)) (values : List ℤ) (modes : List ℕ)
     → Pending rest p marks numbers values modes
     → part_of rest 1_000_000 p marks numbers values modes ≡ left_of rest p marks numbers values modes
-whole (Refusal number place) p marks numbers values modes P = refl
+whole (Refused r) p marks numbers values modes P = refl
 whole (Lines S) p marks numbers values modes U =
     all-of-it 1_000_000 U (omega (arith, end-last S.next 1_000_000 S.task.steps (omega (arith, U.listable.few))))
 whole Nothing p marks numbers values modes P = refl
@@ -239,7 +250,7 @@ listed {plan = plan} {rest} {marks} {numbers} {values} {modes} B = sym (whole re
 -- the most bytes are a number of 64 bits
 pub most-fits : (rest : Rest) (p : List ℕ) (marks : List (List ℕ)) (numbers : List (List ℤ)) (values : List ℤ) (modes : List ℕ)
     → Pending rest p marks numbers values modes → most_of rest < 2 ^ 64
-most-fits (Refusal number place) p marks numbers values modes P = omega arith
+most-fits (Refused r) p marks numbers values modes P = omega arith
 most-fits (Lines S) p marks numbers values modes U = omega (arith, U.listable.few)
 most-fits Nothing p marks numbers values modes P = omega arith
 
@@ -274,7 +285,7 @@ module _ (old : List ℕ) {file plan : List ℕ} {rest : Rest} {marks : List (Li
   abbrev listing-text : List ℕ
   listing-text = part_of rest 1_000_000 (plan_numbers plan) marks numbers values modes
 
-  pub listing-short : length old < need → Lent old (given (listing file plan)) old (Refused 8 need)
+  pub listing-short : length old < need → Lent old (given (listing file plan)) old (Err (record { reason = OutputShort; place = need }))
   listing-short h = too_short (ap given (listed B)) (is ∙ need-all (length old) rest (rw is at h)) h
 
   listing-fits : need ≤ length old → length listing-text ≤ length old
@@ -285,7 +296,7 @@ module _ (old : List ℕ) {file plan : List ℕ} {rest : Rest} {marks : List (Li
 
   pub listing-written : need ≤ length old → {after : List ℕ} {count : ℕ}
       → Wrote old 0 (part_of rest 1_000_000 (plan_numbers plan) marks numbers values modes) after count
-      → Lent old (given (listing file plan)) after (Bytes count)
+      → Lent old (given (listing file plan)) after (Ok count)
   listing-written h {count = count} w =
       let all : count ≡ length listing-text = omega (arith, w.place) in
       written (ap given (listed B)) all (omega (arith, all, listing-fits h)) w
@@ -293,7 +304,7 @@ module _ (old : List ℕ) {file plan : List ℕ} {rest : Rest} {marks : List (Li
 -- ---- where no line is left, no byte is
 pub nothing_left : (rest : Rest) (p : List ℕ) (marks : List (List ℕ)) (numbers : List (List ℤ)) (values : List ℤ) (modes : List ℕ)
     → lines_left rest ≡ 0 → left_of rest p marks numbers values modes ≡ []
-nothing_left (Refusal number place) p marks numbers values modes e = absurd (omega (arith, e))
+nothing_left (Refused r) p marks numbers values modes e = absurd (omega (arith, e))
 nothing_left (Lines S) p marks numbers values modes e = absurd (omega (arith, e))
 nothing_left Nothing p marks numbers values modes e = refl
 

@@ -8,9 +8,10 @@
 
 ghost use Rattle.std.specs.Prelude.{◌≡◌, ◌+◌, ◌-◌, ◌*◌, ◌^◌, ◌≤◌, ◌<◌, false, ltb, length, take, replicate, pos};
 ghost use mathlib.Core.List.{flat_map};
-ghost use Rattle.lists.specs.Answer.{given};
+ghost use Rattle.answers.specs.Answer.{given};
+ghost use Rattle.answers.specs.Refusals.{number_of};
 ghost use Rattle.lists.specs.Writing.{Room, Wrote};
-ghost use Rattle.lists.specs.Written.{Lent};
+ghost use Rattle.answers.specs.Lent.{Lent};
 ghost use Rattle.model.specs.Listing.{fields_of, goal_line, refused_line, listing};
 ghost use Rattle.model.specs.Plans.{plan_numbers};
 ghost use Rattle.source_step.specs.Step.{state};
@@ -24,6 +25,7 @@ ghost use Rattle.listing.specs.Listed.{Listable, LinedTo, lines_to};
 ghost use Rattle.listing.specs.Parts.{PART, most_of, needed_of, lines_left, rest_by, Pending, Begun, header_at, part_end, part_of, PutPart};
 ghost use Rattle.listing.specs.Parts.{NextPart};
 
+use answers::{Reason, Refusal};
 use plan_strokes::STAGES;
 use source_step::{MARKS, MODES, NUMBERS, ROWS, SUMS_ROW, VARIABLES};
 
@@ -54,10 +56,8 @@ fn put_values(out: &mut [u8], at: usize, values: &[i64; VARIABLES], n: usize) ->
     ensures { Wrote out.old at (flat_map field (take n values.now)) out.new result × (result ≤ at + 21 * n) }
 {
     let mut place = at;
-    let mut i: usize = 0;
-    while i < n {
-        place = put_field(out, place, values[i]);
-        i += 1;
+    for z in &values[..n] {
+        place = put_field(out, place, *z);
     }
     place
 }
@@ -101,13 +101,13 @@ fn put_goal_line(out: &mut [u8], at: usize, total: u64) -> usize
 }
 
 // The one line of a refusal: at most 50 bytes.
-fn put_refused_line(out: &mut [u8], at: usize, number: u64, place: u64) -> usize
-    requires { RoomFor out.old at 50 (refused_line number place) }
-    ensures { Wrote out.old at (refused_line number place) out.new result × (result ≤ at + 50) }
+fn put_refused_line(out: &mut [u8], at: usize, refusal: Refusal) -> usize
+    requires { RoomFor out.old at 50 (refused_line (number_of refusal.reason) refusal.place) }
+    ensures { Wrote out.old at (refused_line (number_of refusal.reason) refusal.place) out.new result × (result ≤ at + 50) }
 {
     let number_at = lists::put_bytes(out, at, b"refused");
-    let place_at = put_count(out, number_at, number);
-    let end = put_count(out, place_at, place);
+    let place_at = put_count(out, number_at, refusal.reason.number() as u64);
+    let end = put_count(out, place_at, refusal.place);
     lists::put_number(out, end, 10, 1)
 }
 
@@ -144,9 +144,8 @@ fn put_lines(
     let mut times = [0i64; STAGES];
     let mut place = at;
     let mut spent = before;
-    let mut i: usize = from;
-    while i < until {
-        let k = source_step::wide16(plan_bytes::action_of(plan, i));
+    for i in from..until {
+        let k = plan_bytes::action_of(plan, i) as usize;
         if count <= k {
             return Lined {
                 place,
@@ -154,7 +153,7 @@ fn put_lines(
                 next: plan.len() / 2,
             };
         }
-        let turn = plan_strokes::take_priced(
+        let Some(price) = plan_strokes::take_priced(
             values,
             modes,
             n,
@@ -163,17 +162,15 @@ fn put_lines(
             &numbers[k],
             &numbers[SUMS_ROW],
             &mut times,
-        );
-        if !turn.applied {
+        ) else {
             return Lined {
                 place,
                 spent,
                 next: plan.len() / 2,
             };
-        }
-        place = put_step_line(out, place, i as u64, k as u64, turn.price, values, n);
-        spent += turn.price;
-        i += 1;
+        };
+        place = put_step_line(out, place, i as u64, k as u64, price, values, n);
+        spent += price;
     }
     Lined {
         place,
@@ -194,7 +191,7 @@ pub struct Sheet {
 // What is left of a listing: the line of a refusal, the lines of a plan, or nothing.
 #[derive(Clone, Copy)]
 pub enum Rest {
-    Refusal(u8, u64),
+    Refused(Refusal),
     Lines(Sheet),
     Nothing,
 }
@@ -205,7 +202,7 @@ pub fn any_left(rest: Rest) -> bool
 {
     match rest {
         Rest::Nothing => false,
-        Rest::Refusal(_, _) => true,
+        Rest::Refused(_) => true,
         Rest::Lines(_) => true,
     }
 }
@@ -238,10 +235,9 @@ fn judge(
         &mut last_values,
         &mut last_modes,
     );
-    let verdict = judged.verdict;
-    match verdict {
-        source_walk::Verdict::Refused(number, place) => Rest::Refusal(number, place),
-        source_walk::Verdict::Valid(_) => Rest::Lines(Sheet {
+    match judged.verdict {
+        Err(refusal) => Rest::Refused(refusal),
+        Ok(_) => Rest::Lines(Sheet {
             task,
             spent: 0,
             next: 0,
@@ -262,8 +258,8 @@ pub fn begin(
     ensures { Begun file.now plan.now result marks.new numbers.new values.new modes.new }
 {
     match source_walk::open(file, plan, marks, numbers, values, modes) {
-        source_walk::Opened::Refused(number, place) => Rest::Refusal(number, place),
-        source_walk::Opened::Ready(t) => judge(plan, t, marks, numbers, values, modes),
+        Err(refusal) => Rest::Refused(refusal),
+        Ok(t) => judge(plan, t, marks, numbers, values, modes),
     }
 }
 
@@ -290,10 +286,7 @@ fn part_end(next: usize, most: usize, steps: usize) -> usize
     requires { next ≤ steps }
     ensures { result ≡ part_end next most steps }
 {
-    if most < steps - next {
-        return next + most;
-    }
-    steps
+    next + most.min(steps - next)
 }
 
 // At most so many lines of a plan, at the front of the output, with the header before the first of all and the goal's line behind the last.
@@ -369,8 +362,8 @@ fn put_rest(
             count: 0,
             rest: Rest::Nothing,
         },
-        Rest::Refusal(number, place) => Part {
-            count: put_refused_line(out, 0, number as u64, place),
+        Rest::Refused(refusal) => Part {
+            count: put_refused_line(out, 0, refusal),
             rest: Rest::Nothing,
         },
         Rest::Lines(sheet) => put_sheet(out, plan, sheet, most, marks, numbers, values, modes),
@@ -412,7 +405,7 @@ fn most_of(rest: Rest) -> usize
 {
     match rest {
         Rest::Nothing => ENDS,
-        Rest::Refusal(_, _) => ENDS,
+        Rest::Refused(_) => ENDS,
         Rest::Lines(sheet) => ENDS + LONGEST * sheet.task.steps,
     }
 }
@@ -452,7 +445,7 @@ fn needed(
 
 // The whole listing of a task and a plan, a refusal's line included. The only refusal is 8: the output lent is shorter than the text, whose
 // length is counted first where that may be.
-pub fn list(file: &[u8], plan: &[u8], out: &mut [u8]) -> lists::Written
+pub fn list(file: &[u8], plan: &[u8], out: &mut [u8]) -> Result<usize, Refusal>
     ensures { Lent out.old (given (listing file.now plan.now)) out.new result }
 {
     let mut marks = [[0u16; MARKS]; ROWS];
@@ -469,7 +462,7 @@ pub fn list(file: &[u8], plan: &[u8], out: &mut [u8]) -> lists::Written
     );
     let need = needed(out.len(), plan, rest, &marks, &numbers, &values, &modes);
     if out.len() < need {
-        return lists::Written::Refused(8, need as u64);
+        return Err(Reason::OutputShort.at(need as u64));
     }
     let part = put_rest(
         out,
@@ -481,5 +474,5 @@ pub fn list(file: &[u8], plan: &[u8], out: &mut [u8]) -> lists::Written
         &mut values,
         &mut modes,
     );
-    lists::Written::Bytes(part.count)
+    Ok(part.count)
 }

@@ -3,4 +3,3 @@ pub mod Each
 pub mod Numbers
 pub mod Writing
 pub mod WritingLoops
-pub mod Lent

@@ -7,9 +7,10 @@ use Prim.Native.Nat.{ℕ, zero, suc, ◌+◌, ◌≤◌, ◌<◌}
 use native.Mathlib.Nat.{add-zero, zero-add}
 use native.Mathlib.Numerals.{add-one}
 use native.Mathlib.Omega.{arith}
-use mathlib.Core.List.{List, [], ◌∷◌, ◌++◌}
-use lib.ListN.{length, take, drop, set, length-set, length-append}
-use lib.Seq.{sets, sets-eq}
+use mathlib.Core.List.{List, [], ◌∷◌, ◌++◌, append-nil, append_assoc}
+use lib.ListN.{length, take, drop, set, length-set, length-append, length-take, length-drop}
+use lib.Seq.{sets, sets-eq, drop-length, drop-drop}
+use borrow.Rule.Slice.PartMut.{put_mid}
 use Rattle.lists.specs.Writing.{splice, capacity, Room, Wrote}
 
 -- ---- what a splice is
@@ -94,6 +95,22 @@ wrote_none {out} {at} {xs} e p = record { place = p; bytes = sym (splice-none xs
 
 pub room_as : {out : List ℕ} {at : ℕ} {xs ys : List ℕ} → xs ≡ ys → Room out at xs → Room out at ys
 room_as {out} {at} e r = subst (Room out at) e r
+
+-- a part of the output that now holds the bytes is back in its place
+module _ {out xs part : List ℕ} {at n k : ℕ} (some : n ≡ length xs) (as-many : k ≡ n) (fits : at + n ≤ length out) where
+  pub wrote_mid : part ≡ xs → Wrote out at xs (put_mid at k out part) (at + n)
+  wrote_mid e =
+      let behind : drop k (drop at out) ≡ drop (at + length xs) out = drop-drop k at out ∙ ap (λ (m : ℕ). drop m out) (omega arith) in
+      record {
+        place = ap (λ (m : ℕ). at + m) some;
+        bytes = rw (e, behind, ← append_assoc) (sym (splice-eq xs out at (omega arith)));
+      }
+
+  -- as it does when they were written from its front to its end
+  pub wrote_part : {next : ℕ} → Wrote (take k (drop at out)) 0 xs part next → Wrote out at xs (put_mid at k out part) (at + n)
+  wrote_part w =
+      let long : length (take k (drop at out)) ≡ length xs = simp (length-take, length-drop) (omega arith) in
+      wrote_mid (w.bytes ∙ splice_front xs (take k (drop at out)) (omega arith) ∙ rw (sym long, drop-length, append-nil))
 
 -- ---- several writers, one after another
 

@@ -10,31 +10,21 @@ ghost use Rattle.integers.specs.Numbers.{bytes_of};
 ghost use Rattle.lists.specs.Numbers.{numbers_bytes};
 ghost use Rattle.lists.specs.Writing.{Room, Wrote};
 
-// What a call that fills lent output answers: how many bytes it wrote, or the number and the place of its refusal.
-#[derive(Drop)]
-pub enum Written {
-    Bytes(usize),
-    Refused(u8, u64),
-}
-
 // A number of a width, least byte first, at a place.
 pub fn put_number(out: &mut [u8], at: usize, n: u32, width: usize) -> usize
     requires { Room out.old at (bytes_of width n) }
     ensures { Wrote out.old at (bytes_of width n) out.new result }
 {
-    if out.len() == 0 {
-        return at + width;
+    let end = at + width;
+    if out.is_empty() {
+        return end;
     }
-    let mut place = at;
     let mut rest = n;
-    let mut left = width;
-    while left > 0 {
-        out[place] = (rest % 256) as u8;
-        place += 1;
-        rest = rest / 256;
-        left -= 1;
+    for slot in out[at..end].iter_mut() {
+        *slot = (rest % 256) as u8;
+        rest /= 256;
     }
-    place
+    end
 }
 
 // Bytes as they are.
@@ -42,17 +32,12 @@ pub fn put_bytes(out: &mut [u8], at: usize, bytes: &[u8]) -> usize
     requires { Room out.old at bytes.now }
     ensures { Wrote out.old at bytes.now out.new result }
 {
-    if out.len() == 0 {
-        return at + bytes.len();
+    let end = at + bytes.len();
+    if out.is_empty() {
+        return end;
     }
-    let mut place = at;
-    let mut i: usize = 0;
-    while i < bytes.len() {
-        out[place] = bytes[i];
-        place += 1;
-        i += 1;
-    }
-    place
+    out[at..end].copy_from_slice(bytes);
+    end
 }
 
 // One number of two bytes so many times, as an expanded plan repeats an action.
@@ -60,19 +45,15 @@ pub fn fill_run(out: &mut [u8], at: usize, number: u16, count: usize) -> usize
     requires { Room out.old at (numbers_bytes 2 (replicate count number)) }
     ensures { Wrote out.old at (numbers_bytes 2 (replicate count number)) out.new result }
 {
-    if out.len() == 0 {
-        return at + 2 * count;
+    let end = at + 2 * count;
+    if out.is_empty() {
+        return end;
     }
-    let low = (number % 256) as u8;
-    let high = (number / 256 % 256) as u8;
-    let mut place = at;
-    let mut left = count;
-    while left > 0 {
-        out[place] = low;
-        let second = place + 1;
-        out[second] = high;
-        place = second + 1;
-        left -= 1;
+    let [low, high] = number.to_le_bytes();
+    let run = &mut out[at..end];
+    for i in 0..count {
+        run[2 * i] = low;
+        run[2 * i + 1] = high;
     }
-    place
+    end
 }

@@ -10,7 +10,7 @@ use Rattle.lists.proofs.Each.{length-tabulate, get_or-tabulate}
 use lib.IntN.{ℤ, pos, nat_abs}
 use Rattle.integers.specs.All.{All}
 use Rattle.integers.specs.Numbers.{Bytes}
-use Rattle.lists.specs.Answer.{given}
+use Rattle.answers.specs.Answer.{given}
 use Rattle.lists.specs.Writing.{splice}
 use Rattle.model.specs.Tasks.{Measured, variable, weighted_sum, NumericCondition, SourceAction, State}
 use Rattle.model.specs.Limits.{source_limits}
@@ -42,7 +42,7 @@ use Rattle.source_step.specs.Accepted.{AcceptedWith}
 use Rattle.source_step.proofs.Judging.{accepted-task, counted-task}
 use Rattle.source_sums.specs.Found.{task_of, PlacesOf}
 use Rattle.lowering_rows.specs.Macros.{Constant, Fit}
-use Rattle.lowering_rows.proofs.Kept.{opening-kept}
+use Rattle.lowering_rows.proofs.Keeping.{opening-kept}
 use Rattle.lowering_file.specs.Parts.{mode_at, modes_in}
 use Rattle.lowering_file.specs.Held.{measuring, Declares, goal_sum, goal_of, GoalOf}
 

@@ -12,7 +12,7 @@ use Rattle.integers.specs.All.{All}
 use Rattle.integers.specs.Numbers.{bits_of}
 use Rattle.integers.proofs.All.{all_map}
 use Rattle.lists.specs.Each.{tabulate}
-use Rattle.lists.specs.Answer.{Answer, given, refused, then}
+use Rattle.answers.specs.Answer.{Answer, given, refused, then}
 use Rattle.lists.proofs.Each.{flat_map-nil, flat_map-append, length-flat_map}
 use Rattle.lists.proofs.Writing.{joined, Left, start}
 use Rattle.commands.specs.Table.{letter_a, letter_g}

@@ -36,7 +36,7 @@ use Rattle.lowering_stages.specs.declared.Shape.{Shape}
 use Rattle.lowering_stages.proofs.Effects.{effects-length}
 use Rattle.lowering_rows.proofs.Staging.{drop_get}
 use Rattle.lowering_file.specs.Parts.{holds_of}
-use Rattle.lowering_file.specs.Held.{Held, kept, KeptOf, OwnPushed}
+use Rattle.lowering_file.specs.Held.{Held, KeptOf, OwnPushed}
 use Rattle.lowering_file.proofs.Declared.{actions-counted}
 use Rattle.source_sums.proofs.Gathering.{action-at}
 
@@ -135,7 +135,7 @@ module _ {file : List ℕ} {count : ℕ} {h : Shape} (held : Held file count h) 
   few-variables = omega (arith, held.variables_are, held-ok.variables_few)
 
   pub kept_of_lem : {sums : ℕ} {weights : List ℤ} {first : ℕ} → SumsOf file sums weights → first ≤ VARIABLES + 5
-      → (0 < sums → first ≡ h.variables + (2 + hold_count (task_of file).actions)) → KeptOf file (kept first sums weights)
+      → (0 < sums → first ≡ h.variables + (2 + hold_count (task_of file).actions)) → KeptOf file (record { first = first; count = sums; weights = weights })
   kept_of_lem {sums} {weights} {first} found low is = record {
     sums = found;
     first_is = λ some-sum. let e = is some-sum in omega (arith, held.variables_are, measuring-starts (task_of file) held-ok);

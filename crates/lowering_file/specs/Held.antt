@@ -3,7 +3,7 @@
 use Rattle.std.specs.Prelude.{◌≡◌, Bool, ℕ, suc, ◌+◌, ◌≤◌, ◌<◌, length, take, drop, ℤ}
 use mathlib.Core.List.{List, [], ◌++◌, map, flat_map}
 use Rattle.integers.specs.Numbers.{Bytes}
-use Rattle.lists.specs.Answer.{given}
+use Rattle.answers.specs.Answer.{given}
 use Rattle.commands.specs.Table.{letter_g}
 use Rattle.commands.specs.Encoding.{encode}
 use Rattle.commands.specs.declared.Command.TheVariants.{End}
@@ -23,6 +23,7 @@ use Rattle.file_actions.specs.declared.SumConditions.{SumConditions}
 use Rattle.file_actions.specs.Views.{sum_room, sums_is as conditions_is, SumsDecoded}
 use Rattle.lowering_stages.specs.declared.Shape.{Shape}
 use Rattle.lowering_sums.specs.Views.{sums_in, start_bytes}
+use Rattle.lowering_rows.specs.declared.Kept.{Kept as KeptHere}
 use Rattle.lowering_rows.specs.Bytes.{restricted_action_bytes, row_bytes, WroteRows}
 use Rattle.lowering_file.specs.Parts.{mode_bytes, modes_in, holds_of, GoalWritable}
 use Rattle.lowering_file.specs.declared.Declarations.{Declarations}
@@ -56,8 +57,8 @@ pub record Kept : Type 0 where
   pub count : ℕ
   pub weights : List ℤ
 
-abbrev pub kept : ℕ → ℕ → List ℤ → Kept
-kept first count weights = record { first = first; count = count; weights = weights }
+abbrev pub kept_is : KeptHere → Kept
+kept_is k = record { first = k.first; count = k.sums; weights = k.weights.now }
 
 abbrev pub sums_is : Kept → List (List (ℕ × ℤ))
 sums_is p = sums_in p.count p.weights

@@ -8,7 +8,7 @@ ghost use Rattle.std.specs.Prelude.{◌≡◌, true, cond, ◌+◌, ◌<◌, ◌
 ghost use mathlib.Core.List.{[], ◌∷◌, ◌++◌, flat_map};
 ghost use Rattle.integers.specs.All.{All};
 ghost use Rattle.lists.specs.Writing.{Room, Wrote};
-ghost use Rattle.lists.specs.Written.{Lent};
+ghost use Rattle.answers.specs.Lent.{Lent};
 ghost use Rattle.commands.specs.Table.{letter_g};
 ghost use Rattle.commands.specs.Encoding.{encode};
 ghost use Rattle.commands.specs.declared.Command.TheVariants.{End};
@@ -32,12 +32,13 @@ ghost use Rattle.lowering_stages.specs.Stages.{PlacesFew};
 ghost use Rattle.lowering_sums.specs.Views.{sums_in, start_bytes, Fits};
 ghost use Rattle.lowering_rows.specs.Bytes.{row_bytes, WroteRows};
 ghost use Rattle.lowering_file.specs.Parts.{mode_bytes, modes_in, holds_of, starts_in, GoalWritable};
-ghost use Rattle.lowering_file.specs.Held.{Held, kept, KeptOf, OwnPushed, Declares, GoalFrom, GoalOf, Told};
+ghost use Rattle.lowering_file.specs.Held.{Held, kept_is, KeptOf, OwnPushed, Declares, GoalFrom, GoalOf, Told};
 ghost use Rattle.lowering_file.specs.Held.{actions_part, in_file_order, actions_first, Acted};
 
+use answers::{Reason, Refusal};
 use file_actions::Effects;
 use file_parts::{MARKS, NUMBERS};
-use lists::Written;
+use lowering_rows::Kept;
 use lowering_stages::Shape;
 use source_step::{MODES, NUMBERS as WEIGHTS, VARIABLES};
 use source_sums::PLACES;
@@ -107,7 +108,7 @@ fn push_own(
 
 // Where a writer stands; what the declarations take from the actions: the size of control, 1 and the count of all stages, and whether some
 // action has several effects; and what the goal takes: the number of the variable kept for its first sum.
-#[derive(Drop)]
+#[derive(Clone, Copy)]
 struct Put {
     place: usize,
     control: u16,
@@ -120,10 +121,7 @@ fn some_several(before: bool, effects: Effects) -> bool
     requires { PlacesFew effects }
     ensures { result ≡ cond before true (several (effects_is effects)) }
 {
-    if before {
-        return true;
-    }
-    1 < effects.count
+    before || 1 < effects.count
 }
 
 // Whether some action of an accepted file with so many has several effects.
@@ -134,11 +132,9 @@ fn any_several(file: &[u8], places: &[usize; PLACES], count: usize) -> bool
     let mut marks = [0u16; MARKS];
     let mut numbers = [0i64; NUMBERS];
     let mut several = false;
-    let mut k: usize = 0;
-    while k < count {
+    for k in 0..count {
         let effects = decode_action(file, places, count, k, &mut marks, &mut numbers);
         several = some_several(several, effects);
-        k += 1;
     }
     several
 }
@@ -171,33 +167,27 @@ fn put_actions(
     places: &[usize; PLACES],
     actions: usize,
     shape: Shape,
-    first: u8,
-    sums: usize,
-    weights: &[i64; WEIGHTS],
+    kept: Kept,
     marks: &mut [u16; MARKS],
     numbers: &mut [i64; NUMBERS],
 ) -> Put
     requires accepted_with { AcceptedWith (verdict_of source_limits file.now) actions × Held file.now actions shape × PlacesOf file.now actions places.now }
-    requires marks_len { (length marks.old ≡ MARKS) × (length numbers.old ≡ NUMBERS) × KeptOf file.now (kept first sums weights.now) }
+    requires marks_len { (length marks.old ≡ MARKS) × (length numbers.old ≡ NUMBERS) × KeptOf file.now (kept_is kept) }
     requires room { Room out.old at (actions_part file.now) }
-    ensures { Acted file.now first out.old at (actions_part file.now) out.new result
+    ensures { Acted file.now kept.entry.first out.old at (actions_part file.now) out.new result
         marks.new numbers.new }
 {
     let mut place = at;
     let mut from: u16 = 1;
     let mut several = false;
-    let mut sum = first;
-    let mut k: usize = 0;
-    while k < actions {
+    let mut sum = kept.first;
+    for k in 0..actions {
         let effects = decode_action(file, places, actions, k, marks, numbers);
-        let own = push_own(file, places, actions, k, sums, sum, marks, numbers);
-        place = lowering_rows::put_macro(
-            out, place, marks, numbers, effects, shape, from, first, sums, weights,
-        );
+        let own = push_own(file, places, actions, k, kept.sums, sum, marks, numbers);
+        place = lowering_rows::put_macro(out, place, marks, numbers, effects, shape, from, kept);
         from += lowering_stages::stage_count(effects) as u16;
         sum += own;
         several = some_several(several, effects);
-        k += 1;
     }
     Put {
         place,
@@ -272,11 +262,9 @@ fn put_declared_starts(out: &mut [u8], at: usize, n: usize, starts: &[i64; VARIA
     ensures { Wrote out.old at (flat_map start_bytes (take n starts.now)) out.new result }
 {
     let mut place = at;
-    let mut i: usize = 0;
-    while i < n {
-        let bits = integers::bits(starts[i]);
+    for start in &starts[..n] {
+        let bits = integers::bits(*start);
         place = commands::put_start(out, place, bits);
-        i += 1;
     }
     place
 }
@@ -287,10 +275,8 @@ fn put_zeros(out: &mut [u8], at: usize, n: usize) -> usize
     ensures { Wrote out.old at (flat_map start_bytes (replicate n (pos 0))) out.new result }
 {
     let mut place = at;
-    let mut i: usize = 0;
-    while i < n {
+    for _ in 0..n {
         place = commands::put_start(out, place, 0);
-        i += 1;
     }
     place
 }
@@ -331,10 +317,8 @@ fn put_declared_modes<'a>(
     ensures { Wrote out.old at (flat_map mode_bytes (modes_in n sizes.now values.now)) out.new result }
 {
     let mut place = at;
-    let mut i: usize = 0;
-    while i < n {
+    for i in 0..n {
         place = commands::put_mode(out, place, sizes[i], values[i]);
-        i += 1;
     }
     place
 }
@@ -383,25 +367,21 @@ fn count_task(
     places: &[usize; PLACES],
     count: usize,
     declared: Declarations,
-    first: u8,
-    sums: usize,
-    weights: &[i64; WEIGHTS],
+    kept: Kept,
     marks: &mut [u16; MARKS],
     numbers: &mut [i64; NUMBERS],
 ) -> Put
     requires accepted_with { AcceptedWith (verdict_of source_limits file.now) count × Declares file.now count declared × PlacesOf file.now count places.now }
-    requires marks_len { (length marks.old ≡ MARKS) × (length numbers.old ≡ NUMBERS) × KeptOf file.now (kept first sums weights.now) }
+    requires marks_len { (length marks.old ≡ MARKS) × (length numbers.old ≡ NUMBERS) × KeptOf file.now (kept_is kept) }
     requires room { Room out.old 0 (actions_first file.now) }
-    ensures { Acted file.now first out.old 0 (actions_first file.now) out.new result
+    ensures { Acted file.now kept.entry.first out.old 0 (actions_first file.now) out.new result
         marks.new numbers.new }
 {
     let shape = declared.shape;
     let starts = declared.starts;
     let values = declared.values;
     let sizes = shape.sizes;
-    let acted = put_actions(
-        out, 0, file, places, count, shape, first, sums, weights, marks, numbers,
-    );
+    let acted = put_actions(out, 0, file, places, count, shape, kept, marks, numbers);
     let control = acted.control;
     let several = acted.several;
     let goal_sum = acted.goal_sum;
@@ -411,11 +391,11 @@ fn count_task(
         shape.variables,
         &starts,
         several,
-        sums,
-        weights,
+        kept.sums,
+        kept.weights,
     );
     let goal = put_modes(out, modes, shape.modes, &sizes, &values, control);
-    read_goal(file, places, count, sums, goal_sum, marks, numbers);
+    read_goal(file, places, count, kept.sums, goal_sum, marks, numbers);
     let place = put_goal(out, goal, marks, numbers, shape.modes as u8);
     Put {
         place,
@@ -432,16 +412,14 @@ fn put_task(
     places: &[usize; PLACES],
     count: usize,
     declared: Declarations,
-    first: u8,
-    sums: usize,
-    weights: &[i64; WEIGHTS],
+    kept: Kept,
     marks: &mut [u16; MARKS],
     numbers: &mut [i64; NUMBERS],
     control: u16,
     several: bool,
 ) -> usize
     requires accepted_with { AcceptedWith (verdict_of source_limits file.now) count × Declares file.now count declared × PlacesOf file.now count places.now }
-    requires marks_len { (length marks.old ≡ MARKS) × (length numbers.old ≡ NUMBERS) × Told file.now control several × KeptOf file.now (kept first sums weights.now) }
+    requires marks_len { (length marks.old ≡ MARKS) × (length numbers.old ≡ NUMBERS) × Told file.now control several × KeptOf file.now (kept_is kept) }
     requires room { Room out.old 0 (in_file_order file.now) }
     ensures { Wrote out.old 0 (in_file_order file.now) out.new result }
 {
@@ -449,17 +427,33 @@ fn put_task(
     let starts = declared.starts;
     let values = declared.values;
     let sizes = shape.sizes;
-    let modes = put_starts(out, 0, shape.variables, &starts, several, sums, weights);
+    let modes = put_starts(
+        out,
+        0,
+        shape.variables,
+        &starts,
+        several,
+        kept.sums,
+        kept.weights,
+    );
     let behind = put_modes(out, modes, shape.modes, &sizes, &values, control);
     let acted = put_actions(
-        out, behind, file, places, count, shape, first, sums, weights, marks, numbers,
+        out, behind, file, places, count, shape, kept, marks, numbers,
     );
-    read_goal(file, places, count, sums, acted.goal_sum, marks, numbers);
+    read_goal(
+        file,
+        places,
+        count,
+        kept.sums,
+        acted.goal_sum,
+        marks,
+        numbers,
+    );
     put_goal(out, acted.place, marks, numbers, shape.modes as u8)
 }
 
 // The lowered task of an accepted file with so many actions.
-fn lower_accepted(file: &[u8], count: usize, out: &mut [u8]) -> Written
+fn lower_accepted(file: &[u8], count: usize, out: &mut [u8]) -> Result<usize, Refusal>
     requires { AcceptedWith (verdict_of source_limits file.now) count }
     ensures { Lent out.old (lower_bytes file.now) out.new result }
 {
@@ -469,6 +463,11 @@ fn lower_accepted(file: &[u8], count: usize, out: &mut [u8]) -> Written
     let sums = source_sums::find_sums(file, &places, count, &mut weights);
     let shape = declared.shape;
     let first = first_kept(file, &places, count, shape.variables, sums);
+    let kept = Kept {
+        first,
+        sums,
+        weights: &weights,
+    };
     let mut marks = [0u16; MARKS];
     let mut numbers = [0i64; NUMBERS];
     let counted = count_task(
@@ -477,9 +476,7 @@ fn lower_accepted(file: &[u8], count: usize, out: &mut [u8]) -> Written
         &places,
         count,
         declared,
-        first,
-        sums,
-        &weights,
+        kept,
         &mut marks,
         &mut numbers,
     );
@@ -487,7 +484,7 @@ fn lower_accepted(file: &[u8], count: usize, out: &mut [u8]) -> Written
     let control = counted.control;
     let several = counted.several;
     if out.len() < need {
-        return Written::Refused(8, need as u64);
+        return Err(Reason::OutputShort.at(need as u64));
     }
     put_task(
         out,
@@ -495,23 +492,19 @@ fn lower_accepted(file: &[u8], count: usize, out: &mut [u8]) -> Written
         &places,
         count,
         declared,
-        first,
-        sums,
-        &weights,
+        kept,
         &mut marks,
         &mut numbers,
         control,
         several,
     );
-    Written::Bytes(need)
+    Ok(need)
 }
 
 // The lowered task's file, written into lent output.
-pub fn lower(file: &[u8], out: &mut [u8]) -> Written
+pub fn lower(file: &[u8], out: &mut [u8]) -> Result<usize, Refusal>
     ensures { Lent out.old (lower_bytes file.now) out.new result }
 {
-    match file_check::check_source(file) {
-        file_check::Verdict::Rejected(number, place) => Written::Refused(number, place),
-        file_check::Verdict::Accepted(_, _, actions) => lower_accepted(file, actions as usize, out),
-    }
+    let accepted = file_check::check_source(file)?;
+    lower_accepted(file, accepted.actions as usize, out)
 }

@@ -1,5 +1,5 @@
 pub mod Adding
-pub mod Kept
+pub mod Keeping
 pub mod Loops
 pub mod Macros
 pub mod Parts

@@ -29,7 +29,7 @@ use Rattle.lowering_stages.specs.declared.Shape.{Shape}
 use Rattle.lowering_stages.specs.Shapes.{lower_of, upper_of}
 use Rattle.lowering_rows.specs.Bytes.{restricted_action_bytes, with_kept}
 use Rattle.lowering_rows.specs.Macros.{Constant, Amount, Fit, AllFit, opening_in, with_own, macro_with, macro_in, Sound}
-use Rattle.lowering_rows.proofs.Kept.{opening-kept, keeping-stages}
+use Rattle.lowering_rows.proofs.Keeping.{opening-kept, keeping-stages}
 
 -- ---- the source's conditions, numbered, are themselves
 terms-back : (n : ℕ) (ts : List (ℕ × ℤ)) → numbered_additions n (on_source_terms ts) ≡ ts

@@ -33,7 +33,7 @@ use Rattle.lowering_sums.specs.Views.{sums_in, added_is, AddedSmall}
 use Rattle.lowering_rows.specs.Macros.{Constant, Amount, Fit, Keeps}
 use Rattle.lowering_rows.specs.Bytes.{mode_condition_bytes, condition_bytes, mode_effect_bytes, addition_bytes, restricted_action_bytes, with_kept, row_bytes}
 use Rattle.lowering_rows.specs.Bytes.{Writable, stage_rows}
-use Rattle.lowering_rows.proofs.Kept.{all-parts, all-at}
+use Rattle.lowering_rows.proofs.Keeping.{all-parts, all-at}
 use Rattle.lowering_rows.proofs.Writing.{action-row}
 
 -- ---- an action that can be written

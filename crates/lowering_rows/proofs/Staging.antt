@@ -19,7 +19,7 @@ use Rattle.lowering_rows.specs.Bytes.{restricted_action_bytes, with_kept}
 use Rattle.lowering_rows.specs.Macros.{Fit, AllFit, kept_stages, stages_bytes}
 use Rattle.lowering_stages.specs.Shapes.{next_number}
 use Rattle.lowering_stages.proofs.Effects.{first_next}
-use Rattle.lowering_rows.proofs.Kept.{all-parts}
+use Rattle.lowering_rows.proofs.Keeping.{all-parts}
 
 -- ---- lists
 pub numbered-append : (n m : ℕ) (xs ys : List NamedAction) → numbered_all n m (xs ++ ys) ≡ numbered_all n m xs ++ numbered_all n m ys

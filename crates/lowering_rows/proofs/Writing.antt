@@ -1,8 +1,8 @@
 -- Bytes of rows.
 -- Assumes nothing.
 use mathlib.Core.Path.{◌≡◌, refl, sym, ap, ap₂, ◌∙◌}
-use Prim.Native.Nat.{ℕ, zero, suc, ◌%◌, ◌<◌, ◌≤◌}
-use mathlib.Core.Bool.{Bool, true, false}
+use Prim.Native.Nat.{ℕ, zero, suc, ◌+◌, ◌%◌, ◌<◌, ◌≤◌}
+use lib.Dec.{lit<}
 use mathlib.Core.List.{List, [], ◌∷◌, ◌++◌, flat_map, append-nil}
 use native.Mathlib.Omega.{arith}
 use lib.IntN.{ℤ}
@@ -11,14 +11,17 @@ use Rattle.integers.specs.Numbers.{bytes_of, bits_of}
 use Rattle.integers.specs.Relation.{Relation, below, at_most, at_least, above, equal, relation_number, relation_of}
 use Rattle.commands.specs.Encoding.{encode}
 use Rattle.commands.specs.declared.Command.TheVariants.{Condition, Add}
-use Rattle.file_parts.specs.Layout.{mode_condition_count, mode_condition_mode, mode_condition_value, mode_effect_count, mode_effect_mode, mode_effect_value}
+use Rattle.file_parts.specs.Layout.{MARKS}
 use Rattle.file_parts.specs.Row.{PartsFit}
 use Rattle.file_parts.specs.With.{condition}
 use Rattle.lists.proofs.Each.{flat_map-nil, flat_map-cons, flat_map-append}
 use Rattle.lists.proofs.Writing.{Left, start}
+use Rattle.model.specs.Steps.{natural_at}
 use Rattle.model.specs.Tasks.{variable, NumericCondition, RestrictedAction}
 use Rattle.model.specs.FourRelations.{comparing, in_four_relations, all_in_four_relations}
-use Rattle.lowering_rows.specs.Bytes.{mode_condition_bytes, condition_bytes, four_bytes, mode_effect_bytes, mode_part_bytes, addition_bytes, restricted_action_bytes, row_bytes, ModePartsThere}
+use Rattle.lowering_rows.specs.Bytes.{mode_condition_bytes, condition_bytes, four_bytes, mode_effect_bytes, mode_part_bytes, addition_bytes, restricted_action_bytes, row_bytes, places_of}
+use Rattle.lowering_rows.specs.declared.ModePart.{ModePart}
+use Rattle.lowering_rows.specs.declared.ModePart.TheVariants.{Condition as ACondition, Effect as AnEffect}
 use Rattle.lowering_rows.proofs.Parts.{action-parts}
 
 -- before anything of a row is written
@@ -86,14 +89,16 @@ mode-condition-coded m v l e = rw e (ap (λ (x : ℕ). 80 ∷ x ∷ (bytes_of 2 
 mode-effect-coded : (m v l : ℕ) → l ≡ m % 256 → mode_effect_bytes (m, v) ≡ mode_effect_bytes (l, v)
 mode-effect-coded m v l e = rw e (ap (λ (x : ℕ). 69 ∷ x ∷ (bytes_of 2 v ++ [])) (mod-mod m))
 
-pub mode-part-coded : (effect : Bool) (m v l : ℕ) → l ≡ m % 256 → mode_part_bytes effect (m, v) ≡ mode_part_bytes effect (l, v)
-mode-part-coded true = mode-effect-coded
-mode-part-coded false = mode-condition-coded
+pub mode-part-coded : (part : ModePart) (m v l : ℕ) → l ≡ m % 256 → mode_part_bytes part (m, v) ≡ mode_part_bytes part (l, v)
+mode-part-coded ACondition = mode-condition-coded
+mode-part-coded AnEffect = mode-effect-coded
 
--- ---- the P and the E of a row that has room for them
-module _ {marks : List ℕ} (room : PartsFit 0 0 0 0 marks) where
-  pub mode-conditions-there : ModePartsThere marks mode_condition_count mode_condition_mode mode_condition_value
-  mode-conditions-there = record { long = room.long; counted = omega arith; modes = omega (arith, room.mode_conditions); values = omega (arith, room.mode_conditions) }
+-- ---- the P or the E of a row that has room for them stand within its marks
+pub record There (marks : List ℕ) (places : ℕ × ℕ × ℕ) : Type 0 where
+  pub counted : places.0 < MARKS
+  pub modes : places.1 + natural_at marks places.0 ≤ MARKS
+  pub values : places.2 + natural_at marks places.0 ≤ MARKS
 
-  pub mode-effects-there : ModePartsThere marks mode_effect_count mode_effect_mode mode_effect_value
-  mode-effects-there = record { long = room.long; counted = omega arith; modes = omega (arith, room.mode_effects); values = omega (arith, room.mode_effects) }
+pub parts-there : {marks : List ℕ} → PartsFit 0 0 0 0 marks → (part : ModePart) → There marks (places_of part)
+parts-there room ACondition = record { counted = lit< tt; modes = omega (arith, room.mode_conditions); values = omega (arith, room.mode_conditions) }
+parts-there room AnEffect = record { counted = lit< tt; modes = omega (arith, room.mode_effects); values = omega (arith, room.mode_effects) }

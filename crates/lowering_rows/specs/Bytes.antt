@@ -1,6 +1,6 @@
 -- The bytes of a restricted file by its parts: what one element of a list of the task makes; and the bytes of a parts row.
 -- Assumes nothing.
-use Rattle.std.specs.Prelude.{◌≡◌, ℕ, ◌+◌, ◌<◌, ◌≤◌, Bool, true, false, cond, length, ℤ, nat_abs}
+use Rattle.std.specs.Prelude.{◌≡◌, ℕ, ◌+◌, ◌<◌, Bool, true, false, length, ℤ, nat_abs}
 use mathlib.Core.List.{List, [], ◌∷◌, ◌++◌, flat_map}
 use Rattle.integers.specs.Numbers.{bytes_of, bits_of}
 use Rattle.integers.specs.Relation.{relation_number}
@@ -13,10 +13,26 @@ use Rattle.model.specs.Steps.{integer_at, natural_at}
 use Rattle.model.specs.FourRelations.{in_four_relations}
 use Rattle.model.specs.Sums.{kept_additions}
 use Rattle.model.specs.Lowering.{variable_of, action_commands}
-use Rattle.file_parts.specs.Layout.{MARKS, NUMBERS, condition_count, addition_count, addition_amount}
+use Rattle.file_parts.specs.Layout.{
+  MARKS,
+  NUMBERS,
+  condition_count,
+  mode_condition_count,
+  mode_condition_mode,
+  mode_condition_value,
+  mode_effect_count,
+  mode_effect_mode,
+  mode_effect_value,
+  addition_count,
+  addition_amount,
+}
 use Rattle.file_parts.specs.Row.{PartsFit}
 use Rattle.file_parts.specs.With.{with_additions}
 use Rattle.lowering_stages.specs.declared.Stage.{Stage}
+use Rattle.lowering_sums.specs.Views.{sums_in}
+use Rattle.lowering_rows.specs.declared.Kept.{Kept}
+use Rattle.lowering_rows.specs.declared.ModePart.{ModePart}
+use Rattle.lowering_rows.specs.declared.ModePart.TheVariants.{Condition as ACondition, Effect as AnEffect}
 use Rattle.lowering_stages.specs.Stages.{stroke_is, turn_is}
 
 -- ---- the bytes of one element: P, C, E, +
@@ -33,9 +49,10 @@ four_bytes c = flat_map condition_bytes (in_four_relations c.measured c.relation
 abbrev pub mode_effect_bytes : ℕ × ℕ → List ℕ
 mode_effect_bytes e = encode (ModeEffect e.0 e.1)
 
--- of an E, or else of a P
-abbrev pub mode_part_bytes : Bool → ℕ × ℕ → List ℕ
-mode_part_bytes effect p = cond effect (mode_effect_bytes p) (mode_condition_bytes p)
+-- of the one or of the other
+abbrev pub mode_part_bytes : ModePart → ℕ × ℕ → List ℕ
+mode_part_bytes ACondition p = mode_condition_bytes p
+mode_part_bytes AnEffect p = mode_effect_bytes p
 
 abbrev pub addition_bytes : ℕ × ℤ → List ℕ
 addition_bytes e = encode (Add e.0 (bits_of 4 e.1))
@@ -48,6 +65,10 @@ restricted_action_bytes a = encode_all (action_commands a [])
 abbrev pub with_kept : ℕ → List (List (ℕ × ℤ)) → RestrictedAction → RestrictedAction
 with_kept first sums x = with_additions x (kept_additions first sums x.additions)
 
+-- the sums that are kept
+abbrev pub sums_kept : Kept → List (List (ℕ × ℤ))
+sums_kept k = sums_in k.sums k.weights.now
+
 -- ---- the bytes of a row: a byte, A or G; then P, C, E, +
 abbrev pub row_bytes : ℕ → RestrictedAction → List ℕ
 row_bytes b x =
@@ -56,15 +77,15 @@ row_bytes b x =
     ++ (flat_map condition_bytes x.conditions ++ (flat_map mode_effect_bytes x.mode_effects ++ (flat_map addition_bytes x.additions ++ []))))
 
 -- ---- its P or its E, which stand in its marks alone, by three places: of their count, of the first mode, of the first value
-abbrev pub mode_parts_in : List ℕ → ℕ → ℕ → ℕ → List (ℕ × ℕ)
-mode_parts_in marks count mode value = tabulate (natural_at marks count) (λ i. (natural_at marks (mode + i), natural_at marks (value + i)))
+abbrev pub places_of : ModePart → ℕ × ℕ × ℕ
+places_of ACondition = (mode_condition_count, mode_condition_mode, mode_condition_value)
+places_of AnEffect = (mode_effect_count, mode_effect_mode, mode_effect_value)
 
--- what their writer requires: they stand within the marks
-pub record ModePartsThere (marks : List ℕ) (count mode value : ℕ) : Type 0 where
-  pub long : length marks ≡ MARKS
-  pub counted : count < MARKS
-  pub modes : mode + natural_at marks count ≤ MARKS
-  pub values : value + natural_at marks count ≤ MARKS
+abbrev pub part_at : ℕ × ℕ × ℕ → List ℕ → ℕ → ℕ × ℕ
+part_at places marks i = (natural_at marks (places.1 + i), natural_at marks (places.2 + i))
+
+abbrev pub mode_parts_in : ModePart → List ℕ → List (ℕ × ℕ)
+mode_parts_in part marks = let places = places_of part in tabulate (natural_at marks places.0) (part_at places marks)
 
 -- what its writer requires: constants and amounts fit the width of a file's
 pub record Writable (marks : List ℕ) (numbers : List ℤ) : Type 0 where

@@ -3,7 +3,7 @@
 // It never looks whether there is room (its caller shows that there is) and never refuses.
 #![tactic(auto)]
 
-ghost use Rattle.std.specs.Prelude.{◌≡◌, ◌≤◌, ◌<◌, ◌%◌, cond, eqb, length, nat_abs};
+ghost use Rattle.std.specs.Prelude.{◌≡◌, ◌≤◌, ◌<◌, cond, eqb, length, nat_abs};
 ghost use mathlib.Core.List.{map, flat_map};
 ghost use Rattle.integers.specs.All.{All};
 ghost use Rattle.lists.specs.Writing.{Room, Wrote};
@@ -11,14 +11,14 @@ ghost use Rattle.commands.specs.Table.{letter_a};
 ghost use Rattle.model.specs.FourRelations.{in_four};
 ghost use Rattle.model.specs.Sums.{addition, kept_additions};
 ghost use Rattle.file_parts.specs.Layout.{MARKS, NUMBERS};
-ghost use Rattle.file_parts.specs.Row.{additions_in, row_is};
+ghost use Rattle.file_parts.specs.Row.{additions_in, row_is, PartsFit};
 ghost use Rattle.file_parts.specs.With.{condition};
 ghost use Rattle.file_actions.specs.Views.{effects_is};
 ghost use Rattle.lowering_stages.specs.Stages.{given_is, added_is as stroke_added, Small, PlacesOk, most_stages, stage_numbers};
 ghost use Rattle.lowering_stages.specs.Shapes.{Bounded};
-ghost use Rattle.lowering_sums.specs.Views.{sums_in, most_added, added_is, AddedSmall};
+ghost use Rattle.lowering_sums.specs.Views.{most_added, added_is, AddedSmall};
 ghost use Rattle.lowering_rows.specs.Bytes.{condition_bytes, four_bytes, mode_part_bytes, addition_bytes, restricted_action_bytes, with_kept};
-ghost use Rattle.lowering_rows.specs.Bytes.{ModePartsThere, mode_parts_in, row_bytes, Writable, stage_rows, WroteRows};
+ghost use Rattle.lowering_rows.specs.Bytes.{sums_kept, places_of, mode_parts_in, row_bytes, Writable, stage_rows, WroteRows};
 ghost use Rattle.lowering_rows.specs.Macros.{Constant, Amount, Fit, AllFit, opening_in, kept_stages, stages_bytes, stages_in, macro_with};
 ghost use Rattle.lowering_rows.specs.Macros.{Keeps, OneAddition, Lowerable};
 
@@ -28,63 +28,64 @@ use file_parts::{
     CONDITION_VARIABLE, MARKS, MODE_CONDITION_COUNT, MODE_CONDITION_MODE, MODE_CONDITION_VALUE,
     MODE_EFFECT_COUNT, MODE_EFFECT_MODE, MODE_EFFECT_VALUE, NUMBERS,
 };
-use lowering_stages::{Shape, Stage};
+use lowering_stages::{AT_LEAST, AT_MOST, Shape, Stage};
 use lowering_sums::Added;
 use source_step::NUMBERS as WEIGHTS;
 
-// The relation that a restricted file does not have, and the two that stand for it.
+// The relation that a restricted file does not have: equal.
 const EQUAL: u16 = 4;
 
-const AT_LEAST: u8 = 2;
-
-const AT_MOST: u8 = 1;
-
-fn wide(x: u16) -> usize
-    ensures { result ≡ x }
-{
-    x as usize
+// What R keeps of the sums of a task: the number of the variable that it keeps for the first, how many they are, and their weights.
+#[derive(Clone, Copy)]
+pub struct Kept<'a> {
+    pub first: u8,
+    pub sums: usize,
+    pub weights: &'a [i64; WEIGHTS],
 }
 
-fn low(x: u16) -> u8
-    ensures { result ≡ x % 256 }
-{
-    (x % 256) as u8
+// The parts of a row that name a mode: its P and its E.
+#[derive(Clone, Copy)]
+enum ModePart {
+    Condition,
+    Effect,
 }
 
-// An E, or else a P.
-fn put_mode_part(out: &mut [u8], at: usize, effect: bool, mode: u8, value: u16) -> usize
-    requires { Room out.old at (mode_part_bytes effect (mode, value)) }
-    ensures { Wrote out.old at (mode_part_bytes effect (mode, value)) out.new result }
+// A P, or an E.
+fn put_mode_part(out: &mut [u8], at: usize, part: ModePart, mode: u8, value: u16) -> usize
+    requires { Room out.old at (mode_part_bytes part (mode, value)) }
+    ensures { Wrote out.old at (mode_part_bytes part (mode, value)) out.new result }
 {
-    if effect {
-        return commands::put_mode_effect(out, at, mode, value);
+    match part {
+        ModePart::Condition => commands::put_mode_condition(out, at, mode, value),
+        ModePart::Effect => commands::put_mode_effect(out, at, mode, value),
     }
-    commands::put_mode_condition(out, at, mode, value)
 }
 
-// The E of a row, or else its P, by three places in the marks: of their count, of the first mode and of the first value.
-fn put_mode_parts(
-    out: &mut [u8],
-    at: usize,
-    marks: &[u16; MARKS],
-    effects: bool,
-    counted: usize,
-    modes: usize,
-    values: usize,
-) -> usize
-    requires mode_parts_there { ModePartsThere marks.now counted modes values }
-    requires room { Room out.old at (flat_map (mode_part_bytes effects) (mode_parts_in marks.now counted modes values)) }
-    ensures { Wrote out.old at (flat_map (mode_part_bytes effects) (mode_parts_in marks.now counted modes values))
-        out.new result }
+// Where the P or the E of a row stand in its marks: their count, the first mode and the first value.
+fn places_of(part: ModePart) -> (usize, usize, usize)
+    ensures { result ≡ places_of part }
 {
-    let count = wide(marks[counted]);
+    match part {
+        ModePart::Condition => (
+            MODE_CONDITION_COUNT,
+            MODE_CONDITION_MODE,
+            MODE_CONDITION_VALUE,
+        ),
+        ModePart::Effect => (MODE_EFFECT_COUNT, MODE_EFFECT_MODE, MODE_EFFECT_VALUE),
+    }
+}
+
+// The P of a row, or its E.
+fn put_mode_parts(out: &mut [u8], at: usize, marks: &[u16; MARKS], part: ModePart) -> usize
+    requires fit { PartsFit 0 0 0 0 marks.now }
+    requires room { Room out.old at (flat_map (mode_part_bytes part) (mode_parts_in part marks.now)) }
+    ensures { Wrote out.old at (flat_map (mode_part_bytes part) (mode_parts_in part marks.now)) out.new result }
+{
+    let (counted, modes, values) = places_of(part);
     let mut place = at;
-    let mut i: usize = 0;
-    while i < count {
-        let mode = low(marks[modes + i]);
-        let value = marks[values + i];
-        place = put_mode_part(out, place, effects, mode, value);
-        i += 1;
+    for i in 0..marks[counted] as usize {
+        let mode = (marks[modes + i] % 256) as u8;
+        place = put_mode_part(out, place, part, mode, marks[values + i]);
     }
     place
 }
@@ -115,11 +116,9 @@ fn put_conditions(
     ensures { Wrote out.old at (flat_map condition_bytes (in_four (row_is marks.now numbers.now)).conditions)
         out.new result }
 {
-    let count = wide(marks[CONDITION_COUNT]);
     let mut place = at;
-    let mut i: usize = 0;
-    while i < count {
-        let variable = low(marks[CONDITION_VARIABLE + i]);
+    for i in 0..marks[CONDITION_COUNT] as usize {
+        let variable = (marks[CONDITION_VARIABLE + i] % 256) as u8;
         place = put_condition(
             out,
             place,
@@ -127,7 +126,6 @@ fn put_conditions(
             marks[CONDITION_RELATION + i],
             numbers[i],
         );
-        i += 1;
     }
     place
 }
@@ -138,14 +136,11 @@ fn put_additions(out: &mut [u8], at: usize, marks: &[u16; MARKS], numbers: &[i64
     requires room { Room out.old at (flat_map addition_bytes (row_is marks.now numbers.now).additions) }
     ensures { Wrote out.old at (flat_map addition_bytes (row_is marks.now numbers.now).additions) out.new result }
 {
-    let count = wide(marks[ADDITION_COUNT]);
     let mut place = at;
-    let mut i: usize = 0;
-    while i < count {
-        let variable = low(marks[ADDITION_VARIABLE + i]);
+    for i in 0..marks[ADDITION_COUNT] as usize {
+        let variable = (marks[ADDITION_VARIABLE + i] % 256) as u8;
         let bits = integers::bits(numbers[ADDITION_AMOUNT + i]);
         place = commands::put_add(out, place, variable, bits);
-        i += 1;
     }
     place
 }
@@ -163,25 +158,9 @@ pub fn put_row(
     ensures { Wrote out.old at (row_bytes byte (in_four (row_is marks.now numbers.now))) out.new result }
 {
     let modes = lists::put_number(out, at, byte as u32, 1);
-    let conditions = put_mode_parts(
-        out,
-        modes,
-        marks,
-        false,
-        MODE_CONDITION_COUNT,
-        MODE_CONDITION_MODE,
-        MODE_CONDITION_VALUE,
-    );
+    let conditions = put_mode_parts(out, modes, marks, ModePart::Condition);
     let effects = put_conditions(out, conditions, marks, numbers);
-    let additions = put_mode_parts(
-        out,
-        effects,
-        marks,
-        true,
-        MODE_EFFECT_COUNT,
-        MODE_EFFECT_MODE,
-        MODE_EFFECT_VALUE,
-    );
+    let additions = put_mode_parts(out, effects, marks, ModePart::Effect);
     put_additions(out, additions, marks, numbers)
 }
 
@@ -198,49 +177,20 @@ fn put_addition(out: &mut [u8], at: usize, variable: u8, d: i64) -> usize
     commands::put_add(out, at, variable, bits)
 }
 
-// The + on the kept variables, so many, numbered from `first` on, that go with some + of an action.
-fn put_kept(
-    out: &mut [u8],
-    at: usize,
-    added: Added,
-    first: u8,
-    sums: usize,
-    weights: &[i64; WEIGHTS],
-) -> usize
-    requires keeps { Keeps first sums weights.now × AddedSmall added × All Amount (kept_additions first (sums_in sums weights.now) (added_is added)) }
-    requires room { Room out.old at (flat_map addition_bytes (kept_additions first (sums_in sums weights.now) (added_is added))) }
-    ensures { Wrote out.old at (flat_map addition_bytes (kept_additions first (sums_in sums weights.now) (added_is added)))
+// The + on the kept variables that go with some + of an action, behind its bytes.
+fn follow(out: &mut [u8], at: usize, added: Added, kept: Kept) -> usize
+    requires keeps { Keeps kept.first kept.sums kept.weights.now × AddedSmall added × All Amount (kept_additions kept.first (sums_kept kept) (added_is added)) }
+    requires room { Room out.old at (flat_map addition_bytes (kept_additions kept.first (sums_kept kept) (added_is added))) }
+    ensures { Wrote out.old at (flat_map addition_bytes (kept_additions kept.entry.first (sums_kept kept.entry) (added_is added)))
         out.new result }
 {
     let mut place = at;
-    let mut j: usize = 0;
-    while j < sums {
-        let d = lowering_sums::kept_amount(weights, j, added);
-        let variable = first + j as u8;
+    for j in 0..kept.sums {
+        let d = lowering_sums::kept_amount(kept.weights, j, added);
+        let variable = kept.first + j as u8;
         place = put_addition(out, place, variable, d);
-        j += 1;
     }
     place
-}
-
-// The same behind the bytes of the action: where no sum is kept, nothing is looked at.
-fn follow(
-    out: &mut [u8],
-    at: usize,
-    added: Added,
-    first: u8,
-    sums: usize,
-    weights: &[i64; WEIGHTS],
-) -> usize
-    requires keeps { Keeps first sums weights.now × AddedSmall added × All Amount (kept_additions first (sums_in sums weights.now) (added_is added)) }
-    requires room { Room out.old at (flat_map addition_bytes (kept_additions first (sums_in sums weights.now) (added_is added))) }
-    ensures { Wrote out.old at (flat_map addition_bytes (kept_additions first (sums_in sums weights.now) (added_is added)))
-        out.new result }
-{
-    if sums == 0 {
-        return at;
-    }
-    put_kept(out, at, added, first, sums, weights)
 }
 
 // What a stroke of a stage adds.
@@ -265,12 +215,8 @@ fn added_once(variable: u8, d: i64) -> Added
     requires { nat_abs d ≤ most_added }
     ensures { (added_is result ≡ given_is variable d) × AddedSmall result }
 {
-    let mut count: usize = 1;
-    if d == 0 {
-        count = 0;
-    }
     Added {
-        count,
+        count: if d == 0 { 0 } else { 1 },
         variables: [variable, 0, 0, 0],
         amounts: [d, 0, 0, 0],
     }
@@ -281,11 +227,10 @@ fn added_in(marks: &[u16; MARKS], numbers: &[i64; NUMBERS]) -> Added
     requires { OneAddition marks.now numbers.now }
     ensures { (added_is result ≡ additions_in marks.now numbers.now) × AddedSmall result }
 {
-    let count = wide(marks[ADDITION_COUNT]);
-    let variable = low(marks[ADDITION_VARIABLE]);
+    let variable = (marks[ADDITION_VARIABLE] % 256) as u8;
     let d = numbers[ADDITION_AMOUNT];
     Added {
-        count,
+        count: marks[ADDITION_COUNT] as usize,
         variables: [variable, 0, 0, 0],
         amounts: [d, 0, 0, 0],
     }
@@ -302,26 +247,24 @@ fn put_stage(
     control: u8,
     number: u16,
     next: u16,
-    first: u8,
-    sums: usize,
-    weights: &[i64; WEIGHTS],
+    kept: Kept,
 ) -> usize
-    requires marks_len { (length marks.old ≡ MARKS) × (length numbers.old ≡ NUMBERS) × Small s × Keeps first sums weights.now }
-    requires all_fit { AllFit (map (with_kept first (sums_in sums weights.now)) (stage_rows a control number next s)) }
-    requires room { Room out.old at (flat_map (row_bytes letter_a) (map (with_kept first (sums_in sums weights.now)) (stage_rows a control number next s))) }
+    requires marks_len { (length marks.old ≡ MARKS) × (length numbers.old ≡ NUMBERS) × Small s × Keeps kept.first kept.sums kept.weights.now }
+    requires all_fit { AllFit (map (with_kept kept.first (sums_kept kept)) (stage_rows a control number next s)) }
+    requires room { Room out.old at (flat_map (row_bytes letter_a) (map (with_kept kept.first (sums_kept kept)) (stage_rows a control number next s))) }
     ensures { WroteRows out.old at
-        (flat_map (row_bytes letter_a) (map (with_kept first (sums_in sums weights.now)) (stage_rows a control number next s)))
+        (flat_map (row_bytes letter_a) (map (with_kept kept.entry.first (sums_kept kept.entry)) (stage_rows a control number next s)))
         out.new result marks.new numbers.new }
 {
     lowering_stages::push_stroke(marks, numbers, s, true, control, number);
     let fallen = put_row(out, at, commands::ACTION_BYTE, marks, numbers);
-    let second = follow(out, fallen, added_by(s, true), first, sums, weights);
+    let second = follow(out, fallen, added_by(s, true), kept);
     lowering_stages::push_stroke(marks, numbers, s, false, control, number);
     let risen = put_row(out, second, commands::ACTION_BYTE, marks, numbers);
-    let third = follow(out, risen, added_by(s, false), first, sums, weights);
+    let third = follow(out, risen, added_by(s, false), kept);
     lowering_stages::push_turn(marks, numbers, s, a, control, number, next);
     let turned = put_row(out, third, commands::ACTION_BYTE, marks, numbers);
-    follow(out, turned, added_once(a, s.gives), first, sums, weights)
+    follow(out, turned, added_once(a, s.gives), kept)
 }
 
 // The stages, so many, of an action with these effects; they are numbered from `from`. Its rows are its own and not lent, so that they need not
@@ -333,16 +276,14 @@ fn put_stages(
     shape: Shape,
     count: usize,
     from: u16,
-    first: u8,
-    sums: usize,
-    weights: &[i64; WEIGHTS],
+    kept: Kept,
 ) -> usize
-    requires bounded { Bounded shape × PlacesOk shape.variables effects × Keeps first sums weights.now }
+    requires bounded { Bounded shape × PlacesOk shape.variables effects × Keeps kept.first kept.sums kept.weights.now }
     requires count_value { (count ≡ length (stages_in shape effects)) × (count ≤ most_stages) × (0 < from) × (from ≤ stage_numbers) }
-    requires all_fit { AllFit (kept_stages first (sums_in sums weights.now) shape.variables shape.modes from (stages_in shape effects)) }
-    requires room { Room out.old at (stages_bytes first (sums_in sums weights.now) shape.variables shape.modes from (stages_in shape effects)) }
+    requires all_fit { AllFit (kept_stages kept.first (sums_kept kept) shape.variables shape.modes from (stages_in shape effects)) }
+    requires room { Room out.old at (stages_bytes kept.first (sums_kept kept) shape.variables shape.modes from (stages_in shape effects)) }
     ensures { Wrote out.old at
-        (stages_bytes first (sums_in sums weights.now) shape.variables shape.modes from (stages_in shape effects))
+        (stages_bytes kept.entry.first (sums_kept kept.entry) shape.variables shape.modes from (stages_in shape effects))
         out.new result }
 {
     let a = shape.variables as u8;
@@ -351,11 +292,9 @@ fn put_stages(
     let mut numbers = [0i64; NUMBERS];
     let mut place = at;
     let mut number = from;
-    let mut j: usize = 0;
-    while j < count {
+    for j in 0..count {
         let stage = lowering_stages::stage_at(effects, shape, a, j);
-        j += 1;
-        let next = lowering_stages::next_stage(number, count - j);
+        let next = lowering_stages::next_stage(number, count - (j + 1));
         place = put_stage(
             out,
             place,
@@ -366,9 +305,7 @@ fn put_stages(
             control,
             number,
             next,
-            first,
-            sums,
-            weights,
+            kept,
         );
         number += 1;
     }
@@ -394,15 +331,13 @@ fn put_opening(
     effects: Effects,
     shape: Shape,
     next: u16,
-    first: u8,
-    sums: usize,
-    weights: &[i64; WEIGHTS],
+    kept: Kept,
 ) -> usize
-    requires lowerable { Lowerable shape marks.old numbers.old effects × Keeps first sums weights.now }
-    requires fit { Fit (with_kept first (sums_in sums weights.now) (opening_in shape next (effects_is effects) (row_is marks.old numbers.old))) }
-    requires room { Room out.old at (row_bytes letter_a (in_four (with_kept first (sums_in sums weights.now)
+    requires lowerable { Lowerable shape marks.old numbers.old effects × Keeps kept.first kept.sums kept.weights.now }
+    requires fit { Fit (with_kept kept.first (sums_kept kept) (opening_in shape next (effects_is effects) (row_is marks.old numbers.old))) }
+    requires room { Room out.old at (row_bytes letter_a (in_four (with_kept kept.first (sums_kept kept)
         (opening_in shape next (effects_is effects) (row_is marks.old numbers.old))))) }
-    ensures { WroteRows out.old at (row_bytes letter_a (in_four (with_kept first (sums_in sums weights.now)
+    ensures { WroteRows out.old at (row_bytes letter_a (in_four (with_kept kept.entry.first (sums_kept kept.entry)
         (opening_in shape next (effects_is effects) (row_is marks.old numbers.old)))))
         out.new result marks.new numbers.new }
 {
@@ -410,7 +345,7 @@ fn put_opening(
     let control = shape.modes as u8;
     lowering_stages::push_opening(marks, numbers, effects, shape, a, control, next);
     let behind = put_row(out, at, commands::ACTION_BYTE, marks, numbers);
-    follow(out, behind, added_in(marks, numbers), first, sums, weights)
+    follow(out, behind, added_in(marks, numbers), kept)
 }
 
 // What a source action becomes whose C, P and E, its K's as C on kept variables, stand in two lent rows, its stages being numbered from `from`.
@@ -423,24 +358,18 @@ pub fn put_macro(
     effects: Effects,
     shape: Shape,
     from: u16,
-    first: u8,
-    sums: usize,
-    weights: &[i64; WEIGHTS],
+    kept: Kept,
 ) -> usize
-    requires lowerable { Lowerable shape marks.old numbers.old effects × Keeps first sums weights.now × (0 < from) × (from ≤ stage_numbers)
-        × AllFit (macro_with first (sums_in sums weights.now) shape from (effects_is effects) (row_is marks.old numbers.old)) }
+    requires lowerable { Lowerable shape marks.old numbers.old effects × Keeps kept.first kept.sums kept.weights.now × (0 < from) × (from ≤ stage_numbers)
+        × AllFit (macro_with kept.first (sums_kept kept) shape from (effects_is effects) (row_is marks.old numbers.old)) }
     requires room { Room out.old at (flat_map restricted_action_bytes
-        (macro_with first (sums_in sums weights.now) shape from (effects_is effects) (row_is marks.old numbers.old))) }
+        (macro_with kept.first (sums_kept kept) shape from (effects_is effects) (row_is marks.old numbers.old))) }
     ensures { WroteRows out.old at (flat_map restricted_action_bytes
-        (macro_with first (sums_in sums weights.now) shape from (effects_is effects) (row_is marks.old numbers.old)))
+        (macro_with kept.entry.first (sums_kept kept.entry) shape from (effects_is effects) (row_is marks.old numbers.old)))
         out.new result marks.new numbers.new }
 {
     let count = lowering_stages::stage_count(effects);
     let next = first_stage(from, count);
-    let place = put_opening(
-        out, at, marks, numbers, effects, shape, next, first, sums, weights,
-    );
-    put_stages(
-        out, place, effects, shape, count, from, first, sums, weights,
-    )
+    let place = put_opening(out, at, marks, numbers, effects, shape, next, kept);
+    put_stages(out, place, effects, shape, count, from, kept)
 }

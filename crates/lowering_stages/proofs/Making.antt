@@ -7,14 +7,18 @@ use native.Mathlib.Omega.{arith}
 use mathlib.Core.Bool.{true, false}
 use mathlib.Core.List.{List, [], ◌∷◌}
 use lib.Dec.{lit≤}
-use lib.IntN.{ℤ, pos, negsuc, nat_abs, neg_ℤ}
+use lib.IntN.{ℤ, pos, negsuc, nat_abs, neg_ℤ, ◌-ℤ◌}
+use Rattle.std.specs.Int.{int_signum}
 use Rattle.integers.specs.Division.{unit_less, sign}
 use Rattle.lists.specs.Each.{tabulate}
+use Rattle.model.specs.Limits.{source_limits}
+use Rattle.model.specs.TaskOk.{Factor}
 use Rattle.model.specs.Steps.{integer_at}
 use Rattle.model.specs.Stages.{Name, hold, drain, refill, divide, empty, move, move_to_hold}
 use Rattle.model.specs.Lowering.{number_of_name, numbered_additions}
 use Rattle.lowering_stages.specs.declared.Stage.{Stage as Numbers}
 use Rattle.lowering_stages.specs.Stages.{given_is, Small, Stands}
+use Rattle.lowering_stages.proofs.Numbers.{zero_minus}
 
 abbrev giving : ℕ → ℤ → ℕ → List ℕ → List ℤ → ℤ → Numbers
 giving counter unit added variables amounts gives = record {
@@ -84,20 +88,27 @@ refill-stands a t = record {
   adds = ap (λ (b : ℕ). (t, pos 1) ∷ (b, negsuc 0) ∷ []) (add-one a);
 }
 
-pub divide-stands : (a : ℕ) (c u n s : ℤ) → u ≡ pos (suc (unit_less c)) → nat_abs u ≤ 10000 → n ≡ neg_ℤ u → s ≡ sign c → nat_abs s ≤ 10000
-    → Stands a (divide c) (numbers_of a u 2 (a ∷ (a + 1) ∷ 0 ∷ 0 ∷ []) (n ∷ s ∷ pos 0 ∷ pos 0 ∷ []))
+-- the unit of a c that is not 0 is |c|, and its sign is that of a number
+divided : (a n : ℕ) (u s : ℤ) (c : ℤ) → unit_less c ≡ n → u ≡ pos (suc n) → nat_abs u ≤ 10000 → s ≡ sign c → nat_abs s ≤ 10000
+    → Stands a (divide c) (numbers_of a u 2 (a ∷ (a + 1) ∷ 0 ∷ 0 ∷ []) ((pos 0 -ℤ u) ∷ s ∷ pos 0 ∷ pos 0 ∷ []))
 unfolding tabulate
-divide-stands a c u n s is_unit h is_loss is_sign g =
-    let k : nat_abs n ≤ 10000 = rw (is_loss, is_unit) (omega (arith, rw is_unit at h)) in
-    record {
-      small = small n s (pos 0) (pos 0) k g (lit≤ tt) (lit≤ tt) a u 2 (a ∷ (a + 1) ∷ 0 ∷ 0 ∷ []) h (lit≤ tt);
+divided a n u s c e is_unit h is_sign g =
+    let k : nat_abs (neg_ℤ u) ≤ 10000 = rw is_unit (omega (arith, rw is_unit at h)) in
+    rw (zero_minus u) (record {
+      small = small (neg_ℤ u) s (pos 0) (pos 0) k g (lit≤ tt) (lit≤ tt) a u 2 (a ∷ (a + 1) ∷ 0 ∷ 0 ∷ []) h (lit≤ tt);
       counter = refl;
-      unit = is_unit;
+      unit = rw (is_unit, e);
       deep = refl;
       asks = refl;
       gives = refl;
-      adds = rw (add-one, is_loss, is_unit, is_sign);
-    }
+      adds = rw (add-one, is_unit, e, is_sign);
+    })
+
+pub divide-stands : (a : ℕ) (c : ℤ) → Factor source_limits c
+    → Stands a (divide c) (numbers_of a (pos (nat_abs c)) 2 (a ∷ (a + 1) ∷ 0 ∷ 0 ∷ []) ((pos 0 -ℤ pos (nat_abs c)) ∷ int_signum c ∷ pos 0 ∷ pos 0 ∷ []))
+divide-stands a (pos zero) h = absurd (omega (arith, h.0))
+divide-stands a (pos (suc n)) h = divided a n (pos (suc n)) (int_signum (pos (suc n))) (pos (suc n)) refl refl h.1 (ap pos (omega arith)) (omega arith)
+divide-stands a (negsuc n) h = divided a n (pos (suc n)) (negsuc 0) (negsuc n) refl refl h.1 refl (lit≤ tt)
 
 pub empty_stands : (v a : ℕ) (name : Name) → v ≡ number_of_name a name → Stands a (empty name) (numbers_of v (pos 1) 1 (v ∷ 0 ∷ 0 ∷ 0 ∷ []) (negsuc 0 ∷ pos 0 ∷ pos 0 ∷ pos 0 ∷ []))
 unfolding tabulate

@@ -39,6 +39,11 @@ pub struct Shape {
     pub sizes: [u16; MODES],
 }
 
+// Two relations of a C by their numbers: ≤ and ≥.
+pub const AT_MOST: u8 = 1;
+
+pub const AT_LEAST: u8 = 2;
+
 // The most that a stroke adds.
 const ADDED: usize = 4;
 
@@ -59,53 +64,32 @@ pub struct Stage {
     pub gives: i64,
 }
 
-// −z.
-fn negated(z: i64) -> i64
-    requires { InRange source_limits z }
-    ensures { result ≡ neg_ℤ z }
-{
-    0 - z
-}
-
-// |c|, of a c that is not 0.
-fn unit_of(c: i64) -> i64
-    requires { Factor source_limits c }
-    ensures { (result ≡ pos (suc (unit_less c))) × InRange source_limits result }
-{
-    if 0 < c {
-        return c;
-    }
-    0 - c
-}
-
-// 1 or −1, the sign of c.
-fn sign_of(c: i64) -> i64
-    ensures { (result ≡ sign c) × InRange source_limits result }
-{
-    if c < 0 {
-        return -1;
-    }
-    1
-}
+// What the stages have in common that ask for no bounds and give nothing.
+const PLAIN: Stage = Stage {
+    counter: 0,
+    unit: 1,
+    deep: 0,
+    added: 2,
+    variables: [0; ADDED],
+    amounts: [0; ADDED],
+    bounded: false,
+    target: 0,
+    lower: 0,
+    upper: 0,
+    gives: 0,
+};
 
 // Drain of a variable.
 fn drain_of(a: u8, t: u8, w: i64) -> Stage
     requires { (a ≤ VARIABLES) × InRange source_limits w }
     ensures { Stands a (drain t w) result }
 {
-    let b = a + 1;
     Stage {
         counter: t,
-        unit: 1,
-        deep: 0,
         added: 3,
-        variables: [t, a, b, 0],
+        variables: [t, a, a + 1, 0],
         amounts: [-1, w, 1, 0],
-        bounded: false,
-        target: 0,
-        lower: 0,
-        upper: 0,
-        gives: 0,
+        ..PLAIN
     }
 }
 
@@ -114,19 +98,11 @@ fn refill_of(a: u8, t: u8) -> Stage
     requires { a ≤ VARIABLES }
     ensures { Stands a (refill t) result }
 {
-    let b = a + 1;
     Stage {
-        counter: b,
-        unit: 1,
-        deep: 0,
-        added: 2,
-        variables: [t, b, 0, 0],
+        counter: a + 1,
+        variables: [t, a + 1, 0, 0],
         amounts: [1, -1, 0, 0],
-        bounded: false,
-        target: 0,
-        lower: 0,
-        upper: 0,
-        gives: 0,
+        ..PLAIN
     }
 }
 
@@ -135,22 +111,13 @@ fn divide_of(a: u8, c: i64) -> Stage
     requires { (a ≤ VARIABLES) × Factor source_limits c }
     ensures { Stands a (divide c) result }
 {
-    let b = a + 1;
-    let unit = unit_of(c);
-    let loss = negated(unit);
-    let gain = sign_of(c);
+    let unit = c.abs();
     Stage {
         counter: a,
         unit,
-        deep: 0,
-        added: 2,
-        variables: [a, b, 0, 0],
-        amounts: [loss, gain, 0, 0],
-        bounded: false,
-        target: 0,
-        lower: 0,
-        upper: 0,
-        gives: 0,
+        variables: [a, a + 1, 0, 0],
+        amounts: [-unit, c.signum(), 0, 0],
+        ..PLAIN
     }
 }
 
@@ -160,16 +127,10 @@ fn empty_of(v: u8) -> Stage
 {
     Stage {
         counter: v,
-        unit: 1,
-        deep: 0,
         added: 1,
         variables: [v, 0, 0, 0],
         amounts: [-1, 0, 0, 0],
-        bounded: false,
-        target: 0,
-        lower: 0,
-        upper: 0,
-        gives: 0,
+        ..PLAIN
     }
 }
 
@@ -180,16 +141,13 @@ fn move_of(t: u8, v: u8, lower: i64, upper: i64) -> Stage
 {
     Stage {
         counter: v,
-        unit: 1,
-        deep: 0,
-        added: 2,
         variables: [t, v, 0, 0],
         amounts: [1, -1, 0, 0],
         bounded: true,
         target: t,
         lower,
         upper,
-        gives: 0,
+        ..PLAIN
     }
 }
 
@@ -207,20 +165,12 @@ fn hold_of(a: u8, e: usize, v: u8, gives: i64) -> Stage
     ensures { (name : Name) (entering : List (Name × ℤ)) → v ≡ number_of_name a name → given_is a gives ≡ numbered_additions a entering
         → Stands a (move_to_hold e name entering) result }
 {
-    let hold = hold_number(a, e);
-    let bounded = false;
     Stage {
         counter: v,
-        unit: 1,
-        deep: 0,
-        added: 2,
-        variables: [v, hold, 0, 0],
+        variables: [v, hold_number(a, e), 0, 0],
         amounts: [-1, 1, 0, 0],
-        bounded,
-        target: 0,
-        lower: 0,
-        upper: 0,
         gives,
+        ..PLAIN
     }
 }
 
@@ -278,13 +228,10 @@ fn result_count(place: NumericEffect) -> usize
     requires { place.term_count ≤ term_room }
     ensures { (result ≡ length (result_stages (numeric_is place) [])) × (result ≤ most_result_stages) }
 {
-    let effect = place.effect;
-    match effect {
-        Effect::None => 2,
-        Effect::Add(_, _) => 2,
+    match place.effect {
+        Effect::None | Effect::Add(_, _) => 2,
         Effect::Linear(_, _) => 2 * place.term_count,
-        Effect::Quotient(_, _, _) => 4,
-        Effect::Residue(_, _, _) => 4,
+        Effect::Quotient(_, _, _) | Effect::Residue(_, _, _) => 4,
     }
 }
 
@@ -293,13 +240,9 @@ fn result_in(place: NumericEffect, a: u8) -> u8
     requires { a ≤ VARIABLES }
     ensures { result ≡ number_of_name a (result_in (numeric_is place)) }
 {
-    let effect = place.effect;
-    match effect {
-        Effect::None => a,
-        Effect::Add(_, _) => a,
-        Effect::Linear(_, _) => a,
+    match place.effect {
+        Effect::None | Effect::Add(_, _) | Effect::Linear(_, _) | Effect::Residue(_, _, _) => a,
         Effect::Quotient(_, _, _) => a + 1,
-        Effect::Residue(_, _, _) => a,
     }
 }
 
@@ -307,13 +250,10 @@ fn result_in(place: NumericEffect, a: u8) -> u8
 fn target_of(place: NumericEffect) -> u8
     ensures { result ≡ target (numeric_is place) }
 {
-    let effect = place.effect;
-    match effect {
+    match place.effect {
         Effect::None => 0,
-        Effect::Add(t, _) => t,
-        Effect::Linear(t, _) => t,
-        Effect::Quotient(t, _, _) => t,
-        Effect::Residue(t, _, _) => t,
+        Effect::Add(t, _) | Effect::Linear(t, _) => t,
+        Effect::Quotient(t, _, _) | Effect::Residue(t, _, _) => t,
     }
 }
 
@@ -321,13 +261,10 @@ fn target_of(place: NumericEffect) -> u8
 fn entering_amount(place: NumericEffect) -> i64
     ensures { result ≡ entering_amount (numeric_is place) }
 {
-    let effect = place.effect;
-    match effect {
-        Effect::None => 0,
+    match place.effect {
+        Effect::None | Effect::Quotient(_, _, _) | Effect::Residue(_, _, _) => 0,
         Effect::Add(_, c) => c,
         Effect::Linear(_, w) => w,
-        Effect::Quotient(_, _, _) => 0,
-        Effect::Residue(_, _, _) => 0,
     }
 }
 
@@ -339,8 +276,7 @@ fn set_stage(shape: Shape, t: u8, v: u8, j: usize) -> Stage
     if j == 0 {
         return empty_of(t);
     }
-    let lower = lower_of(shape, t);
-    let upper = upper_of(shape, t);
+    let (lower, upper) = bounds_of(shape, t);
     move_of(t, v, lower, upper)
 }
 
@@ -363,13 +299,10 @@ fn single_count(place: NumericEffect) -> usize
     requires { place.term_count ≤ term_room }
     ensures { ((lower upper : ℕ → ℤ) → result ≡ length (single_stages lower upper (numeric_is place))) × (result ≤ most_result_stages + 2) }
 {
-    let effect = place.effect;
-    match effect {
-        Effect::None => 0,
-        Effect::Add(_, _) => 0,
+    match place.effect {
+        Effect::None | Effect::Add(_, _) => 0,
         Effect::Linear(_, _) => 2 * place.term_count + 2,
-        Effect::Quotient(_, _, _) => 6,
-        Effect::Residue(_, _, _) => 6,
+        Effect::Quotient(_, _, _) | Effect::Residue(_, _, _) => 6,
     }
 }
 
@@ -415,7 +348,7 @@ fn unload_stage(effects: Effects, shape: Shape, a: u8, j: usize) -> Stage
 }
 
 // Where a stage of several effects stands.
-#[derive(Drop)]
+#[derive(Clone, Copy)]
 struct Found {
     effect: usize,
     stage: usize,
@@ -426,12 +359,9 @@ fn find_stage(effects: Effects, j: usize) -> Found
     requires { PlacesFew effects }
     ensures { FoundAt (effects_is effects) j result }
 {
-    let count = effects.count;
-    let mut e: usize = 0;
     let mut left = j;
-    while e < count {
-        let place = effects.places[e];
-        let last = result_count(place);
+    for e in 0..effects.count {
+        let last = result_count(effects.places[e]);
         if left <= last {
             return Found {
                 effect: e,
@@ -439,10 +369,9 @@ fn find_stage(effects: Effects, j: usize) -> Found
             };
         }
         left -= last + 1;
-        e += 1;
     }
     Found {
-        effect: e,
+        effect: effects.count,
         stage: left,
     }
 }
@@ -472,13 +401,9 @@ fn several_count(effects: Effects) -> usize
     ensures { ((lower upper : ℕ → ℤ) → result ≡ length (hold_stages 0 (effects_is effects) (unload_stages lower upper 0 (effects_is effects))))
         × (result ≤ most_stages) }
 {
-    let count = effects.count;
-    let mut total: usize = 0;
-    let mut e: usize = 0;
-    while e < count {
-        let place = effects.places[e];
-        total += result_count(place) + 3;
-        e += 1;
+    let mut total = 0;
+    for e in 0..effects.count {
+        total += result_count(effects.places[e]) + 3;
     }
     total
 }
@@ -511,55 +436,22 @@ pub fn next_stage(number: u16, following: usize) -> u16
 }
 
 // The bounds of a variable.
-fn lower_of(shape: Shape, variable: u8) -> i64
+fn bounds_of(shape: Shape, variable: u8) -> (i64, i64)
     requires { shape.variables ≤ VARIABLES }
-    ensures { result ≡ lower_of shape variable }
+    ensures { (result.0 ≡ lower_of shape variable) × (result.1 ≡ upper_of shape variable) }
 {
-    let lower = shape.lower;
-    source_step::value_at(&lower, shape.variables, variable)
+    (
+        source_step::value_of(&shape.lower, shape.variables, variable as u16),
+        source_step::value_of(&shape.upper, shape.variables, variable as u16),
+    )
 }
 
-fn upper_of(shape: Shape, variable: u8) -> i64
-    requires { shape.variables ≤ VARIABLES }
-    ensures { result ≡ upper_of shape variable }
-{
-    let upper = shape.upper;
-    source_step::value_at(&upper, shape.variables, variable)
-}
-
-// x − y.
-fn difference(x: i64, y: i64) -> i64
-    requires { (nat_abs x ≤ 20000) × (nat_abs y ≤ 20000) }
-    ensures { result ≡ x -ℤ y }
-{
-    x - y
-}
-
-// Of a stroke, falling or rising: its relation, its constant, and an amount.
-fn relation_of(falls: bool) -> u8
-    ensures { result ≡ cond falls 2 1 }
-{
-    if falls { 2 } else { 1 }
-}
-
-fn threshold(falls: bool, unit: i64, deep: i64) -> i64
-    requires { InRange source_limits unit × InRange source_limits deep }
-    ensures { result ≡ threshold_is falls unit deep }
-{
-    if falls {
-        return difference(unit, deep);
-    }
-    difference(-1, deep)
-}
-
+// Of a stroke, falling or rising, an amount.
 pub fn signed_by(falls: bool, x: i64) -> i64
     requires { InRange source_limits x }
     ensures { result ≡ signed falls x }
 {
-    if falls {
-        return x;
-    }
-    negated(x)
+    if falls { x } else { -x }
 }
 
 // One addition of a stroke: to this variable this amount, or its opposite where the stroke rises.
@@ -616,9 +508,12 @@ pub fn push_stroke(
 {
     file_parts::blank(marks);
     file_parts::push_mode_condition(marks, control, number);
-    let relation = relation_of(falls);
-    let constant = threshold(falls, s.unit, s.deep);
-    file_parts::push_condition(marks, numbers, s.counter, relation, constant);
+    let (relation, reach) = if falls {
+        (AT_LEAST, s.unit)
+    } else {
+        (AT_MOST, -1)
+    };
+    file_parts::push_condition(marks, numbers, s.counter, relation, reach - s.deep);
     push_added(marks, numbers, falls, s);
 }
 
@@ -627,11 +522,9 @@ fn push_bounds(marks: &mut [u16; MARKS], numbers: &mut [i64; NUMBERS], s: Stage)
     requires { PartsFit 2 0 0 0 marks.old × (length numbers.old ≡ NUMBERS) }
     ensures { Says (with_conditions (row_is marks.old numbers.old) (asked_is s)) marks.new numbers.new }
 {
-    let bounded = s.bounded;
-    if bounded {
-        file_parts::push_condition(marks, numbers, s.target, 2, s.lower);
-        file_parts::push_condition(marks, numbers, s.target, 1, s.upper);
-        return;
+    if s.bounded {
+        file_parts::push_condition(marks, numbers, s.target, AT_LEAST, s.lower);
+        file_parts::push_condition(marks, numbers, s.target, AT_MOST, s.upper);
     }
 }
 
@@ -661,12 +554,8 @@ pub fn push_turn(
 {
     file_parts::blank(marks);
     file_parts::push_mode_condition(marks, control, number);
-    let counter = s.counter;
-    let least = difference(0, s.deep);
-    file_parts::push_condition(marks, numbers, counter, 2, least);
-    let past = difference(s.unit, s.deep);
-    let most = difference(past, 1);
-    file_parts::push_condition(marks, numbers, counter, 1, most);
+    file_parts::push_condition(marks, numbers, s.counter, AT_LEAST, 0 - s.deep);
+    file_parts::push_condition(marks, numbers, s.counter, AT_MOST, s.unit - s.deep - 1);
     push_bounds(marks, numbers, s);
     file_parts::push_mode_effect(marks, control, next);
     push_given(marks, numbers, a, s.gives);
@@ -686,12 +575,10 @@ fn push_bound(
         marks.new numbers.new }
 {
     if 0 < c {
-        let most = difference(upper, c);
-        file_parts::push_condition(marks, numbers, t, 1, most);
+        file_parts::push_condition(marks, numbers, t, AT_MOST, upper - c);
         return;
     }
-    let least = difference(lower, c);
-    file_parts::push_condition(marks, numbers, t, 2, least);
+    file_parts::push_condition(marks, numbers, t, AT_LEAST, lower - c);
 }
 
 // What the opening or single action of a single effect needs and adds besides.
@@ -706,18 +593,15 @@ fn push_single(
     ensures { Says (with_numeric a (lower_of shape) (upper_of shape) (numeric_is place ∷ []) (row_is marks.old numbers.old))
         marks.new numbers.new }
 {
-    let effect = place.effect;
-    match effect {
+    match place.effect {
         Effect::None => {}
         Effect::Add(t, c) => {
-            let lower = lower_of(shape, t);
-            let upper = upper_of(shape, t);
+            let (lower, upper) = bounds_of(shape, t);
             push_bound(marks, numbers, t, c, lower, upper);
             file_parts::push_addition(marks, numbers, t, c);
         }
         Effect::Linear(_, w) => push_given(marks, numbers, a, w),
-        Effect::Quotient(_, _, _) => {}
-        Effect::Residue(_, _, _) => {}
+        Effect::Quotient(_, _, _) | Effect::Residue(_, _, _) => {}
     }
 }
 

@@ -28,6 +28,9 @@ abs-fits z h = omega (ints, abs z)
 pub product_small : (value weight : ℤ) → nat_abs value ≤ most_added → nat_abs weight ≤ most_weight → nat_abs (value *ℤ weight) ≤ most_part
 product_small value weight h k = let m : nat_abs value * nat_abs weight ≤ most_added * most_weight = mul-le-mul h k in rw (mul-abs value weight) m
 
+pub sum_fits : (total part : ℤ) → nat_abs total ≤ ADDED * most_part → nat_abs part ≤ most_part → SFits w64 (total +ℤ part)
+sum_fits total part h k = abs-fits (total +ℤ part) (omega (arith, abs-sum total part))
+
 -- ---- a + of d on variable x
 module _ (weights : List ℤ) (j : ℕ) (d : ℤ) (x : ℕ) where
   pub amount-weighed : x < VARIABLES → d *ℤ entry weights j x ≡ weigh (weights_in weights j) (amount d x)

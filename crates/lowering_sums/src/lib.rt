@@ -5,13 +5,13 @@
 // It never reads a file and decodes no K. It knows no stage, and of a parts row only its C.
 #![tactic(auto)]
 
-ghost use Rattle.std.specs.Prelude.{◌≡◌, ◌+◌, ◌*◌, ◌≤◌, ◌<◌, length, take, nat_abs, ◌+ℤ◌, ◌*ℤ◌};
+ghost use Rattle.std.specs.Prelude.{◌≡◌, ◌+◌, ◌*◌, ◌≤◌, ◌<◌, length, take, nat_abs};
 ghost use mathlib.Core.List.{flat_map};
 ghost use Rattle.integers.specs.All.{All};
 ghost use Rattle.lists.specs.Writing.{Room, Wrote};
 ghost use Rattle.model.specs.Steps.{weigh};
 ghost use Rattle.source_step.specs.Sizes.{VARIABLES};
-ghost use Rattle.source_step.specs.Row.{weights_in, ValuesNear, WeightsSmall, most_weight};
+ghost use Rattle.source_step.specs.Row.{weights_in, ValuesNear, WeightsSmall};
 ghost use Rattle.file_parts.specs.Layout.{NUMBERS};
 ghost use Rattle.file_parts.specs.Row.{row_is, PartsFit, Says};
 ghost use Rattle.file_parts.specs.With.{with_conditions};
@@ -34,36 +34,14 @@ pub struct Added {
     pub amounts: [i64; ADDED],
 }
 
-fn wide(x: u8) -> usize
-    ensures { result ≡ x }
-{
-    x as usize
-}
-
-// z + w.
-fn plus(z: i64, w: i64) -> i64
-    requires { (nat_abs z ≤ 1000000000000) × (nat_abs w ≤ 1000000000000) }
-    ensures { result ≡ z +ℤ w }
-{
-    z + w
-}
-
-// value × weight.
-fn product(value: i64, weight: i64) -> i64
-    requires { (nat_abs value ≤ most_added) × (nat_abs weight ≤ most_weight) }
-    ensures { (result ≡ value *ℤ weight) × (nat_abs result ≤ most_part) }
-{
-    value * weight
-}
-
 // What a + of so much on a variable adds to sum j.
 fn kept_part(weights: &[i64; WEIGHTS], j: usize, variable: u8, d: i64) -> i64
     requires { (j < sum_room) × WeightsSmall weights.now × (nat_abs d ≤ most_added) }
     ensures { (result ≡ weigh (weights_in weights.now j) (amount d variable)) × (nat_abs result ≤ most_part) }
 {
-    let v = wide(variable);
+    let v = variable as usize;
     if v < VARIABLES {
-        return product(d, weights[VARIABLES * j + v]);
+        return d * weights[VARIABLES * j + v];
     }
     0
 }
@@ -73,15 +51,9 @@ pub fn kept_amount(weights: &[i64; WEIGHTS], j: usize, added: Added) -> i64
     requires { (j < sum_room) × WeightsSmall weights.now × AddedSmall added }
     ensures { (result ≡ weigh (weights_in weights.now j) (added_to (added_is added))) × (nat_abs result ≤ ADDED * most_part) }
 {
-    let count = added.count;
-    let variables = added.variables;
-    let amounts = added.amounts;
-    let mut total: i64 = 0;
-    let mut e: usize = 0;
-    while e < count {
-        let part = kept_part(weights, j, variables[e], amounts[e]);
-        total = plus(total, part);
-        e += 1;
+    let mut total = 0;
+    for e in 0..added.count {
+        total += kept_part(weights, j, added.variables[e], added.amounts[e]);
     }
     total
 }
@@ -97,13 +69,15 @@ pub fn push_sums(
     ensures { Says (with_conditions (row_is marks.old numbers.old) (on_kept variable (conditions_is own)))
         marks.new numbers.new }
 {
-    let count = own.count;
-    let mut i: usize = 0;
-    while i < count {
-        let place = own.places[i];
+    for i in 0..own.count {
         let kept = variable + i as u8;
-        file_parts::push_condition(marks, numbers, kept, place.relation, place.constant);
-        i += 1;
+        file_parts::push_condition(
+            marks,
+            numbers,
+            kept,
+            own.places[i].relation,
+            own.places[i].constant,
+        );
     }
 }
 
@@ -123,12 +97,10 @@ pub fn put_sum_starts(
         out.new result }
 {
     let mut place = at;
-    let mut j: usize = 0;
-    while j < sums {
+    for j in 0..sums {
         let start = source_step::sum_of(starts, n, weights, j);
         let bits = integers::bits(start);
         place = commands::put_start(out, place, bits);
-        j += 1;
     }
     place
 }

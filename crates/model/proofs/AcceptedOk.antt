@@ -14,7 +14,7 @@ use Rattle.integers.proofs.All.{all_of_map}
 use Rattle.commands.specs.declared.Command.{Command}
 use Rattle.commands.specs.declared.Command.TheVariants.{Variable, Start, Mode, Action, Condition, ModeCondition, ModeEffect, Add, Linear, Term, Quotient}
 use Rattle.commands.specs.declared.Command.TheVariants.{Residue, Goal, End, Sum, Refused}
-use Rattle.lists.specs.Answer.{given}
+use Rattle.answers.specs.Answer.{given}
 use Rattle.model.specs.Limits.{Limits, source_limits, restricted_limits}
 use Rattle.model.specs.ReadingState.{ReadingState, begin, opened, with_variable, with_mode}
 use Rattle.model.specs.Rules.{tests_of, next_of, constant}

@@ -7,7 +7,7 @@ use mathlib.Core.List.{List, ◌++◌}
 use lib.ListN.{length, take, drop}
 use lib.Seq.{take-append_seam}
 use lib.Dec.{leb}
-use Rattle.lists.specs.Answer.{Answer, given, refused, then, lent}
+use Rattle.answers.specs.Answer.{Answer, given, refused, then, lent}
 
 abbrev pub Gives : {A : Type 0} → Answer A → Type 0
 Gives (given a) = Unit {0}

@@ -12,7 +12,7 @@ use lib.Dec.{T}
 use borrow.Author.Tests.{eq-eqb}
 use Rattle.integers.specs.All.{All}
 use Rattle.integers.specs.Numbers.{Bytes}
-use Rattle.lists.specs.Answer.{Answer, given, then, lent}
+use Rattle.answers.specs.Answer.{Answer, given, then, lent}
 use Rattle.lists.proofs.Numbers.{halves-numbers}
 use Rattle.model.specs.Systems.{run_plan, total_price}
 use Rattle.model.specs.Steps.{conditions_hold, modes_hold, integer_at, natural_at, sound_source, sound_restricted, sizes_of, lower_bounds, upper_bounds}

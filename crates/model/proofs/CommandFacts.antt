@@ -88,7 +88,7 @@ module _ (l : Limits) (p : ReadingState) (c : Command) (g : (rule_of l p c).prog
 pub alive-is-no-refusal : (l : Limits) (p : ReadingState) (c : Command) → Alive (rule_of l p c).progress → NoRefusal c
 unfolding tests_of
 alive-is-no-refusal l p = row-or-refusal (λ (c : Command). Alive (rule_of l p c).progress → NoRefusal c) (λ c h a. h)
-    (λ number a. subst (λ (x : Taken). Alive x.progress) (own-alive l p (Refused number) a) a)
+    (λ reason a. subst (λ (x : Taken). Alive x.progress) (own-alive l p (Refused reason) a) a)
 
 -- only a refusal has byte 0
 pub has-no-zero : (c : Command) → NoRefusal c → eqb (byte_of c) 0 ≡ false

@@ -11,7 +11,7 @@ use lib.ListN.{length, length-map}
 use lib.Dec.{eqb}
 use lib.IntN.{ℤ, nat_abs}
 use Rattle.integers.specs.All.{All}
-use Rattle.lists.specs.Answer.{given}
+use Rattle.answers.specs.Answer.{given}
 use Rattle.model.specs.Systems.{run_plan}
 use Rattle.model.specs.Steps.{integer_at, source_step_of, restricted_step_of, sound_source, sound_restricted, lower_bounds, upper_bounds, source_start, sizes_of, step_source, step_restricted, restricted_start}
 use Rattle.model.specs.Tasks.{State, RestrictedAction, SourceTask, RestrictedTask}

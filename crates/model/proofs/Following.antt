@@ -11,7 +11,7 @@ use lib.ListN.{length}
 use lib.Dec.{T, eqb, ltb, nltb→le}
 use lib.IntN.{ℤ}
 use Rattle.integers.specs.All.{All}
-use Rattle.lists.specs.Answer.{Answer, given, refused, then}
+use Rattle.answers.specs.Answer.{Answer, given, refused, then}
 use Rattle.lists.proofs.Numbers.{length-halves}
 use Rattle.model.specs.Tasks.{SourceAction, SourceTask, RestrictedTask, State}
 use Rattle.model.specs.Steps.{source_step_of, restricted_step_of, sound_source, sound_restricted, sizes_of, lower_bounds, upper_bounds, source_start}

@@ -8,7 +8,7 @@ use mathlib.Core.Option.{Option, none, some}
 use mathlib.Core.List.{List, [], ◌∷◌}
 use lib.ListN.{length}
 use lib.Dec.{ltb}
-use Rattle.lists.specs.Answer.{Answer, given, refused, then}
+use Rattle.answers.specs.Answer.{Answer, given, refused, then}
 use Rattle.model.specs.Systems.{bind, guarded}
 use Rattle.model.specs.Judging.{if_applies, judge}
 use Rattle.model.specs.Following.{if_any, strayed, past_macro, into_macro, project_over}

@@ -8,7 +8,7 @@ use mathlib.Core.Option.{Option, none, some}
 use mathlib.Core.List.{List, [], ◌∷◌}
 use lib.ListN.{length, length-drop, drop}
 use lib.Dec.{T, eqb, eqb→eq}
-use Rattle.lists.specs.Answer.{Answer, given, refused, then}
+use Rattle.answers.specs.Answer.{Answer, given, refused, then}
 use Rattle.model.specs.Tasks.{SourceTask, State}
 use Rattle.model.specs.Steps.{lower_bounds, upper_bounds, step_source, source_goal_holds}
 use Rattle.model.specs.Stages.{source_number}

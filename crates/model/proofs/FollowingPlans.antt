@@ -12,7 +12,7 @@ use lib.ListN.{length, length-drop, drop}
 use lib.Dec.{T, eqb, eqb→eq}
 use borrow.Author.Tests.{lt-ltb, eq-eqb}
 use Rattle.integers.specs.All.{All}
-use Rattle.lists.specs.Answer.{Answer, given, refused, then}
+use Rattle.answers.specs.Answer.{Answer, given, refused, then}
 use Rattle.model.specs.Systems.{keep}
 use Rattle.model.specs.Walks.{Forced, Stuck, Outcome, not_opened, hangs, completes, Lowers}
 use Rattle.model.specs.Judging.{judge}

@@ -11,7 +11,7 @@ use mathlib.Core.List.{List, [], ◌∷◌, ◌++◌}
 use lib.ListN.{length, drop}
 use lib.Dec.{T, eqb, eqb→eq, eqb_refl, ltb}
 use borrow.Author.Tests.{lt-ltb, eq-eqb}
-use Rattle.lists.specs.Answer.{Answer, given, refused, then}
+use Rattle.answers.specs.Answer.{Answer, given, refused, then}
 use Rattle.model.specs.Walks.{Forced, Stuck}
 use Rattle.model.specs.Judging.{judge}
 use Rattle.model.specs.Following.{agreeing, strayed, strayed_after}

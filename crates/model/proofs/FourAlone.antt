@@ -9,7 +9,7 @@ use lib.ListN.{length}
 use Rattle.integers.specs.All.{All}
 use Rattle.integers.specs.Relation.{Relation, below, at_most, at_least, above, equal, relation_number}
 use Rattle.integers.proofs.All.{all_map}
-use Rattle.lists.specs.Answer.{given}
+use Rattle.answers.specs.Answer.{given}
 use Rattle.model.specs.Tasks.{NumericCondition, SourceTask, RestrictedAction, RestrictedTask}
 use Rattle.model.specs.Steps.{sizes_of}
 use Rattle.model.specs.Limits.{restricted_limits}

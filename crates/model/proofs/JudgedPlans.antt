@@ -14,7 +14,7 @@ use borrow.Author.Tests.{lt-ltb, le-ltb, eq-eqb, ne_eqb}
 use Rattle.integers.specs.All.{All}
 use Rattle.integers.specs.Numbers.{Bytes, bytes_of}
 use Rattle.integers.proofs.Numbers.{bytes_small}
-use Rattle.lists.specs.Answer.{Answer, given, refused}
+use Rattle.answers.specs.Answer.{Answer, given, refused}
 use Rattle.lists.proofs.Numbers.{length-numbers, halves-numbers, numbers-halves}
 use Rattle.model.specs.Tasks.{SourceAction, RestrictedAction, State}
 use Rattle.model.specs.Systems.{bind, or_empty, or_zero, run_plan, keep, total_price, guarded}

@@ -13,7 +13,7 @@ use Rattle.integers.specs.Relation.{Relation, below, at_most, at_least, above, e
 use Rattle.integers.specs.Numbers.{bits_of}
 use Rattle.commands.specs.declared.Command.{Command}
 use Rattle.commands.specs.declared.Command.TheVariants.{Goal, End}
-use Rattle.lists.specs.Answer.{given}
+use Rattle.answers.specs.Answer.{given}
 use Rattle.commands.specs.Table.{letter_u, letter_m, letter_a, letter_c, letter_p, letter_e, plus_sign, letter_g}
 use Rattle.commands.specs.Encoding.{InWidths, encode, encode_all, Fits}
 use Rattle.integers.proofs.Numbers.{bits_fit}

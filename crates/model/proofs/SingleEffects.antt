@@ -10,7 +10,7 @@ use mathlib.Core.List.{List, [], ◌∷◌, ◌++◌, append-nil, map}
 use lib.ListN.{length}
 use lib.IntN.{ℤ}
 use Rattle.integers.specs.All.{All}
-use Rattle.lists.specs.Answer.{Answer, given, then}
+use Rattle.answers.specs.Answer.{Answer, given, then}
 use Rattle.model.specs.Tasks.{Measured, variable, weighted_sum, NumericCondition, Effect, add_effect, linear_effect, quotient_effect, residue_effect}
 use Rattle.model.specs.Tasks.{SourceAction, RestrictedAction, SourceTask, RestrictedTask}
 use Rattle.model.specs.Steps.{lower_bounds, upper_bounds, source_start}

@@ -12,7 +12,7 @@ use lib.ListN.{length, get_or}
 use lib.Dec.{eqb, leb→le}
 use lib.IntN.{ℤ}
 use Rattle.integers.specs.All.{All}
-use Rattle.lists.specs.Answer.{given}
+use Rattle.answers.specs.Answer.{given}
 use Rattle.commands.specs.Table.{letter_a, letter_l, letter_t, letter_q, letter_r, letter_g, letter_z, letter_k, plus_sign}
 use Rattle.commands.specs.declared.Command.{Command}
 use Rattle.commands.specs.Encoding.{byte_of, NoRefusal}

@@ -1,7 +1,7 @@
 -- Document 01, "Files": "The bytes of action k can be had as a part of the caller's file"; and the action that those bytes give.
 -- Assumes nothing.
 use Rattle.std.specs.Prelude.{ℕ, suc, ◌+◌, ◌-◌, cond, List, [], ◌∷◌, eqb, ltb, length, get_or, take, drop}
-use Rattle.lists.specs.Answer.{Answer, given, refused, then}
+use Rattle.answers.specs.Answer.{Answer, given, refused, then}
 use Rattle.commands.specs.Table.{size_of_byte, letter_a, letter_g}
 use Rattle.commands.specs.Reading.{command_at}
 use Rattle.commands.specs.declared.Command.{Command}

@@ -4,7 +4,7 @@
 use Rattle.std.specs.Prelude.{◌≡◌, ℕ, ◌+◌, ◌≤◌, false, List, length, take}
 use Rattle.std.proofs.Math.Option.{some}
 use Rattle.integers.specs.Numbers.{Bytes}
-use Rattle.lists.specs.Answer.{Answer, given, lent}
+use Rattle.answers.specs.Answer.{Answer, given, lent}
 use Rattle.model.specs.Tasks.{SourceTask, RestrictedTask, State}
 use Rattle.model.specs.Decoding.{read_source, read_restricted}
 use Rattle.model.specs.Plans.{plan_numbers}

@@ -2,7 +2,7 @@
 -- Assumes nothing.
 use Rattle.std.specs.Prelude.{ℕ, Bool, true, cond, List, [], ◌∷◌, ◌++◌, map, eqb, get_or, ℤ}
 use Rattle.integers.specs.Relation.{relation_of}
-use Rattle.lists.specs.Answer.{Answer, given, refused}
+use Rattle.answers.specs.Answer.{Answer, given, refused}
 use Rattle.commands.specs.Table.{letter_v, letter_u, letter_m, letter_a, letter_c, letter_p, letter_e, plus_sign, letter_l, letter_t, letter_q, letter_r, letter_g, letter_k}
 use Rattle.commands.specs.Encoding.{byte_of, operands}
 use Rattle.commands.specs.declared.Command.{Command}

@@ -1,7 +1,7 @@
 -- Document 01, "Files": "A plan is action numbers of 16 bits, no header, at most 1,000,000 of them. Zero bytes is the empty plan."
 -- Assumes nothing.
 use Rattle.std.specs.Prelude.{ℕ, ◌%◌, cond, List, length, eqb, ltb}
-use Rattle.lists.specs.Answer.{Answer, given, refused}
+use Rattle.answers.specs.Answer.{Answer, given, refused}
 use Rattle.lists.specs.Numbers.{numbers_bytes, halves}
 
 abbrev pub plan_bytes_of : List ℕ → List ℕ

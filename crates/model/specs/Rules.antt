@@ -9,6 +9,7 @@ use Rattle.commands.specs.Table.{letter_g, letter_z, letter_k}
 use Rattle.commands.specs.Reading.{command_at}
 use Rattle.commands.specs.Encoding.{byte_of}
 use Rattle.commands.specs.declared.Command.{Command}
+use Rattle.answers.specs.Refusals.{number_of}
 use Rattle.commands.specs.declared.Command.TheVariants.{Variable, Start, Mode, Action, Condition, ModeCondition, ModeEffect, Add, Linear, Term, Quotient}
 use Rattle.commands.specs.declared.Command.TheVariants.{Residue, Goal, End, Sum, Refused}
 use Rattle.model.specs.Limits.{Limits}
@@ -114,7 +115,7 @@ tests_of l p (Sum r k) =
     ∷ (ltb l.sum_constant (nat_abs (constant k)), 6)
     ∷ []
 -- the byte is no command's (1), or the file ends inside the operands (2)
-tests_of l p (Refused number) = (true, number) ∷ []
+tests_of l p (Refused reason) = (true, number_of reason) ∷ []
 
 -- the state after a command that passes its tests
 unfoldable pub next_of : ReadingState → Command → ReadingState
@@ -133,7 +134,7 @@ next_of p (Residue t y k) = with_numeric_effect p t 0
 next_of p Goal = opened p in_goal p.actions
 next_of p End = p
 next_of p (Sum r k) = with_sum p
-next_of p (Refused number) = p
+next_of p (Refused reason) = p
 
 -- Z ends the commands; any other goes on
 abbrev pub onwards : Command → ReadingState → Taken
@@ -152,7 +153,7 @@ onwards (Residue a b c) q = go_on q
 onwards Goal q = go_on q
 onwards End q = finish q
 onwards (Sum a b) q = go_on q
-onwards (Refused number) q = go_on q
+onwards (Refused reason) q = go_on q
 
 -- a command's own rule
 abbrev pub own_rule_of : Limits → ReadingState → Command → Taken

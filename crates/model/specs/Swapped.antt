@@ -1,7 +1,7 @@
 -- "Swapping the stock of two posts needs both old values": a swap worked by hand, and what each call says of it.
 -- Assumes nothing.
 use Rattle.std.specs.Prelude.{◌≡◌, ℕ, List, [], ◌∷◌, ◌++◌, replicate, pos}
-use Rattle.lists.specs.Answer.{given, then}
+use Rattle.answers.specs.Answer.{given, then}
 use Rattle.model.specs.Tasks.{State}
 use Rattle.model.specs.Plans.{plan_bytes_of}
 use Rattle.model.specs.Judging.{judge_source, judge_restricted, price_plan, lower_bytes, expand_bytes, project_bytes}

@@ -2,7 +2,7 @@
 -- Assumes nothing.
 use Rattle.std.specs.Prelude.{◌≡◌, ℕ, List, [], ◌∷◌, ◌++◌, replicate, ℤ, pos, negsuc}
 use Rattle.integers.specs.Division.{quotient_of, residue_of}
-use Rattle.lists.specs.Answer.{Answer, given, refused}
+use Rattle.answers.specs.Answer.{Answer, given, refused}
 use Rattle.model.specs.Tasks.{State}
 use Rattle.model.specs.Plans.{plan_bytes_of}
 use Rattle.model.specs.Judging.{judge_source, price_plan, lower_bytes, expand_bytes}

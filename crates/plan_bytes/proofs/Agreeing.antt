@@ -1,8 +1,8 @@
 -- The laws of a plan's agreement with a run, counted four numbers at a time and then one at a time.
 -- Assumes nothing.
-use mathlib.Core.Path.{◌≡◌, refl, sym, ap, ◌∙◌}
+use mathlib.Core.Path.{◌≡◌, refl, ap, ◌∙◌}
 use Prim.Native.Nat.{ℕ, zero, suc, min, ◌+◌, ◌*◌, ◌-◌, ◌/◌, ◌≤◌, ◌<◌}
-use native.Mathlib.Nat.{zero-add}
+use native.Mathlib.Nat.{zero-add, add_assoc}
 use native.Mathlib.Numerals.{add-one}
 use native.Mathlib.Omega.{arith}
 use mathlib.Core.Bool.{cond}
@@ -14,13 +14,9 @@ use borrow.Author.Tests.{eq-eqb, ne_eqb}
 use Rattle.lists.specs.Numbers.{halves}
 use Rattle.lists.proofs.Numbers.{length-halves}
 use Rattle.model.specs.Following.{agreeing}
-use Rattle.plan_bytes.specs.Agreeing.{step_at, Small, four_at, four_of, Passed}
-use Rattle.plan_bytes.proofs.Halves.{half_at}
+use Rattle.plan_bytes.specs.Agreeing.{four_at, Fours, Passed}
 
 -- ---- a plan's numbers from step `at` on
-pub step-at : (s : List ℕ) (at i : ℕ) → 2 * (at + i) + 1 < length s → get_or (drop at (halves s)) i 0 ≡ step_at s (2 * (at + i))
-step-at s at i h = get_or-drop at (halves s) i 0 ∙ half_at s (at + i) h
-
 pub numbers-from : (s : List ℕ) (at : ℕ) → length (drop at (halves s)) ≡ length s / 2 - at
 numbers-from s at = length-drop at (halves s) ∙ ap (λ (n : ℕ). n - at) (length-halves s)
 
@@ -56,6 +52,9 @@ as-far-as-there-is k (suc n) (x ∷ xs) =
     rw e (ap (λ (r : ℕ). cond (eqb k x) (suc r) 0) (as-far-as-there-is k n xs))
 
 -- ---- four numbers are compared as one
+abbrev pub four_of : ℕ → ℕ
+four_of k = k * 281479271743489
+
 pub record Four (k a b c d : ℕ) : Type 0 where
   pub first : a ≡ k
   pub second : b ≡ k
@@ -78,8 +77,9 @@ four_same k a b c d hk ha hb hc hd e =
     record { first = p.low; second = q.low; third = r.low; fourth = r.rest }
 
 -- the scan goes on by four
-passed-four : {k : ℕ} {xs : List ℕ} {m i : ℕ} → Passed k xs m i → i + 4 ≤ m → Four k (get_or xs i 0) (get_or xs (i + 1) 0) (get_or xs (i + 2) 0) (get_or xs (i + 3) 0) → Passed k xs m (i + 4)
-passed-four {k} {xs} {m} {i} p l f =
+passed-four : {k : ℕ} {ys : List ℕ} {m i : ℕ} → Passed k ys m i → i + 4 ≤ m → Four k (get_or ys i 0) (get_or ys (i + 1) 0) (get_or ys (i + 2) 0) (get_or ys (i + 3) 0)
+    → Passed k ys m (i + 4)
+passed-four {k} {ys} {m} {i} p l f =
     let e₂ : i + 1 + 1 ≡ i + 2 = omega arith in
     let e₃ : i + 2 + 1 ≡ i + 3 = omega arith in
     let e₄ : i + 3 + 1 ≡ i + 4 = omega arith in
@@ -88,12 +88,26 @@ passed-four {k} {xs} {m} {i} p l f =
     let p₃ = rw e₃ at (passed-next p₂ (omega arith) f.third) in
     rw e₄ at (passed-next p₃ (omega arith) f.fourth)
 
-pub passed-block : (s : List ℕ) (at : ℕ) {m i k : ℕ} → Passed k (drop at (halves s)) m i → 2 * (at + m) ≤ length s → i + 4 ≤ m → k < 65536
-    → {p : ℕ} → p ≡ 2 * (at + i) → {r : ℕ} → (r ≡ four_at s p) × Small s p × Small s (p + 2) × Small s (p + 4) × Small s (p + 6) → r ≡ four_of k → Passed k (drop at (halves s)) m (i + 4)
-passed-block s at {m} {i} {k} P room l b {p} place f e =
-    let e₁ : 2 * (at + (i + 1)) ≡ p + 2 = omega arith in
-    let e₂ : 2 * (at + (i + 2)) ≡ p + 4 = omega arith in
-    let e₃ : 2 * (at + (i + 3)) ≡ p + 6 = omega arith in
-    passed-four P l
-    (rw (step-at s at i (omega arith), step-at s at (i + 1) (omega arith), step-at s at (i + 2) (omega arith), step-at s at (i + 3) (omega arith), e₁, e₂, e₃, sym place)
-    (four_same k (step_at s p) (step_at s (p + 2)) (step_at s (p + 4)) (step_at s (p + 6)) b f.1 f.2 f.3 f.4 (sym f.0 ∙ e)))
+pub same_fours : {xs : List ℕ} {i n m four : ℕ} → m ≤ n → Fours xs i n four → Fours xs i m four
+same_fours h f = record { each = λ j l. f.each j (omega arith) }
+
+module _ (xs : List ℕ) (small : (j : ℕ) → get_or xs j 0 < 65536) (at : ℕ) {k m : ℕ} (b : k < 65536) where
+  passed-block : (i : ℕ) → Passed k (drop at xs) m i → i + 4 ≤ m → four_at xs (at + i) ≡ four_of k → Passed k (drop at xs) m (i + 4)
+  passed-block i p l e =
+      passed-four p l
+      (rw (get_or-drop at xs i 0, get_or-drop at xs (i + 1) 0, get_or-drop at xs (i + 2) 0, get_or-drop at xs (i + 3) 0, ← add_assoc at i 1, ← add_assoc at i 2, ← add_assoc at i 3)
+      (four_same k (get_or xs (at + i) 0) (get_or xs (at + i + 1) 0) (get_or xs (at + i + 2) 0) (get_or xs (at + i + 3) 0) b
+      (small (at + i)) (small (at + i + 1)) (small (at + i + 2)) (small (at + i + 3)) e))
+
+  -- and by so many fours
+  passed-fours : (i n : ℕ) → Passed k (drop at xs) m i → i + 4 * n ≤ m → ((j : ℕ) → j < n → four_at xs (at + i + 4 * j) ≡ four_of k) → Passed k (drop at xs) m (i + 4 * n)
+  passed-fours i zero p l f = let e : i + 4 * 0 ≡ i = omega arith in rw e p
+  passed-fours i (suc n) p l f =
+      let here : at + i + 4 * n ≡ at + (i + 4 * n) = omega arith in
+      let next : i + 4 * n + 4 ≡ i + 4 * suc n = omega arith in
+      let more = passed-fours i n p (omega arith) (λ j h. f j (omega arith)) in
+      rw next at (passed-block (i + 4 * n) more (omega arith) (rw here at (f n (omega arith))))
+
+  pub passed-blocks : {i n four next : ℕ} → Passed k (drop at xs) m i → i + 4 * n ≤ m → Fours xs (at + i) n four → four ≡ four_of k → next ≡ i + 4 * n
+      → Passed k (drop at xs) m next
+  passed-blocks {i} {n} p l f e next = rw next (passed-fours i n p l (λ j h. f.each j h ∙ e))

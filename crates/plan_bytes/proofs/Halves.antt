@@ -16,3 +16,9 @@ half_at (low ∷ high ∷ rest) (suc i) h =
     let f : 2 * suc i + 1 ≡ suc (suc (2 * i + 1)) = omega arith in
     half_at rest i (omega (arith, h))
     ∙ sym (ap₂ (λ (x y : ℕ). get_or (low ∷ high ∷ rest) x 0 + 256 * get_or (low ∷ high ∷ rest) y 0) e f)
+
+pub half_small : (s : List ℕ) → ((j : ℕ) → get_or s j 0 < 256) → (i : ℕ) → get_or (halves s) i 0 < 65536
+half_small [] h i = omega arith
+half_small (low ∷ []) h i = omega arith
+half_small (low ∷ high ∷ rest) h zero = omega (arith, h 0, h 1)
+half_small (low ∷ high ∷ rest) h (suc i) = half_small rest (λ j. h (suc (suc j))) i

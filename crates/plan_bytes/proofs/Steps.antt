@@ -8,7 +8,7 @@ use mathlib.Core.List.{List}
 use lib.Dec.{eqb, ltb}
 use lib.ListN.{length}
 use borrow.Author.Tests.{ltb-false}
-use Rattle.lists.specs.Answer.{Answer, given, refused, then}
+use Rattle.answers.specs.Answer.{Answer, given, refused, then}
 use Rattle.lists.specs.Numbers.{halves}
 use Rattle.lists.proofs.Numbers.{length-halves}
 use Rattle.model.specs.Plans.{read_plan, plan_numbers}

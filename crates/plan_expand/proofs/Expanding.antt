@@ -17,7 +17,10 @@ use Rattle.model.specs.Systems.{or_empty, expand_from, provided}
 use Rattle.model.specs.Steps.{lower_bounds, upper_bounds, step_source}
 use Rattle.model.specs.Stages.{stages_of, opening}
 use Rattle.model.specs.Expansion.{opened_values, stage_walk, stage_steps_from}
-use Rattle.source_walk.specs.declared.Progress.TheVariants.{Through, Stopped}
+use Rattle.std.specs.Prelude.{Result, Ok, Err, ⊤}
+use Rattle.answers.specs.declared.Reason.TheVariants.{NoAction, DoesNotApply}
+use Rattle.answers.specs.declared.Reason.{Reason}
+use Rattle.answers.specs.declared.Refusal.{Refusal}
 use Rattle.source_step.specs.Ready.{numbers_of}
 use Rattle.source_step.specs.Table.{Table, declared_by, takes_by, after_by, effects_by, values_by, price_by, RowsOf, Inside}
 use Rattle.source_step.proofs.Tables.{step-agrees, inside-after}
@@ -28,8 +31,8 @@ use Rattle.plan_strokes.proofs.Walks.{walk_is_lem, steps-length, targets-once}
 use Rattle.source_walk.specs.Walk.{Walk, first_passing, walk_from}
 use Rattle.plan_expand.specs.Expanding.{opening_in, Named, goes_by, numbers_by, expansion_by}
 
-not_through : (number place : ℕ) → Stopped number place ≡ Through → ⊥
-not_through number place e = let z : ◌≡◌ {A = ℕ} 0 1 = cc in absurd (omega arith)
+not_through : (reason : Reason) (place : ℕ) → ◌≡◌ {A = Result ⊤ Refusal} (Err (record { reason = reason; place = place })) (Ok tt) → ⊥
+not_through reason place e = let z : ◌≡◌ {A = ℕ} 0 1 = cc in absurd (omega arith)
 
 -- ---- what a step that goes on is known of
 module _ (T : Table) (k : ℕ) (ks : List ℕ) (x : State) (h : goes_by T (k ∷ ks) x ≡ true) where
@@ -47,20 +50,20 @@ module _ (T : Table) (k : ℕ) (ks : List ℕ) (x : State) (h : goes_by T (k ∷
   goes_on_lem = and_right (takes_by T x k) (goes_by T ks (after_by T x k)) (and_right (ltb k T.count) (takes_by T x k && goes_by T ks (after_by T x k)) parts)
 
 module _ (T : Table) where
-  abbrev stops : ℕ → ℕ → ℕ → ℕ → State → Walk
-  stops number i price passing x = record { progress = Stopped number i; price = price; passing = passing; state = x }
+  abbrev stops : Reason → ℕ → ℕ → ℕ → State → Walk
+  stops reason i price passing x = record { progress = Err (record { reason = reason; place = i }); price = price; passing = passing; state = x }
 
   -- ---- a walk that goes through
-  pub walk-goes : (p : List ℕ) (i price passing : ℕ) (x : State) → (walk_from T true i price passing p x).progress ≡ Through → goes_by T p x ≡ true
+  pub walk-goes : (p : List ℕ) (i price passing : ℕ) (x : State) → (walk_from T true i price passing p x).progress ≡ Ok tt → goes_by T p x ≡ true
   unfolding walk_from goes_by
   walk-goes [] i price passing x h = refl
   walk-goes (k ∷ ks) i price passing x h = go (ltb k T.count) (takes_by T x k) _ (walk-goes ks (suc i) (price + price_by T x k) (first_passing passing price (price + price_by T x k) i) (after_by T x k)) h
     where
-      go : (a b : Bool) (w : Walk) → (w.progress ≡ Through → goes_by T ks (after_by T x k) ≡ true) → (cond a (cond b w (stops 12 i price passing x)) (stops 11 i price passing x)).progress ≡ Through
+      go : (a b : Bool) (w : Walk) → (w.progress ≡ Ok tt → goes_by T ks (after_by T x k) ≡ true) → (cond a (cond b w (stops DoesNotApply i price passing x)) (stops NoAction i price passing x)).progress ≡ Ok tt
           → (a && (b && goes_by T ks (after_by T x k))) ≡ true
       go true true w ih h = ih h
-      go true false w ih h = absurd (not_through 12 i h)
-      go false b w ih h = absurd (not_through 11 i h)
+      go true false w ih h = absurd (not_through DoesNotApply i h)
+      go false b w ih h = absurd (not_through NoAction i h)
 
   numbers-long : (openings : List ℕ) (x : State) (k : ℕ) → length (numbers_by T openings x k) ≡ price_by T x k
   numbers-long openings x k = omega (arith, steps-length (opening_in openings k + 1) (strokes_of (effects_by T k) (values_by T x)), price-is (effects_by T k) (values_by T x))
@@ -76,7 +79,7 @@ module _ (T : Table) where
     where
       go : (a b : Bool) → (a && (b && goes_by T ks (after_by T x k))) ≡ true
           → ((c d : ℕ) → goes_by T ks (after_by T x k) ≡ true → (walk_from T true (suc i) c d ks (after_by T x k)).price ≡ c + length (expansion_by T openings ks (after_by T x k)))
-          → (cond a (cond b (walk_from T true (suc i) (price + price_by T x k) (first_passing passing price (price + price_by T x k) i) ks (after_by T x k)) (stops 12 i price passing x)) (stops 11 i price passing x)).price
+          → (cond a (cond b (walk_from T true (suc i) (price + price_by T x k) (first_passing passing price (price + price_by T x k) i) ks (after_by T x k)) (stops DoesNotApply i price passing x)) (stops NoAction i price passing x)).price
           ≡ price + price_by T x k + length (expansion_by T openings ks (after_by T x k))
       go true true h ih = ih _ _ h
       go true false h ih = let z : ◌≡◌ {A = ℕ} 0 1 = cc in absurd (omega arith)

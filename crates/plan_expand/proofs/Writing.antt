@@ -14,8 +14,10 @@ use Rattle.lists.specs.Writing.{Room, Wrote}
 use Rattle.lists.proofs.Numbers.{length-numbers, numbers-append}
 use Rattle.lists.proofs.Loops.{and_left, and_right}
 use Rattle.lists.proofs.Writing.{Left, start, step, done, recast, long, room, room_by, wrote_as}
-use Rattle.lists.proofs.Lent.{too_short, written}
-use Rattle.lists.specs.declared.Written.TheVariants.{Bytes, Refused}
+use Rattle.answers.proofs.Lent.{too_short, written}
+use Rattle.std.specs.Prelude.{Result, Ok, Err}
+use Rattle.answers.specs.declared.Refusal.{Refusal}
+use Rattle.answers.specs.declared.Reason.TheVariants.{OutputShort}
 use Rattle.model.specs.Tasks.{State}
 use Rattle.model.specs.Plans.{plan_bytes_of}
 use Rattle.source_step.specs.Step.{state}
@@ -24,7 +26,7 @@ use Rattle.source_step.specs.Ready.{marks_of, numbers_of}
 use Rattle.source_step.specs.Table.{Table, held_by, takes_by, after_by, Usables}
 use Rattle.plan_strokes.specs.Opening.{Opened}
 use Rattle.source_walk.proofs.Loop.{long_after}
-use Rattle.plan_expand.specs.Expanding.{opening_in, TurnTaken, goes_by, numbers_by, expansion_by, Expands, Expanded}
+use Rattle.plan_expand.specs.Expanding.{opening_in, Named, TurnTaken, goes_by, numbers_by, expansion_by, Expands, Expandable, ExpandedTo}
 use Rattle.plan_expand.proofs.Expanding as laws
 
 -- the rest of a step, where it applies
@@ -128,19 +130,33 @@ module _ {p openings old out : List ℕ} {place i : ℕ} (g : Opening p openings
     opening-goes w = record { bound = omega arith; left = step opening-parts w }
 
 -- ---- an expansion whose bytes were counted
-module _ (T : Table) {p : List ℕ} {x : State} {bytes : ℕ} (e : Expands T p x bytes) (openings : List ℕ) (opens : Opened T.marks T.count openings) where
-  bytes-long : bytes ≡ length (plan_bytes_of (expansion_by T openings p x))
-  bytes-long = omega (arith, e.long openings, length-numbers 2 (expansion_by T openings p x))
+module _ (T : Table) (p : List ℕ) (x : State) {needed : Result ℕ Refusal} {bytes : ℕ} (was : needed ≡ Ok bytes) (E : Expandable T p x needed) where
+  counted : Expands T p x bytes
+  counted = rw was at E
 
-  pub expansion-room : {out : List ℕ} → bytes ≤ length out → Room out 0 (plan_bytes_of (expansion_by T openings p x))
-  expansion-room h = room_by (omega (arith, h, bytes-long))
+  pub expands : goes_by T p x ≡ true
+  expands = counted.goes
 
-  pub expanded-short : {old : List ℕ} → length old < bytes → Expanded T p x old old (Refused 8 bytes)
-  expanded-short h = record { openings = openings; opens = opens; lent = too_short refl bytes-long h }
+  pub named-by : Named p T.count
+  named-by = laws.named-all T p x counted.goes
 
-  pub expanded : {old after : List ℕ} {next : ℕ} → bytes ≤ length old → Wrote old 0 (plan_bytes_of (expansion_by T openings p x)) after next → Expanded T p x old after (Bytes bytes)
-  expanded h w = record { openings = openings; opens = opens; lent = written refl bytes-long h w }
+  module _ {openings : List ℕ} (opens : Opened T.marks T.count openings) where
+    bytes-long : bytes ≡ length (plan_bytes_of (expansion_by T openings p x))
+    bytes-long = omega (arith, counted.long openings, length-numbers 2 (expansion_by T openings p x))
 
-  -- where they are two for each step, the expansion is the openings
-  pub expanded-alone : {old after : List ℕ} {next : ℕ} → bytes ≤ length old → bytes ≡ 2 * length p → Wrote old 0 (plan_bytes_of (map (opening_in openings) p)) after next → Expanded T p x old after (Bytes bytes)
-  expanded-alone h l w = expanded h (wrote_as (ap plan_bytes_of (sym (laws.openings-alone T openings p x (omega (arith, l, e.long openings))))) w)
+    pub expansion-room : {out : List ℕ} → bytes ≤ length out → Room out 0 (plan_bytes_of (expansion_by T openings p x))
+    expansion-room h = room_by (omega (arith, h, bytes-long))
+
+    pub expanded-short : (old : List ℕ) → length old < bytes → ExpandedTo T p x needed old old (Err (record { reason = OutputShort; place = bytes }))
+    expanded-short old h = rw was (record { openings = openings; opens = opens; lent = too_short refl bytes-long h })
+
+    pub expanded : {old after : List ℕ} {next : ℕ} → bytes ≤ length old → Wrote old 0 (plan_bytes_of (expansion_by T openings p x)) after next
+        → ExpandedTo T p x needed old after (Ok bytes)
+    expanded h w = rw was (record { openings = openings; opens = opens; lent = written refl bytes-long h w })
+
+    -- where they are two for each step, the expansion is the openings
+    pub expanded-alone : {old after : List ℕ} {next : ℕ} → bytes ≤ length old → bytes ≡ 2 * length p
+        → Wrote old 0 (plan_bytes_of (map (opening_in openings) p)) after next → ExpandedTo T p x needed old after (Ok bytes)
+    expanded-alone h l w =
+        let alone = laws.openings-alone T openings p x (omega (arith, l, counted.long openings)) in
+        expanded h (wrote_as (ap plan_bytes_of (sym alone)) w)

@@ -1,24 +1,22 @@
 -- The expansion of a plan by the rows of a task's actions, and what the parts of expanding make.
 -- Assumes nothing.
-use Rattle.std.specs.Prelude.{◌≡◌, ℕ, ◌*◌, ◌≤◌, ◌<◌, Bool, true, cond, ◌&&◌, List, [], ◌∷◌, ◌++◌, ltb, length, get_or, ℤ}
-use Rattle.lists.specs.Answer.{given}
-use Rattle.lists.specs.Written.{Lent}
-use Rattle.lists.specs.declared.Written.{Written}
-use Rattle.lists.specs.declared.Written.TheVariants.{Bytes, Refused}
+use Rattle.std.specs.Prelude.{◌≡◌, ℕ, ◌*◌, ◌≤◌, ◌<◌, Bool, true, cond, ◌&&◌, List, [], ◌∷◌, ◌++◌, ltb, length, get_or, ℤ, Result, Ok, Err}
+use Rattle.answers.specs.Answer.{given}
+use Rattle.answers.specs.Lent.{Lent}
+use Rattle.answers.specs.declared.Refusal.{Refusal}
+use Rattle.answers.specs.declared.Reason.TheVariants.{OverMillion}
 use Rattle.model.specs.Tasks.{State}
 use Rattle.model.specs.Plans.{plan_bytes_of}
 use Rattle.source_step.specs.Row.{stays_in, values_after, modes_after}
 use Rattle.source_step.specs.Table.{Table, takes_by, after_by, effects_by, values_by}
 use Rattle.plan_strokes.specs.Strokes.{strokes_of, step_numbers}
 use Rattle.plan_strokes.specs.Opening.{Opened}
-use Rattle.source_walk.specs.declared.Verdict.{Verdict}
-use Rattle.source_walk.specs.declared.Verdict.TheVariants.{Valid, Refused as VerdictRefused}
 use Rattle.source_walk.specs.Walk.{most}
 
 -- how many bytes the expansion of a judged plan has, or why there is none
-abbrev pub length_of : Verdict → ℕ → ℕ → Written
-length_of (Valid steps) price passing = cond (ltb most price) (Refused 9 passing) (Bytes (2 * price))
-length_of (VerdictRefused number place) price passing = Refused number place
+abbrev pub length_of : Result ℕ Refusal → ℕ → ℕ → Result ℕ Refusal
+length_of (Ok steps) price passing = cond (ltb most price) (Err (record { reason = OverMillion; place = passing })) (Ok (2 * price))
+length_of (Err r) price passing = Err r
 
 -- ---- openings
 abbrev pub opening_in : List ℕ → ℕ → ℕ
@@ -57,16 +55,16 @@ module _ (T : Table) where
     pub goes : goes_by p x ≡ true
     pub long : (openings : List ℕ) → 2 * length (expansion_by openings p x) ≡ bytes
 
-  abbrev pub Expandable : List ℕ → State → Written → Type 0
-  Expandable p x (Bytes bytes) = Expands p x bytes
-  Expandable p x (Refused number place) = Unit {0}
+  abbrev pub Expandable : List ℕ → State → Result ℕ Refusal → Type 0
+  Expandable p x (Ok bytes) = Expands p x bytes
+  Expandable p x (Err r) = Unit {0}
 
   -- ensured: it was written, by the numbers of the openings of the rows' actions
-  pub record Expanded (p : List ℕ) (x : State) (old after : List ℕ) (r : Written) : Type 0 where
+  pub record Expanded (p : List ℕ) (x : State) (old after : List ℕ) (r : Result ℕ Refusal) : Type 0 where
     pub openings : List ℕ
     pub opens : Opened T.marks T.count openings
     pub lent : Lent old (given (plan_bytes_of (expansion_by openings p x))) after r
 
-  abbrev pub ExpandedTo : List ℕ → State → Written → List ℕ → List ℕ → Written → Type 0
-  ExpandedTo p x (Bytes bytes) old after r = Expanded p x old after r
-  ExpandedTo p x (Refused number place) old after r = (r ≡ Refused number place) × (after ≡ old)
+  abbrev pub ExpandedTo : List ℕ → State → Result ℕ Refusal → List ℕ → List ℕ → Result ℕ Refusal → Type 0
+  ExpandedTo p x (Ok bytes) old after r = Expanded p x old after r
+  ExpandedTo p x (Err refusal) old after r = (r ≡ Err refusal) × (after ≡ old)

@@ -5,7 +5,7 @@
 
 ghost use Rattle.std.specs.Prelude.{◌≡◌, true, map, ◌*◌, ◌≤◌, length, take};
 ghost use Rattle.lists.specs.Writing.{Room, Wrote};
-ghost use Rattle.lists.specs.Written.{Lent};
+ghost use Rattle.answers.specs.Lent.{Lent};
 ghost use Rattle.model.specs.Judging.{expand_bytes};
 ghost use Rattle.model.specs.Plans.{plan_bytes_of, plan_numbers};
 ghost use Rattle.model.specs.Steps.{integer_at};
@@ -17,25 +17,21 @@ ghost use Rattle.plan_expand.specs.Expanding.{length_of, opening_in, OpeningsFew
 ghost use Rattle.source_step.specs.Sizes.{VARIABLES, MODES};
 ghost use Rattle.plan_strokes.specs.Strokes.{STAGES};
 
+use answers::{Reason, Refusal};
 use file_actions::EFFECTS;
-use lists::Written;
 use plan_strokes::{ENTRIES, STAGES};
 use source_step::{MARKS, MODES, NUMBERS, ROWS, VARIABLES};
-use source_walk::{MOST_STEPS, Opened, Verdict};
+use source_walk::MOST_STEPS;
 
 // How many bytes the expansion of a judged plan has that has such a price, or why there is none.
-fn length_of(verdict: Verdict, price: u64, passing: u64) -> Written
+fn length_of(verdict: Result<u64, Refusal>, price: u64, passing: u64) -> Result<usize, Refusal>
     ensures { result ≡ length_of verdict price passing }
 {
-    match verdict {
-        Verdict::Refused(number, place) => Written::Refused(number, place),
-        Verdict::Valid(_) => {
-            if MOST_STEPS < price {
-                return Written::Refused(9, passing);
-            }
-            Written::Bytes(2 * (price as usize))
-        }
+    verdict?;
+    if MOST_STEPS < price {
+        return Err(Reason::OverMillion.at(passing));
     }
+    Ok(2 * (price as usize))
 }
 
 // Writes what a step becomes whose row's test holds, and takes the rest of the step in the lent state.
@@ -93,9 +89,8 @@ fn put_plan(
 {
     let mut times = [0i64; STAGES];
     let mut place: usize = 0;
-    let mut i: usize = 0;
-    while i < steps {
-        let k = source_step::wide16(plan_bytes::action_of(plan, i));
+    for i in 0..steps {
+        let k = plan_bytes::action_of(plan, i) as usize;
         place = put_turn(
             out,
             place,
@@ -108,15 +103,8 @@ fn put_plan(
             values,
             modes,
         );
-        i += 1;
     }
     place
-}
-
-fn word(x: u16) -> u32
-    ensures { result ≡ x }
-{
-    x as u32
 }
 
 // Writes the openings of a plan's steps: its expansion, where each step becomes one number.
@@ -125,18 +113,16 @@ fn put_openings(out: &mut [u8], plan: &[u8], steps: usize, openings: &[u16; ENTR
     ensures { Wrote out.old 0 (plan_bytes_of (map (opening_in openings.now) (plan_numbers plan.now))) out.new result }
 {
     let mut place: usize = 0;
-    let mut i: usize = 0;
-    while i < steps {
-        let k = source_step::wide16(plan_bytes::action_of(plan, i));
-        place = lists::put_number(out, place, word(openings[k]), 2);
-        i += 1;
+    for i in 0..steps {
+        let k = plan_bytes::action_of(plan, i) as usize;
+        place = lists::put_number(out, place, openings[k] as u32, 2);
     }
     place
 }
 
-// Writes the expansion of a plan that has so many bytes, from a lent state on; 8 where they are more than the output lent.
+// Writes the expansion of a plan that has so many bytes, from a lent state on, where the output lent is not too short for them.
 fn write_expansion(
-    needed: Written,
+    needed: Result<usize, Refusal>,
     plan: &[u8],
     steps: usize,
     count: usize,
@@ -147,7 +133,7 @@ fn write_expansion(
     values: &mut [i64; VARIABLES],
     modes: &mut [u16; MODES],
     out: &mut [u8],
-) -> Written
+) -> Result<usize, Refusal>
     requires usables { Usables (table count marks.now numbers.now n m) × (steps ≡ length (plan_numbers plan.now)) × (steps ≤ 1000000)
         × (length modes.old ≡ MODES) }
     requires expandable { Expandable (table count marks.now numbers.now n m) (plan_numbers plan.now) (state values.old modes.old) needed }
@@ -155,83 +141,74 @@ fn write_expansion(
         (state values.old modes.old)
         needed out.old out.new result }
 {
-    match needed {
-        Written::Refused(number, place) => Written::Refused(number, place),
-        Written::Bytes(bytes) => {
-            let openings = plan_strokes::openings_of(count, marks);
-            let numbers_of = openings.numbers;
-            if out.len() < bytes {
-                return Written::Refused(8, bytes as u64);
-            }
-            if bytes == 2 * steps {
-                put_openings(out, plan, steps, &numbers_of);
-                return Written::Bytes(bytes);
-            }
-            put_plan(
-                out,
-                plan,
-                steps,
-                &numbers_of,
-                count,
-                marks,
-                numbers,
-                n,
-                m,
-                values,
-                modes,
-            );
-            Written::Bytes(bytes)
-        }
+    let bytes = needed?;
+    let openings = plan_strokes::openings_of(count, marks);
+    let numbers_of = openings.numbers;
+    if out.len() < bytes {
+        return Err(Reason::OutputShort.at(bytes as u64));
     }
+    if bytes == 2 * steps {
+        put_openings(out, plan, steps, &numbers_of);
+        return Ok(bytes);
+    }
+    put_plan(
+        out,
+        plan,
+        steps,
+        &numbers_of,
+        count,
+        marks,
+        numbers,
+        n,
+        m,
+        values,
+        modes,
+    );
+    Ok(bytes)
 }
 
 // Writes the expansion of a plan of a file's task into lent output. It refuses a plan that isn't valid for the task, an expansion of over
 // 1,000,000 steps, and output that is shorter than the result.
-pub fn expand(file: &[u8], plan: &[u8], out: &mut [u8]) -> Written
+pub fn expand(file: &[u8], plan: &[u8], out: &mut [u8]) -> Result<usize, Refusal>
     ensures { Lent out.old (expand_bytes file.now plan.now) out.new result }
 {
     let mut marks = [[0u16; MARKS]; ROWS];
     let mut numbers = [[0i64; NUMBERS]; ROWS];
     let mut values = [0i64; VARIABLES];
     let mut modes = [0u16; MODES];
-    match source_walk::open(
+    let t = source_walk::open(
         file,
         plan,
         &mut marks,
         &mut numbers,
         &mut values,
         &mut modes,
-    ) {
-        Opened::Refused(number, place) => Written::Refused(number, place),
-        Opened::Ready(t) => {
-            let mut last_values = values;
-            let mut last_modes = modes;
-            let judged = source_walk::judge_steps(
-                plan,
-                t.steps,
-                t.actions,
-                &marks,
-                &numbers,
-                t.variables,
-                t.modes,
-                true,
-                &mut last_values,
-                &mut last_modes,
-            );
-            let verdict = judged.verdict;
-            write_expansion(
-                length_of(verdict, judged.price, judged.passing),
-                plan,
-                t.steps,
-                t.actions,
-                &marks,
-                &numbers,
-                t.variables,
-                t.modes,
-                &mut values,
-                &mut modes,
-                out,
-            )
-        }
-    }
+    )?;
+    let mut last_values = values;
+    let mut last_modes = modes;
+    let judged = source_walk::judge_steps(
+        plan,
+        t.steps,
+        t.actions,
+        &marks,
+        &numbers,
+        t.variables,
+        t.modes,
+        true,
+        &mut last_values,
+        &mut last_modes,
+    );
+    write_expansion(
+        length_of(judged.verdict, judged.price, judged.passing),
+        plan,
+        t.steps,
+        t.actions,
+        &marks,
+        &numbers,
+        t.variables,
+        t.modes,
+        &mut values,
+        &mut modes,
+        out,
+    )
 }

@@ -12,7 +12,7 @@ use lib.Seq.{drop-cons, drop-drop, take-take}
 use lib.IntN.{ℤ}
 use borrow.Author.Tests.{lt-ltb, le-ltb, ltb-true, ltb-false, eq-eqb, ne_eqb}
 use Rattle.integers.specs.Parts.{EachWithin}
-use Rattle.lists.specs.Answer.{Answer, refused}
+use Rattle.answers.specs.Answer.{Answer, refused}
 use Rattle.model.specs.Following.{agreeing, strayed, past_macro, into_macro}
 use Rattle.model.specs.Steps.{integer_at}
 use Rattle.source_step.specs.Row.{effect_count_at, effects_at, first_outside, held, Stepped, Finished}
@@ -22,8 +22,10 @@ use Rattle.plan_strokes.specs.Strokes.{STAGES, strokes_of, macro_steps, step_num
 use Rattle.plan_strokes.specs.Made.{Listed, MacroIs}
 use Rattle.plan_strokes.proofs.Effects.{no-strokes}
 use Rattle.plan_strokes.proofs.Ranges.{within-front}
-use Rattle.plan_project.specs.declared.Next.{Next}
-use Rattle.plan_project.specs.declared.Next.TheVariants.{At, Refused}
+use Rattle.std.specs.Prelude.{Result, Ok, Err}
+use Rattle.answers.specs.Refusals.{refusal_is}
+use Rattle.answers.specs.declared.Refusal.{Refusal}
+use Rattle.answers.specs.declared.Reason.TheVariants.{DoesNotApply}
 use Rattle.plan_project.specs.Following.{Answers, Further, strayed_at, past_at, into_at, strokes_walked, opens_at, numbers_at, dead_end_at, turned, Advanced}
 
 -- how far a plan agrees with the first j of some numbers
@@ -57,12 +59,12 @@ module _ (total place : ℕ) (q : List ℕ) where
 
 -- ---- behind a step that applies
 module _ (total at matched size : ℕ) (q : List ℕ) where
-  pub whole : matched ≡ size → Answers (At (at + matched)) q (past_at total at matched size q)
+  pub whole : matched ≡ size → Answers (Ok (at + matched)) q (past_at total at matched size q)
   whole e onward = rw (eq-eqb matched size e) refl
 
-  pub part : (matched ≡ size → ⊥) → (number : ℕ) → strayed_at total q (at + matched) ≡ refused number (at + matched)
-      → Answers (Refused number (at + matched)) q (past_at total at matched size q)
-  part e number s onward = rw (ne_eqb matched size e) (sym s)
+  pub part : (matched ≡ size → ⊥) → (r : Refusal) → strayed_at total q (at + matched) ≡ refusal_is r
+      → Answers (Err r) q (past_at total at matched size q)
+  part e r s onward = rw (ne_eqb matched size e) (sym s)
 
 -- ---- a step that is not taken, though its rows' test passes
 module _ {n m : ℕ} {marks : List ℕ} {numbers values : List ℤ} {modes : List ℕ} {b : Bool} {values' : List ℤ} {modes' : List ℕ}
@@ -99,17 +101,21 @@ module _ (n m : ℕ) (marks : List ℕ) (numbers sums values : List ℤ) (modes 
   abbrev walked : ℕ
   walked = strokes_walked (length zs) (effect_count_at marks) (first_outside n marks numbers values)
 
-  abbrev AdvancedTo : Next → List ℤ → List ℕ → Type 0
+  abbrev AdvancedTo : Result ℕ Refusal → List ℤ → List ℕ → Type 0
   AdvancedTo r values' modes' = Advanced n m marks numbers sums values modes total i q opening r values' modes'
 
+  -- what a step that does not apply answers
+  abbrev not_applying_here : Result ℕ Refusal
+  not_applying_here = Err (record { reason = DoesNotApply; place = i })
+
   not_opened_lem : opens_at n m marks numbers sums values modes ≡ false
-      → Answers (Refused 12 i) q (turned n m marks numbers sums values modes total i q opening false)
+      → Answers not_applying_here q (turned n m marks numbers sums values modes total i q opening false)
   not_opened_lem e onward = rw e refl
 
   -- an action that stays one: its number is its opening, which stands there
   module _ (single : MacroIs marks false) {b : Bool} {values' : List ℤ} {modes' : List ℕ}
       (S : Stepped n m marks numbers sums values modes b values' modes') where
-    pub one-taken : opening ≡ get_or q i 0 → i < length q → b ≡ true → AdvancedTo (At (i + 1)) values' modes'
+    pub one-taken : opening ≡ get_or q i 0 → i < length q → b ≡ true → AdvancedTo (Ok (i + 1)) values' modes'
     one-taken is h e = record { applied = b; stepped = S; answers = λ onward. rw e (sym (passed onward)); further = (e, omega arith, omega arith) }
       where
         here : drop i q ≡ opening ∷ drop (suc i) q
@@ -123,7 +129,7 @@ module _ (n m : ℕ) (marks : List ℕ) (numbers sums values : List ℤ) (modes 
             ap₂ (λ (l rest : List ℕ). past_macro total l i rest onward) only here
             ∙ rw (eq-eqb opening opening refl) (ap (λ (j : ℕ). onward (i + 1) (drop j q)) (sym (add-one i)))
 
-    pub one-refused : b ≡ false → AdvancedTo (Refused 12 i) values' modes'
+    pub one-refused : b ≡ false → AdvancedTo not_applying_here values' modes'
     one-refused e = record { applied = b; stepped = S; answers = rw e (not_opened_lem (rw (single.is numbers) refl)); further = tt }
 
   -- an action that becomes a macro: its rows' test fails
@@ -131,14 +137,14 @@ module _ (n m : ℕ) (marks : List ℕ) (numbers sums values : List ℤ) (modes 
     opens-so : opens_at n m marks numbers sums values modes ≡ held n m marks numbers sums values modes
     opens-so = rw (several.is numbers) refl
 
-    pub macro-refused : held n m marks numbers sums values modes ≡ false → AdvancedTo (Refused 12 i) values modes
+    pub macro-refused : held n m marks numbers sums values modes ≡ false → AdvancedTo not_applying_here values modes
     macro-refused e = record { applied = false; stepped = not-held sums e; answers = not_opened_lem (opens-so ∙ e); further = tt }
 
     -- or it passes, and its numbers were compared with the plan
     module _ (h : held n m marks numbers sums values modes ≡ true) {matched : ℕ}
         (is : matched ≡ agreeing ns (drop i q)) {b : Bool} {values' : List ℤ} {modes' : List ℕ}
         (F : Finished n m marks numbers values modes b values' modes') where
-      pub macro-past : {r : Next} {size : ℕ} → b ≡ true → size ≡ length ns → Answers r q (past_at total i matched size q) → Further true i q r
+      pub macro-past : {r : Result ℕ Refusal} {size : ℕ} → b ≡ true → size ≡ length ns → Answers r q (past_at total i matched size q) → Further true i q r
           → AdvancedTo r values' modes'
       macro-past {r} {size} e sized a f =
           record {
@@ -156,7 +162,7 @@ module _ (n m : ℕ) (marks : List ℕ) (numbers sums values : List ℤ) (modes 
               ap (past onward (agreeing ns (drop i q)) (length ns)) (drop-drop (agreeing ns (drop i q)) i q)
               ∙ ap₂ (λ (d l : ℕ). past onward d l (drop (i + d) q)) (sym is) (sym sized)
 
-      pub macro-into : {r : Next} {size : ℕ} → b ≡ false → size ≡ price_of_strokes (take walked zs) → Answers r q (λ onward. into_at total i matched size q)
+      pub macro-into : {r : Result ℕ Refusal} {size : ℕ} → b ≡ false → size ≡ price_of_strokes (take walked zs) → Answers r q (λ onward. into_at total i matched size q)
           → Further false i q r → AdvancedTo r values' modes'
       macro-into {r} {size} e sized a f =
           record {

@@ -12,12 +12,13 @@ use lib.ListN.{length, get_or, get_elem?}
 use lib.IntN.{ℤ}
 use borrow.Author.Tests.{ltb-true, ltb-false}
 use Rattle.integers.specs.Relation.{between}
-use Rattle.lists.specs.Answer.{given}
+use Rattle.answers.specs.Answer.{given}
 use Rattle.lists.specs.Each.{tabulate}
 use Rattle.lists.proofs.Each.{length-tabulate}
 use Rattle.lists.proofs.Loops.{and_left, and_right}
-use Rattle.lists.specs.declared.Written.{Written}
-use Rattle.lists.specs.Written.{Lent}
+use Rattle.std.specs.Prelude.{Result}
+use Rattle.answers.specs.declared.Refusal.{Refusal}
+use Rattle.answers.specs.Lent.{Lent}
 use Rattle.model.specs.Tasks.{Effect, SourceTask, State}
 use Rattle.model.specs.Systems.{provided}
 use Rattle.model.specs.Steps.{integer_at, target, result, results, lower_bounds, upper_bounds, step_source, source_goal_holds, source_start}
@@ -203,7 +204,7 @@ module _ {t : SourceTask} {T : Table} (R : RowsOf t T) where
             sym (given-injective f) ∙ sym (keep-alike (source_in sources) (source_number (lower_bounds t) (upper_bounds t) t.actions) numbered q);
       }
 
-      pub projected-so : {old after : List ℕ} {r : Written} → Projected T total sources q x old after r
+      pub projected-so : {old after : List ℕ} {r : Result ℕ Refusal} → Projected T total sources q x old after r
           → Lent old (as_bytes (project_from t (length q) 0 q (source_start t))) after r
       projected-so {old} {after} {r} P = rw (← from_start) (P.meets opening_of opened-by)
 

@@ -8,8 +8,8 @@ use mathlib.Core.Logic.{◌⊎◌, inl, inr, ⊎_elim}
 use mathlib.Core.Option.{Option, none, some, none-ne-some}
 use mathlib.Core.List.{List, [], ◌∷◌}
 use lib.Dec.{ltb, eqb}
-use lib.ListN.{length, get_or, get_elem?, set, length-set, replicate, length-replicate, get_or-replicate}
-use lib.Seq.{get_or-set_same, get_or-set_other}
+use lib.ListN.{length, take, get_or, get_elem?, set, length-set, replicate, length-replicate, get_or-replicate}
+use lib.Seq.{get_or-take, length-take-le, get_or-set_same, get_or-set_other}
 use lib.IntN.{ℤ}
 use borrow.Author.Tests.{ltb-true, ltb-false, lt-ltb, le-ltb, eqb-true, eqb-false}
 use Rattle.model.specs.Tasks.{SourceAction}
@@ -22,6 +22,13 @@ pub there-below : {A : Type 0} (l : List A) (k : ℕ) → k < length l → (a : 
 there-below [] k h = absurd (omega arith)
 there-below (a ∷ l) zero h = (a, refl)
 there-below (a ∷ l) (suc k) h = there-below l k (omega arith)
+
+-- an item of the front of some openings is theirs
+pub in_front : (openings : List ℕ) (count k : ℕ) → count ≤ length openings → k < length (take count openings)
+    → (k < count) × (get_or (take count openings) k 0 ≡ get_or openings k 0)
+in_front openings count k all h =
+    let within : k < count = omega (arith, length-take-le count openings all, h) in
+    (within, get_or-take count openings k 0 within)
 
 -- ---- an entry
 module _ (numbers : List ℕ) (i k : ℕ) (e : i ≡ k) where

@@ -11,16 +11,16 @@ use lib.ListN.{length, get_or, take, drop, set, length-set, length-drop, length-
 use lib.Seq.{take-suc-set}
 use lib.IntN.{ℤ}
 use borrow.Author.Tests.{lt-ltb}
-use Rattle.lists.specs.Answer.{Answer, given, refused, then}
+use Rattle.answers.specs.Answer.{Answer, given, refused, then}
 use Rattle.model.specs.Tasks.{State}
 use Rattle.source_step.specs.Step.{state}
 use Rattle.source_walk.proofs.Loop.{long_after}
 use Rattle.source_step.specs.Row.{modes_after}
 use Rattle.source_step.specs.Ready.{marks_of, numbers_of, sums_of}
 use Rattle.source_step.specs.Table.{Table, takes_by, goal_by, Usables}
-use Rattle.plan_project.specs.declared.Next.{Next}
-use Rattle.plan_project.specs.declared.Next.TheVariants.{At, Refused}
-use Rattle.plan_project.specs.declared.Followed.TheVariants.{Ended, Stopped}
+use Rattle.std.specs.Prelude.{Result, Ok, Err}
+use Rattle.answers.specs.Refusals.{refusal_is}
+use Rattle.answers.specs.declared.Refusal.{Refusal}
 use Rattle.plan_project.specs.Sources.{entry_at, source_in, Below, OpenedBy}
 use Rattle.plan_project.specs.Following.{goes_on, Further, strayed_at, Advanced, project_by, noted_at, Notes, PlanFollowed}
 use Rattle.plan_project.proofs.Turn.{small-entry, its-source, no_source, at-the-end, bounds, strays-here, Behind, turns}
@@ -87,7 +87,7 @@ module _ {T : Table} {total : ℕ} {sources q : List ℕ} {x₀ : State} {values
   abbrev x : State
   x = state values modes
 
-  pub over : length q ≤ i → PlanFollowed T total sources q x₀ (Ended found) (state values modes) noted
+  pub over : length q ≤ i → PlanFollowed T total sources q x₀ (Ok found) (state values modes) noted
   over h =
       let b = g.bound in
       record {
@@ -102,16 +102,20 @@ module _ {T : Table} {total : ℕ} {sources q : List ℕ} {x₀ : State} {values
             ∙ behind-ended g.kept (goal_by T x) i (length q) (omega arith);
       }
 
-  module _ (U : Usables T) (B : Below T.count sources) (k : ℕ) (is : k ≡ get_or q i 0) (h : i < length q) {a : ℕ} (e : a ≡ entry_at sources k) where
+  module _ (U : Usables T) (B : Below T.count sources) (k : ℕ) (is : k ≡ get_or q i 0)
+      {steps : ℕ} (w : i < steps) (s : steps ≡ length q) {a : ℕ} (e : a ≡ entry_at sources k) where
+    h : i < length q
+    h = omega (arith, w, s)
+
     -- no source action stands here
-    pub no-action : T.count ≤ a → (number : ℕ) → strayed_at total q i ≡ refused number i
-        → PlanFollowed T total sources q x₀ (Stopped number i) (state values modes) noted
-    no-action l number s = record {
+    pub no-action : T.count ≤ a → {r : Refusal} → strayed_at total q i ≡ refusal_is r
+        → PlanFollowed T total sources q x₀ (Err r) (state values modes) noted
+    no-action l {r} strays = record {
       kept = g.kept;
       notes = g.notes;
       counted = refl;
       few = omega (arith, g.counted, g.few);
-      meets = λ opening O. g.left opening O ∙ ap (behind g.kept) (strays-here T total sources opening q i k is h x (no_source sources k e B l) ∙ s);
+      meets = λ opening O. g.left opening O ∙ ap (behind g.kept) (strays-here T total sources opening q i k is h x (no_source sources k e B l) ∙ strays);
     }
 
     module _ (l : a < T.count) where
@@ -127,7 +131,7 @@ module _ {T : Table} {total : ℕ} {sources q : List ℕ} {x₀ : State} {values
       opens-it : source_in sources k ≡ some a
       opens-it = its-source sources k e fits
 
-      module _ {r : Next} {values' : List ℤ} {modes' : List ℕ}
+      module _ {r : Result ℕ Refusal} {values' : List ℤ} {modes' : List ℕ}
           (A : Advanced T.variables T.modes (marks_of T.marks a) (numbers_of T.numbers a) (sums_of T.numbers) values modes
           total i q k r values' modes') where
         abbrev after : (opening : ℕ → ℕ) → OpenedBy opening sources → ℕ → List ℕ → Answer (List ℕ)
@@ -137,16 +141,16 @@ module _ {T : Table} {total : ℕ} {sources q : List ℕ} {x₀ : State} {values
             → project_by T total sources opening (length q) i (drop i q) x ≡ goes_on r q (after opening O)
         turned opening O = turns T total sources opening O q i k is h x a opens-it l A.stepped ∙ sym (A.answers (after opening O))
 
-        pub stopped : {number place : ℕ} → r ≡ Refused number place → PlanFollowed T total sources q x₀ (Stopped number place) (state values' modes') noted
+        pub stopped : {d : Refusal} → r ≡ Err d → PlanFollowed T total sources q x₀ (Err d) (state values' modes') noted
         stopped f = record {
           kept = g.kept;
           notes = g.notes;
           counted = refl;
           few = omega (arith, g.counted, g.few);
-          meets = λ opening O. g.left opening O ∙ ap (behind g.kept) (turned opening O ∙ ap (λ (o : Next). goes_on o q (after opening O)) f);
+          meets = λ opening O. g.left opening O ∙ ap (behind g.kept) (turned opening O ∙ ap (λ (o : Result ℕ Refusal). goes_on o q (after opening O)) f);
         }
 
-        module _ {j : ℕ} (f : r ≡ At j) where
+        module _ {j : ℕ} (f : r ≡ Ok j) where
           further : (A.applied ≡ true) × (i < j) × (j ≤ length q)
           further = subst (Further A.applied i q) f A.further
 
@@ -157,18 +161,18 @@ module _ {T : Table} {total : ℕ} {sources q : List ℕ} {x₀ : State} {values
           moves = let on : takes_by T x a ≡ true = sym A.stepped.is ∙ further.0 in A.stepped.modes_are ∙ rw on refl
 
           pub goes : {noted' : List ℕ} → noted' ≡ noted_at noted found a → Going T total sources q x₀ values' modes' noted' j (found + 1)
-          goes w =
+          goes n =
               let b : i < j = further.1 in
               record {
                 bound = further.2;
                 long = ap length moves ∙ long_after T.modes (marks_of T.marks a) modes U.modes_few g.long;
                 kept = g.kept ++ (a ∷ []);
-                notes = noted-next g.notes g.counted a w;
+                notes = noted-next g.notes g.counted a n;
                 counted = omega (arith, length-append g.kept (a ∷ []), g.counted);
                 few = omega (arith, g.few);
                 left = λ opening O. let y = state values' modes' in
                     g.left opening O
-                    ∙ ap (behind g.kept) (turned opening O ∙ ap (λ (o : Next). goes_on o q (after opening O)) f
+                    ∙ ap (behind g.kept) (turned opening O ∙ ap (λ (o : Result ℕ Refusal). goes_on o q (after opening O)) f
                     ∙ ap (λ (v : Answer (List ℕ)). then v (λ p. given (a ∷ p)))
                     (bounds T total sources opening (length (drop (suc i) q)) (length q) j (drop j q) y (omega (arith, length-drop (suc i) q, length-drop j q))
                     (omega (arith, length-drop j q))))

@@ -6,62 +6,70 @@ use native.Mathlib.Omega.{arith}
 use mathlib.Core.Bool.{Bool, true, false, cond}
 use mathlib.Core.List.{List}
 use lib.ListN.{length}
-use Rattle.lists.specs.Answer.{given, refused}
+use Rattle.answers.specs.Answer.{given, refused}
 use Rattle.lists.specs.Writing.{Room, Wrote}
-use Rattle.lists.specs.declared.Written.TheVariants.{Bytes, Refused}
+use Rattle.std.specs.Prelude.{Result, Ok, Err}
+use Rattle.answers.specs.declared.Refusal.{Refusal}
+use Rattle.answers.specs.declared.Reason.TheVariants.{OutputShort, GoalNotMet}
 use Rattle.lists.proofs.Numbers.{length-numbers}
 use Rattle.lists.proofs.Writing.{room_by, wrote_as}
-use Rattle.lists.proofs.Lent.{refusal, too_short, written}
+use Rattle.answers.proofs.Lent.{refusal, too_short, written}
 use Rattle.model.specs.Systems.{keep}
 use Rattle.model.specs.Tasks.{State}
 use Rattle.model.specs.Plans.{plan_bytes_of}
 use Rattle.source_step.specs.Table.{Table, goal_by}
-use Rattle.plan_project.specs.declared.Followed.{Followed}
-use Rattle.plan_project.specs.declared.Followed.TheVariants.{Ended, Stopped}
 use Rattle.plan_project.specs.Sources.{source_in, OpenedBy}
 use Rattle.plan_project.specs.Following.{followed_to, found_in, Notes, PlanFollowed}
 use Rattle.plan_project.specs.Projecting.{as_bytes, reached_to, projected, Reached, Kept, Projected}
 
 -- ---- to the goal
-module _ {T : Table} {total : ℕ} {sources q : List ℕ} {x : State} {r : Followed} {x' : State} {noted : List ℕ}
+module _ {T : Table} {total : ℕ} {sources q : List ℕ} {x : State} {r : Result ℕ Refusal} {x' : State} {noted : List ℕ}
     (F : PlanFollowed T total sources q x r x' noted) where
-  pub not-followed : {number place : ℕ} → r ≡ Stopped number place → Reached T total sources q x (Stopped number place) noted
+  pub not-followed : {d : Refusal} → r ≡ Err d → Reached T total sources q x (Err d) noted
   not-followed e = record {
     kept = F.kept;
     notes = F.notes;
     counted = refl;
     few = F.few;
-    meets = λ opening O. F.meets opening O ∙ ap (λ (f : Followed). followed_to f (goal_by T x') (length q) F.kept) e;
+    meets = λ opening O. F.meets opening O ∙ ap (λ (f : Result ℕ Refusal). followed_to f (goal_by T x') (length q) F.kept) e;
   }
 
-  module _ {found : ℕ} (e : r ≡ Ended found) {met : Bool} (is : met ≡ goal_by T x') where
+  module _ {found : ℕ} (e : r ≡ Ok found) {met : Bool} (is : met ≡ goal_by T x') where
     comes : {b : Bool} → met ≡ b → (opening : ℕ → ℕ) → OpenedBy opening sources
         → projected T total sources q x opening ≡ cond b (given F.kept) (refused 13 (length q))
     comes f opening O =
         F.meets opening O
-        ∙ ap (λ (o : Followed). followed_to o (goal_by T x') (length q) F.kept) e
+        ∙ ap (λ (o : Result ℕ Refusal). followed_to o (goal_by T x') (length q) F.kept) e
         ∙ ap (λ (b : Bool). cond b (given F.kept) (refused 13 (length q))) (sym is ∙ f)
 
-    pub goal-met : met ≡ true → Reached T total sources q x (Ended found) noted
+    pub goal-met : met ≡ true → Reached T total sources q x (Ok found) noted
     goal-met f = record {
       kept = F.kept;
       notes = F.notes;
-      counted = ap (λ (o : Followed). found_in o (length F.kept)) (sym e) ∙ F.counted;
+      counted = ap (λ (o : Result ℕ Refusal). found_in o (length F.kept)) (sym e) ∙ F.counted;
       few = F.few;
       meets = comes f;
     }
 
-    pub goal-unmet : met ≡ false → {steps : ℕ} → steps ≡ length q → Reached T total sources q x (Stopped 13 steps) noted
-    goal-unmet f s = record { kept = F.kept; notes = F.notes; counted = refl; few = F.few; meets = λ opening O. comes f opening O ∙ ap (refused 13) (sym s) }
+    pub goal-unmet : met ≡ false → {steps : ℕ} → steps ≡ length q
+        → Reached T total sources q x (Err (record { reason = GoalNotMet; place = steps })) noted
+    goal-unmet f s = record {
+      kept = F.kept;
+      notes = F.notes;
+      counted = refl;
+      few = F.few;
+      meets = λ opening O. comes f opening O ∙ ap (refused 13) (sym s);
+    }
 
 -- ---- into the output
-module _ {T : Table} {total : ℕ} {sources q : List ℕ} {x : State} {r : Followed} {noted : List ℕ} (F : Reached T total sources q x r noted) (old : List ℕ) where
-  pub when-stopped : {number place : ℕ} → r ≡ Stopped number place → Projected T total sources q x old old (Refused number place)
-  when-stopped e = record { meets = λ opening O. refusal (ap as_bytes (F.meets opening O ∙ ap (λ (f : Followed). reached_to f F.kept) e)) }
+module _ {T : Table} {total : ℕ} {sources q : List ℕ} {x : State} {r : Result ℕ Refusal} {noted : List ℕ}
+    (F : Reached T total sources q x r noted) (old : List ℕ) where
+  pub when-stopped : {d : Refusal} → r ≡ Err d → Projected T total sources q x old old (Err d)
+  when-stopped e = record { meets = λ opening O. refusal (ap as_bytes (F.meets opening O ∙ ap (λ (f : Result ℕ Refusal). reached_to f F.kept) e)) }
 
-  module _ {found : ℕ} (e : r ≡ Ended found) where
+  module _ {found : ℕ} (e : r ≡ Ok found) where
     counted : found ≡ length F.kept
-    counted = ap (λ (f : Followed). found_in f (length F.kept)) (sym e) ∙ F.counted
+    counted = ap (λ (f : Result ℕ Refusal). found_in f (length F.kept)) (sym e) ∙ F.counted
 
     pub few : found ≤ length q
     few = omega (arith, counted, F.few)
@@ -70,9 +78,9 @@ module _ {T : Table} {total : ℕ} {sources q : List ℕ} {x : State} {r : Follo
     bytes-needed = omega (arith, counted, length-numbers 2 F.kept)
 
     reaches : (opening : ℕ → ℕ) → OpenedBy opening sources → projected T total sources q x opening ≡ given F.kept
-    reaches opening O = F.meets opening O ∙ ap (λ (f : Followed). reached_to f F.kept) e
+    reaches opening O = F.meets opening O ∙ ap (λ (f : Result ℕ Refusal). reached_to f F.kept) e
 
-    pub when-short : length old < 2 * found → Projected T total sources q x old old (Refused 8 (2 * found))
+    pub when-short : length old < 2 * found → Projected T total sources q x old old (Err (record { reason = OutputShort; place = 2 * found }))
     when-short s = record { meets = λ opening O. too_short (ap as_bytes (reaches opening O)) bytes-needed s }
 
     -- what was found is what the table tells of the plan's numbers
@@ -87,5 +95,5 @@ module _ {T : Table} {total : ℕ} {sources q : List ℕ} {x : State} {r : Follo
       noted-so = (subst (Notes noted) kept F.notes, counted ∙ ap length kept)
 
       pub when-written : {after : List ℕ} {next : ℕ} → Wrote old 0 (plan_bytes_of (keep (source_in sources) q)) after next
-          → Projected T total sources q x old after (Bytes (2 * found))
+          → Projected T total sources q x old after (Ok (2 * found))
       when-written w = record { meets = λ opening O. written (ap as_bytes (reaches opening O)) bytes-needed h (wrote_as (ap plan_bytes_of (sym kept)) w) }

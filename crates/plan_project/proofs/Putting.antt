@@ -105,30 +105,34 @@ module _ {q sources out₀ out : List ℕ} {place i : ℕ} (g : Putting q source
               ∙ ap (λ (j : ℕ). keep (source_in sources) (drop j (drop i q))) (sym run) ∙ ap (keep (source_in sources)) (drop-drop r i q))) g.left;
         }
 
--- ---- the numbers noted, of which so many are found
-module _ (noted : List ℕ) (found : ℕ) (out₀ : List ℕ) where
-  pub record Copying (out : List ℕ) (place i : ℕ) : Type 0 where
-    pub here : There found noted found
-    pub bound : i ≤ found
-    pub left : Left out₀ 0 (plan_bytes_of (take found noted)) out place (plan_bytes_of (drop i (take found noted)) ∷ [])
-
-  pub copying : found ≤ length noted → Copying out₀ 0 0
-  copying h = record { here = there-all found noted h; bound = omega arith; left = start out₀ 0 (sym (append-nil (plan_bytes_of (take found noted)))) }
-
+-- ---- the numbers noted
 pub noted-are : {noted xs : List ℕ} {found : ℕ} → Notes noted xs → found ≡ length xs → found ≤ 512 → take found noted ≡ xs
 noted-are {noted} N e h = ap (λ (k : ℕ). take k noted) e ∙ N.are (omega (arith, e))
 
-module _ {noted : List ℕ} {found : ℕ} {out₀ out : List ℕ} {place i : ℕ} (g : Copying noted found out₀ out place i) where
-  pub copied : found ≤ i → Wrote out₀ 0 (plan_bytes_of (take found noted)) out place
-  copied h = done (recast (ap (λ (l : List ℕ). plan_bytes_of l ++ []) (rest-none g.here g.bound h)) g.left)
+-- of some numbers, the first i are written
+abbrev pub Copying : List ℕ → List ℕ → List ℕ → ℕ → ℕ → Type 0
+Copying xs out₀ out place i = Left out₀ 0 (plan_bytes_of xs) out place (plan_bytes_of (drop i xs) ∷ [])
 
-  module _ {a : ℕ} (is : a ≡ get_or noted i 0) (h : i < found) where
-    copy_parts : Left out₀ 0 (plan_bytes_of (take found noted)) out place (bytes_of 2 a ∷ plan_bytes_of (drop (i + 1) (take found noted)) ∷ [])
-    copy_parts = recast (ap (λ (l : List ℕ). plan_bytes_of l ++ []) (rest_more 0 g.here h ∙ ap (λ (k : ℕ). k ∷ drop (i + 1) (take found noted)) (sym is))
-        ∙ append_assoc (bytes_of 2 a) (plan_bytes_of (drop (i + 1) (take found noted))) []) g.left
+module _ (xs : List ℕ) {out₀ : List ℕ} where
+  pub copying : Left out₀ 0 (plan_bytes_of xs) out₀ 0 (plan_bytes_of xs ∷ [])
+  copying = start out₀ 0 (sym (append-nil (plan_bytes_of xs)))
 
-    pub copy-room : Room out₀ 0 (plan_bytes_of (take found noted)) → Room out place (bytes_of 2 a)
-    copy-room r = room r copy_parts
+  module _ {out : List ℕ} {place i : ℕ} (g : Left out₀ 0 (plan_bytes_of xs) out place (plan_bytes_of (drop i xs) ∷ [])) where
+    pub copied : length xs ≤ i → Wrote out₀ 0 (plan_bytes_of xs) out place
+    copied h = done (recast (ap (λ (l : List ℕ). plan_bytes_of l ++ []) (drop_of_length-le xs h)) g)
 
-    pub copies : {out' : List ℕ} {next : ℕ} → Wrote out place (bytes_of 2 a) out' next → Copying noted found out₀ out' next (i + 1)
-    copies w = record { here = g.here; bound = omega arith; left = step copy_parts w }
+    module _ (h : i < length xs) where
+      abbrev item : List ℕ
+      item = bytes_of 2 (get_or xs i 0)
+
+      copy_parts : Left out₀ 0 (plan_bytes_of xs) out place (item ∷ plan_bytes_of (drop (i + 1) xs) ∷ [])
+      copy_parts = recast
+          (ap (λ (l : List ℕ). plan_bytes_of l ++ []) (drop-cons xs i 0 h ∙ ap (λ (j : ℕ). get_or xs i 0 ∷ drop j xs) (sym (add-one i)))
+          ∙ append_assoc item (plan_bytes_of (drop (i + 1) xs)) []) g
+
+      pub copy-room : Room out₀ 0 (plan_bytes_of xs) → Room out place (bytes_of 2 (get_or xs i 0))
+      copy-room r = room r copy_parts
+
+      pub copies : {out' : List ℕ} {next : ℕ} → Wrote out place (bytes_of 2 (get_or xs i 0)) out' next
+          → Left out₀ 0 (plan_bytes_of xs) out' next (plan_bytes_of (drop (i + 1) xs) ∷ [])
+      copies w = step copy_parts w

@@ -11,7 +11,7 @@ use lib.ListN.{length, get_or, drop, length-drop}
 use lib.Seq.{drop-cons}
 use lib.IntN.{ℤ}
 use borrow.Author.Tests.{lt-ltb, ltb-true}
-use Rattle.lists.specs.Answer.{Answer, given, refused, then}
+use Rattle.answers.specs.Answer.{Answer, given, refused, then}
 use Rattle.model.specs.Tasks.{State}
 use Rattle.model.specs.Systems.{provided}
 use Rattle.model.specs.Following.{if_any, strayed, past_macro, into_macro, project_over}

@@ -1,9 +1,9 @@
 -- A restricted plan followed by source steps, by the rows of their actions: what a source step makes of the plan from a place on, and what the
 -- whole plan comes to.
 -- Assumes nothing.
-use Rattle.std.specs.Prelude.{◌≡◌, ℕ, min, ◌+◌, ◌-◌, ◌*◌, ◌<◌, ◌≤◌, Bool, true, false, cond, ◌&&◌, List, [], eqb, ltb, length, drop, take, set, ℤ}
+use Rattle.std.specs.Prelude.{◌≡◌, ℕ, min, ◌+◌, ◌-◌, ◌*◌, ◌<◌, ◌≤◌, Bool, true, false, cond, ◌&&◌, List, [], eqb, ltb, length, drop, take, set, ℤ, Result, Ok, Err}
 use Rattle.std.proofs.Math.Option.{Option, none}
-use Rattle.lists.specs.Answer.{Answer, given, refused}
+use Rattle.answers.specs.Answer.{Answer, given, refused}
 use Rattle.model.specs.Tasks.{State}
 use Rattle.model.specs.Steps.{integer_at}
 use Rattle.model.specs.Following.{strayed, makes_macro, past_macro, into_macro, project_over}
@@ -12,24 +12,22 @@ use Rattle.source_step.specs.Ready.{marks_of, numbers_of, sums_of}
 use Rattle.source_step.specs.Table.{Table, held_by, step_by, goal_by, effects_by, values_by}
 use Rattle.plan_strokes.specs.Strokes.{strokes_of, step_numbers, price_of_strokes}
 use Rattle.plan_project.specs.Sources.{source_in, OpenedBy}
-use Rattle.plan_project.specs.declared.Next.{Next}
-use Rattle.plan_project.specs.declared.Next.TheVariants.{At, Refused}
-use Rattle.plan_project.specs.declared.Followed.{Followed}
-use Rattle.plan_project.specs.declared.Followed.TheVariants.{Ended, Stopped}
+use Rattle.answers.specs.Refusals.{refusal_is}
+use Rattle.answers.specs.declared.Refusal.{Refusal}
 
 -- what a plan comes to, from what its next source step comes to and what follows at the place behind it
-abbrev pub goes_on : Next → List ℕ → (ℕ → List ℕ → Answer (List ℕ)) → Answer (List ℕ)
-goes_on (At j) q onward = onward j (drop j q)
-goes_on (Refused number place) q onward = refused number place
+abbrev pub goes_on : Result ℕ Refusal → List ℕ → (ℕ → List ℕ → Answer (List ℕ)) → Answer (List ℕ)
+goes_on (Ok j) q onward = onward j (drop j q)
+goes_on (Err r) q onward = refusal_is r
 
 -- it answers so, whatever follows
-abbrev pub Answers : Next → List ℕ → ((ℕ → List ℕ → Answer (List ℕ)) → Answer (List ℕ)) → Type 0
+abbrev pub Answers : Result ℕ Refusal → List ℕ → ((ℕ → List ℕ → Answer (List ℕ)) → Answer (List ℕ)) → Type 0
 Answers r q answer = (onward : ℕ → List ℕ → Answer (List ℕ)) → goes_on r q onward ≡ answer onward
 
 -- where it goes on, it does further on in the plan, and only where the step applied
-abbrev pub Further : Bool → ℕ → List ℕ → Next → Type 0
-Further applied i q (At j) = (applied ≡ true) × (i < j) × (j ≤ length q)
-Further applied i q (Refused number place) = Unit {0}
+abbrev pub Further : Bool → ℕ → List ℕ → Result ℕ Refusal → Type 0
+Further applied i q (Ok j) = (applied ≡ true) × (i < j) × (j ≤ length q)
+Further applied i q (Err r) = Unit {0}
 
 -- ---- where a plan goes astray at a place
 abbrev pub strayed_at : ℕ → List ℕ → ℕ → Answer (List ℕ)
@@ -75,7 +73,7 @@ module _ (n m : ℕ) (marks : List ℕ) (numbers sums values : List ℤ) (modes 
       (cond opens_at (into_macro total (dead_end_at opening) i (drop i q)) (refused 12 i))
 
   -- it was taken there, and the plan compared with its numbers
-  pub record Advanced (total i : ℕ) (q : List ℕ) (opening : ℕ) (r : Next) (values' : List ℤ) (modes' : List ℕ) : Type 0 where
+  pub record Advanced (total i : ℕ) (q : List ℕ) (opening : ℕ) (r : Result ℕ Refusal) (values' : List ℤ) (modes' : List ℕ) : Type 0 where
     pub applied : Bool
     pub stepped : Stepped n m marks numbers sums values modes applied values' modes'
     pub answers : Answers r q (turned total i q opening applied)
@@ -111,16 +109,16 @@ pub record Notes (noted kept : List ℕ) : Type 0 where
   pub are : length kept ≤ 512 → take (length kept) noted ≡ kept
 
 -- what a plan comes to once its steps are followed: the source numbers found, where the goal is met
-abbrev pub followed_to : Followed → Bool → ℕ → List ℕ → Answer (List ℕ)
-followed_to (Ended found) met steps numbers = cond met (given numbers) (refused 13 steps)
-followed_to (Stopped number place) met steps numbers = refused number place
+abbrev pub followed_to : Result ℕ Refusal → Bool → ℕ → List ℕ → Answer (List ℕ)
+followed_to (Ok found) met steps numbers = cond met (given numbers) (refused 13 steps)
+followed_to (Err r) met steps numbers = refusal_is r
 
-abbrev pub found_in : Followed → ℕ → ℕ
-found_in (Ended found) n = found
-found_in (Stopped number place) n = n
+abbrev pub found_in : Result ℕ Refusal → ℕ → ℕ
+found_in (Ok found) n = found
+found_in (Err r) n = n
 
 -- a plan was followed from x to x': r; `kept` are the source numbers found
-pub record PlanFollowed (T : Table) (total : ℕ) (sources q : List ℕ) (x : State) (r : Followed) (x' : State) (noted : List ℕ) : Type 0 where
+pub record PlanFollowed (T : Table) (total : ℕ) (sources q : List ℕ) (x : State) (r : Result ℕ Refusal) (x' : State) (noted : List ℕ) : Type 0 where
   pub kept : List ℕ
   pub notes : Notes noted kept
   pub counted : found_in r (length kept) ≡ length kept

@@ -1,17 +1,16 @@
 -- The source numbers that a plan projects to, written into lent output.
 -- Assumes nothing.
-use Rattle.std.specs.Prelude.{◌≡◌, ℕ, ◌≤◌, List, length}
-use Rattle.lists.specs.Answer.{Answer, given, refused, then}
-use Rattle.lists.specs.declared.Written.{Written}
-use Rattle.lists.specs.Written.{Lent}
+use Rattle.std.specs.Prelude.{◌≡◌, ℕ, ◌≤◌, List, length, Result, Ok, Err}
+use Rattle.answers.specs.Answer.{Answer, given, then}
+use Rattle.answers.specs.Refusals.{refusal_is}
+use Rattle.answers.specs.declared.Refusal.{Refusal}
+use Rattle.answers.specs.Lent.{Lent}
 use Rattle.model.specs.Systems.{keep}
 use Rattle.model.specs.Tasks.{SourceTask, State}
 use Rattle.model.specs.Steps.{source_start}
 use Rattle.model.specs.Plans.{plan_bytes_of}
 use Rattle.model.specs.Following.{project_from}
 use Rattle.source_step.specs.Table.{Table, declared_by, RowsOf, Inside}
-use Rattle.plan_project.specs.declared.Followed.{Followed}
-use Rattle.plan_project.specs.declared.Followed.TheVariants.{Ended, Stopped}
 use Rattle.plan_project.specs.Sources.{source_in, OpenedBy}
 use Rattle.plan_project.specs.Following.{project_by, found_in, Notes}
 
@@ -20,9 +19,9 @@ abbrev pub as_bytes : Answer (List ℕ) → Answer (List ℕ)
 as_bytes a = then a (λ p. given (plan_bytes_of p))
 
 -- what a plan comes to that was followed to the goal
-abbrev pub reached_to : Followed → List ℕ → Answer (List ℕ)
-reached_to (Ended found) kept = given kept
-reached_to (Stopped number place) kept = refused number place
+abbrev pub reached_to : Result ℕ Refusal → List ℕ → Answer (List ℕ)
+reached_to (Ok found) kept = given kept
+reached_to (Err r) kept = refusal_is r
 
 module _ (T : Table) (total : ℕ) (sources q : List ℕ) (x : State) where
   -- what the plan projects to from this state on
@@ -30,7 +29,7 @@ module _ (T : Table) (total : ℕ) (sources q : List ℕ) (x : State) where
   projected opening = project_by T total sources opening (length q) 0 q x
 
   -- the plan was followed to the goal: the source numbers found, or a refusal
-  pub record Reached (r : Followed) (noted : List ℕ) : Type 0 where
+  pub record Reached (r : Result ℕ Refusal) (noted : List ℕ) : Type 0 where
     pub kept : List ℕ
     pub notes : Notes noted kept
     pub counted : found_in r (length kept) ≡ length kept
@@ -44,7 +43,7 @@ module _ (T : Table) (total : ℕ) (sources q : List ℕ) (x : State) where
     pub keeps : (p : List ℕ) → projected opening ≡ given p → p ≡ keep (source_in sources) q
 
   -- the plan was projected into lent output
-  pub record Projected (old after : List ℕ) (r : Written) : Type 0 where
+  pub record Projected (old after : List ℕ) (r : Result ℕ Refusal) : Type 0 where
     pub meets : (opening : ℕ → ℕ) → OpenedBy opening sources → Lent old (as_bytes (projected opening)) after r
 
 -- ---- the rows are those of a task, and the state its start
@@ -55,5 +54,5 @@ pub record Posed (T : Table) (x : State) : Type 0 where
   pub start : declared_by T x ≡ source_start task
 
 -- the plan was projected by that task
-pub record TaskProjected (T : Table) (x : State) (q old after : List ℕ) (r : Written) : Type 0 where
+pub record TaskProjected (T : Table) (x : State) (q old after : List ℕ) (r : Result ℕ Refusal) : Type 0 where
   pub meets : (P : Posed T x) → Lent old (as_bytes (project_from P.task (length q) 0 q (source_start P.task))) after r

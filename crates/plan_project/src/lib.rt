@@ -5,9 +5,9 @@
 #![tactic(auto)]
 
 ghost use Rattle.std.specs.Prelude.{◌≡◌, true, false, ◌+◌, ◌*◌, ◌≤◌, ◌<◌, length, take, get_or, replicate};
-ghost use Rattle.lists.specs.Answer.{refused};
+ghost use Rattle.answers.specs.Refusals.{refusal_is};
 ghost use Rattle.lists.specs.Writing.{Room, Wrote};
-ghost use Rattle.lists.specs.Written.{Lent};
+ghost use Rattle.answers.specs.Lent.{Lent};
 ghost use Rattle.model.specs.Systems.{keep};
 ghost use Rattle.model.specs.Plans.{plan_bytes_of, plan_numbers};
 ghost use Rattle.model.specs.Judging.{project_bytes};
@@ -22,11 +22,10 @@ ghost use Rattle.plan_project.specs.Projecting.{Posed, Kept, Reached, Projected,
 ghost use Rattle.source_step.specs.Sizes.{VARIABLES, MODES, EFFECTS};
 ghost use Rattle.plan_strokes.specs.Strokes.{STAGES};
 
+use answers::{Reason, Refusal};
 use file_actions::EFFECTS;
-use lists::Written;
 use plan_strokes::{ENTRIES, STAGES};
 use source_step::{MARKS, MODES, NUMBERS, ROWS, SUMS_ROW, VARIABLES};
-use source_walk::Opened;
 
 // The restricted numbers that a table of them has room for.
 const OPENINGS: usize = 3200;
@@ -42,54 +41,39 @@ fn put_openers(sources: &mut [u8; OPENINGS], count: usize, openings: &[u16; ENTR
     requires { (sources.old ≡ replicate OPENINGS NONE) × Openable openings.now count }
     ensures { Sourced openings.now count sources.new }
 {
-    let mut k: usize = 0;
-    while k < count {
-        let opening = source_step::wide16(openings[k]);
-        sources[opening] = k as u8;
-        k += 1;
+    for (k, opening) in openings[..count].iter().enumerate() {
+        sources[*opening as usize] = k as u8;
     }
-}
-
-fn wide(x: u8) -> usize
-    ensures { result ≡ x }
-{
-    x as usize
 }
 
 // What the table has at a number.
 fn source_of(sources: &[u8; OPENINGS], number: u16) -> u8
     ensures { result ≡ entry_at sources.now number }
 {
-    let i = source_step::wide16(number);
+    let i = number as usize;
     if i < OPENINGS {
         return sources[i];
     }
     NONE
 }
 
-// The refusal of a plan that goes astray at a place: 13 where it ends there, 11 or 12 by the number that stands there.
-fn astray(plan: &[u8], steps: usize, total: usize, place: usize) -> u8
+// The refusal of a plan that goes astray at a place: the goal is not met where it ends there, else by the number that stands there.
+fn astray(plan: &[u8], steps: usize, total: usize, place: usize) -> Refusal
     requires { steps ≡ length (plan_numbers plan.now) }
-    ensures { strayed_at total (plan_numbers plan.now) place ≡ refused result place }
+    ensures { strayed_at total (plan_numbers plan.now) place ≡ refusal_is result }
 {
     if steps <= place {
-        return 13;
+        return Reason::GoalNotMet.at(place as u64);
     }
-    let k = source_step::wide16(plan_bytes::action_of(plan, place));
+    let k = plan_bytes::action_of(plan, place) as usize;
     if k < total {
-        return 12;
+        return Reason::DoesNotApply.at(place as u64);
     }
-    11
+    Reason::NoAction.at(place as u64)
 }
 
-// What a source step comes to: the plan goes on at a place, or is refused.
-#[derive(Drop)]
-enum Next {
-    At(usize),
-    Refused(u8, u64),
-}
-
-// Of a step that applies, where the plan has the first `matched` of its `size` numbers from a place on.
+// What a source step comes to: the place where the plan goes on, or its refusal. Of a step that applies, where the plan has the first `matched`
+// of its `size` numbers from a place on.
 fn past_macro(
     plan: &[u8],
     steps: usize,
@@ -97,16 +81,16 @@ fn past_macro(
     at: usize,
     matched: usize,
     size: usize,
-) -> Next
+) -> Result<usize, Refusal>
     requires { (steps ≡ length (plan_numbers plan.now)) × (at + matched ≤ steps) × (1 ≤ size) }
     ensures answers { Answers result (plan_numbers plan.now) (past_at total at matched size (plan_numbers plan.now)) }
     ensures further { Further true at (plan_numbers plan.now) result }
 {
     let place = at + matched;
     if matched == size {
-        return Next::At(place);
+        return Ok(place);
     }
-    Next::Refused(astray(plan, steps, total, place), place as u64)
+    Err(astray(plan, steps, total, place))
 }
 
 // Of a step that hangs at the last of those numbers, which doesn't apply.
@@ -117,13 +101,13 @@ fn into_macro(
     at: usize,
     matched: usize,
     size: usize,
-) -> Next
+) -> Result<usize, Refusal>
     requires { (steps ≡ length (plan_numbers plan.now)) × (at + matched ≤ steps) × (1 ≤ size) }
     ensures answers { Answers result (plan_numbers plan.now) (λ onward. into_at total at matched size (plan_numbers plan.now)) }
     ensures further { Further false at (plan_numbers plan.now) result }
 {
-    let place = at + source_step::lesser(matched, size - 1);
-    Next::Refused(astray(plan, steps, total, place), place as u64)
+    let place = at + matched.min(size - 1);
+    Err(astray(plan, steps, total, place))
 }
 
 // How many of so many strokes a walk goes through that hangs: those up to the Move to the first target whose result is out of bounds. Behind it
@@ -151,7 +135,7 @@ fn advance_macro(
     values: &mut [i64; VARIABLES],
     modes: &mut [u16; MODES],
     times: &mut [i64; STAGES],
-) -> Next
+) -> Result<usize, Refusal>
     requires n_bound { (n ≤ VARIABLES) × (m ≤ MODES) × (length modes.old ≡ MODES) × (length times.old ≡ STAGES) }
     requires usable { Usable n marks.now numbers.now sums.now }
     requires macro_is { MacroIs marks.now true × (steps ≡ length (plan_numbers plan.now)) × (at < steps) × (opening ≤ 65000) }
@@ -160,7 +144,7 @@ fn advance_macro(
     ensures times_len { length times.new ≡ STAGES }
 {
     if !source_step::holds(values, modes, n, m, marks, numbers, sums) {
-        return Next::Refused(12, at as u64);
+        return Err(Reason::DoesNotApply.at(at as u64));
     }
     let mut results = [0i64; EFFECTS];
     let count = plan_strokes::put_strokes(times, &mut results, values, n, marks, numbers);
@@ -191,7 +175,7 @@ fn advance(
     values: &mut [i64; VARIABLES],
     modes: &mut [u16; MODES],
     times: &mut [i64; STAGES],
-) -> Next
+) -> Result<usize, Refusal>
     requires n_bound { (n ≤ VARIABLES) × (m ≤ MODES) × (length modes.old ≡ MODES) × (length times.old ≡ STAGES) }
     requires usable { Usable n marks.now numbers.now sums.now }
     requires steps_value { (steps ≡ length (plan_numbers plan.now)) × (at < steps) × (opening ≤ 65000) × (opening ≡ get_or (plan_numbers plan.now) at 0) }
@@ -201,20 +185,13 @@ fn advance(
 {
     if !plan_strokes::makes_macro(marks) {
         if source_step::take_single(values, modes, n, m, marks, numbers, sums) {
-            return Next::At(at + 1);
+            return Ok(at + 1);
         }
-        return Next::Refused(12, at as u64);
+        return Err(Reason::DoesNotApply.at(at as u64));
     }
     advance_macro(
         plan, steps, total, at, opening, n, m, marks, numbers, sums, values, modes, times,
     )
-}
-
-// How far a plan goes: to its end, with so many source steps, or it is refused.
-#[derive(Drop)]
-enum Followed {
-    Ended(usize),
-    Stopped(u8, u64),
 }
 
 // Notes a source number, where there is room for it.
@@ -223,11 +200,10 @@ fn note(noted: &mut [u8; NOTED], found: usize, source: u8)
 {
     if found < NOTED {
         noted[found] = source;
-        return;
     }
 }
 
-// Takes the source steps that a plan stands for in a lent state, and notes the first of them.
+// Takes the source steps that a plan stands for in a lent state, and notes the first of them: how many they are where it goes to its end.
 fn follow(
     plan: &[u8],
     steps: usize,
@@ -241,7 +217,7 @@ fn follow(
     values: &mut [i64; VARIABLES],
     modes: &mut [u16; MODES],
     noted: &mut [u8; NOTED],
-) -> Followed
+) -> Result<usize, Refusal>
     requires usables { Usables (table count marks.now numbers.now n m) × Below count sources.now × (steps ≡ length (plan_numbers plan.now)) }
     requires modes_len { (length modes.old ≡ MODES) × (length noted.old ≡ 512) }
     ensures { PlanFollowed (table count marks.now numbers.now n m) total sources.now
@@ -254,11 +230,11 @@ fn follow(
     while at < steps {
         let opening = plan_bytes::action_of(plan, at);
         let source = source_of(sources, opening);
-        let k = wide(source);
+        let k = source as usize;
         if count <= k {
-            return Followed::Stopped(astray(plan, steps, total, at), at as u64);
+            return Err(astray(plan, steps, total, at));
         }
-        let next = advance(
+        at = advance(
             plan,
             steps,
             total,
@@ -272,19 +248,11 @@ fn follow(
             values,
             modes,
             &mut times,
-        );
-        match next {
-            Next::Refused(number, place) => {
-                return Followed::Stopped(number, place);
-            }
-            Next::At(place) => {
-                at = place;
-            }
-        }
+        )?;
         note(noted, found, source);
         found += 1;
     }
-    Followed::Ended(found)
+    Ok(found)
 }
 
 // The same where the goal is to be met at the end.
@@ -301,32 +269,27 @@ fn follow_to_goal(
     values: &mut [i64; VARIABLES],
     modes: &mut [u16; MODES],
     noted: &mut [u8; NOTED],
-) -> Followed
+) -> Result<usize, Refusal>
     requires usables { Usables (table count marks.now numbers.now n m) × Below count sources.now × (steps ≡ length (plan_numbers plan.now)) }
     requires modes_len { (length modes.old ≡ MODES) × (length noted.old ≡ 512) }
     ensures { Reached (table count marks.now numbers.now n m) total sources.now (plan_numbers plan.now)
         (state values.old modes.old) result noted.new }
 {
-    let followed = follow(
+    let found = follow(
         plan, steps, total, sources, count, marks, numbers, n, m, values, modes, noted,
-    );
-    match followed {
-        Followed::Stopped(number, place) => Followed::Stopped(number, place),
-        Followed::Ended(found) => {
-            if source_step::holds(
-                values,
-                modes,
-                n,
-                m,
-                &marks[count],
-                &numbers[count],
-                &numbers[SUMS_ROW],
-            ) {
-                return Followed::Ended(found);
-            }
-            Followed::Stopped(13, steps as u64)
-        }
+    )?;
+    if source_step::holds(
+        values,
+        modes,
+        n,
+        m,
+        &marks[count],
+        &numbers[count],
+        &numbers[SUMS_ROW],
+    ) {
+        return Ok(found);
     }
+    Err(Reason::GoalNotMet.at(steps as u64))
 }
 
 // Writes the source numbers of a plan's openings, in their order. A number that opens nothing is passed over, and a run of it at once.
@@ -354,22 +317,14 @@ fn put_sources(plan: &[u8], steps: usize, sources: &[u8; OPENINGS], out: &mut [u
     place
 }
 
-fn word(x: u8) -> u32
-    ensures { result ≡ x }
-{
-    x as u32
-}
-
 // Writes the first source numbers that are noted.
 fn put_noted(noted: &[u8; NOTED], found: usize, out: &mut [u8]) -> usize
     requires { Room out.old 0 (plan_bytes_of (take found noted.now)) × (found ≤ 512) × (length noted.now ≡ 512) }
     ensures { Wrote out.old 0 (plan_bytes_of (take found noted.now)) out.new result }
 {
     let mut place: usize = 0;
-    let mut i: usize = 0;
-    while i < found {
-        place = lists::put_number(out, place, word(noted[i]), 2);
-        i += 1;
+    for source in &noted[..found] {
+        place = lists::put_number(out, place, *source as u32, 2);
     }
     place
 }
@@ -409,7 +364,7 @@ fn project_rows(
     values: &mut [i64; VARIABLES],
     modes: &mut [u16; MODES],
     out: &mut [u8],
-) -> Written
+) -> Result<usize, Refusal>
     requires usables { Usables (table count marks.now numbers.now n m) × Below count sources.now
         × (steps ≡ length (plan_numbers plan.now)) × (length modes.old ≡ MODES) }
     requires kept { Kept (table count marks.now numbers.now n m) total sources.now (plan_numbers plan.now) (state values.old modes.old) }
@@ -417,20 +372,15 @@ fn project_rows(
         (state values.old modes.old) out.old out.new result }
 {
     let mut noted = [0u8; NOTED];
-    let followed = follow_to_goal(
+    let found = follow_to_goal(
         plan, steps, total, sources, count, marks, numbers, n, m, values, modes, &mut noted,
-    );
-    match followed {
-        Followed::Stopped(number, place) => Written::Refused(number, place),
-        Followed::Ended(found) => {
-            let needed = 2 * found;
-            if out.len() < needed {
-                return Written::Refused(8, needed as u64);
-            }
-            put_found(plan, steps, sources, &noted, found, out);
-            Written::Bytes(needed)
-        }
+    )?;
+    let needed = 2 * found;
+    if out.len() < needed {
+        return Err(Reason::OutputShort.at(needed as u64));
     }
+    put_found(plan, steps, sources, &noted, found, out);
+    Ok(needed)
 }
 
 // Projects a plan of so many steps from the start of a task that is made ready.
@@ -445,14 +395,14 @@ fn project_ready(
     values: &mut [i64; VARIABLES],
     modes: &mut [u16; MODES],
     out: &mut [u8],
-) -> Written
+) -> Result<usize, Refusal>
     requires posed { Posed (table count marks.now numbers.now n m) (state values.old modes.old) }
     requires steps_value { (steps ≡ length (plan_numbers plan.now)) × (steps ≤ 1000000) }
     ensures { TaskProjected (table count marks.now numbers.now n m) (state values.old modes.old)
         (plan_numbers plan.now) out.old out.new result }
 {
     let openings = plan_strokes::openings_of(count, marks);
-    let total = source_step::wide16(openings.numbers[count]);
+    let total = openings.numbers[count] as usize;
     let numbers_of = openings.numbers;
     let mut sources = [NONE; OPENINGS];
     put_openers(&mut sources, count, &numbers_of);
@@ -462,33 +412,31 @@ fn project_ready(
 }
 
 // The source plan that a restricted plan projects to, written into lent output.
-pub fn project(file: &[u8], plan: &[u8], out: &mut [u8]) -> Written
+pub fn project(file: &[u8], plan: &[u8], out: &mut [u8]) -> Result<usize, Refusal>
     ensures { Lent out.old (project_bytes file.now plan.now) out.new result }
 {
     let mut marks = [[0u16; MARKS]; ROWS];
     let mut numbers = [[0i64; NUMBERS]; ROWS];
     let mut values = [0i64; VARIABLES];
     let mut modes = [0u16; MODES];
-    match source_walk::open(
+    let t = source_walk::open(
         file,
         plan,
         &mut marks,
         &mut numbers,
         &mut values,
         &mut modes,
-    ) {
-        Opened::Refused(number, place) => Written::Refused(number, place),
-        Opened::Ready(t) => project_ready(
-            plan,
-            t.steps,
-            t.actions,
-            &marks,
-            &numbers,
-            t.variables,
-            t.modes,
-            &mut values,
-            &mut modes,
-            out,
-        ),
-    }
+    )?;
+    project_ready(
+        plan,
+        t.steps,
+        t.actions,
+        &marks,
+        &numbers,
+        t.variables,
+        t.modes,
+        &mut values,
+        &mut modes,
+        out,
+    )
 }

@@ -33,7 +33,12 @@ module _ (marks : List ℕ) (numbers : List ℤ) (e : ℕ) where
 
   pub residue-kind : 3 ≤ kind_at marks e → effect_at marks numbers e ≡ residue_effect (target_at marks e) (operand_at marks e) (constant_at numbers e)
   unfolding effect_of_kind
-  residue-kind h = rw (ne_eqb (kind_at marks e) 0 (λ q. omega arith), ne_eqb (kind_at marks e) 1 (λ q. omega arith), ne_eqb (kind_at marks e) 2 (λ q. omega arith))
+  residue-kind h =
+      rw (
+        ne_eqb (kind_at marks e) 0 (λ q. omega arith),
+        ne_eqb (kind_at marks e) 1 (λ q. omega arith),
+        ne_eqb (kind_at marks e) 2 (λ q. omega arith),
+      )
 
   -- what holds of an effect of each kind holds of it
   pub by_kind : (P : Effect → Type 0) → (kind_at marks e ≡ 0 → P (add_effect (target_at marks e) (constant_at numbers e)))
@@ -90,7 +95,9 @@ module _ (marks : List ℕ) (numbers : List ℤ) where
 
   pub several-effects : 2 ≤ effect_count_at marks → effects_at marks numbers ≡ effect_at marks numbers 0 ∷ effect_at marks numbers 1 ∷ later_effects
   unfolding tabulate
-  several-effects h = let m : effect_count_at marks ≡ suc (suc (effect_count_at marks - 2)) = omega arith in ap (λ (k : ℕ). tabulate k (effect_at marks numbers)) m
+  several-effects h =
+      let m : effect_count_at marks ≡ suc (suc (effect_count_at marks - 2)) = omega arith in
+      ap (λ (k : ℕ). tabulate k (effect_at marks numbers)) m
 
 -- ---- whether they make a macro
 module _ {marks : List ℕ} where
@@ -98,7 +105,9 @@ module _ {marks : List ℕ} where
   none_stays h = record { is = λ numbers. ap makes_macro (no-effects marks numbers h) }
 
   add-stays : effect_count_at marks ≡ 1 → kind_at marks 0 ≡ 0 → MacroIs marks false
-  add-stays h k = record { is = λ numbers. ap makes_macro (one-effect marks numbers h) ∙ ap (λ (e : Effect). makes_macro (e ∷ [])) (add-kind marks numbers 0 k) }
+  add-stays h k = record {
+    is = λ numbers. ap makes_macro (one-effect marks numbers h) ∙ ap (λ (e : Effect). makes_macro (e ∷ [])) (add-kind marks numbers 0 k);
+  }
 
   one-is-macro : effect_count_at marks ≡ 1 → (kind_at marks 0 ≡ 0 → ⊥) → MacroIs marks true
   one-is-macro h k = record {

@@ -19,8 +19,8 @@ use Rattle.lists.proofs.Each.{length-tabulate}
 use Rattle.model.specs.Tasks.{Effect}
 use Rattle.model.specs.Steps.{integer_at, result}
 use Rattle.source_step.specs.Sizes.{EFFECTS}
-use Rattle.source_step.specs.Row.{target_at, term_count_at, variable_at, weight_at, terms_at, effect_at, effect_count_at, effects_at, result_at, pairs_of, ResultsAre}
-use Rattle.source_step.specs.Row.{Reads}
+use Rattle.source_step.specs.Row.{target_at, term_count_at, variable_at, weight_at, terms_at, effect_at, effect_count_at, effects_at, result_at, pairs_of}
+use Rattle.source_step.specs.Row.{ResultsAre, Reads}
 use Rattle.source_step.proofs.Results.{pairs-are}
 use Rattle.source_step.proofs.Rows.{Left, left-start, left-next, left-none, row-tabulate}
 use Rattle.plan_strokes.specs.Strokes.{STAGES, term_strokes, result_strokes, held_strokes, set_strokes, strokes_of}

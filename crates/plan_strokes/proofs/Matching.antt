@@ -8,7 +8,6 @@ use mathlib.Core.List.{List, [], ◌∷◌, ◌++◌}
 use lib.ListN.{length, get_or, drop, take, replicate, length-append, length-replicate, length-drop}
 use lib.Seq.{drop-drop}
 use lib.IntN.{ℤ, pos}
-use Rattle.lists.proofs.Loops.{There, there-all}
 use Rattle.model.specs.Expansion.{strokes}
 use Rattle.model.specs.Following.{agreeing}
 use Rattle.model.proofs.FollowingWalks.{agreeing-few, agreeing-there, agreeing-short, agreeing-past}
@@ -39,54 +38,55 @@ module _ {first : ℕ} {z : ℤ} {r : Run} (is : RunOf first z r) (xs : List ℕ
       sym (as-run ∙ agreeing-past run ((first + 2) ∷ []) (drop at xs) n ∙ rw (q, drop-drop m at xs, ← f))
 
 -- ---- the stages, one after another
-pub record Matching (first : ℕ) (count : ℕ) (times : List ℤ) (xs : List ℕ) (at matched number i : ℕ) : Type 0 where
-  pub here : There count times count
-  pub bound : i ≤ count
+pub record Matching (first : ℕ) (zs : List ℤ) (xs : List ℕ) (at matched number i : ℕ) : Type 0 where
+  pub bound : i ≤ length zs
   pub numbered : number ≡ first + 3 * i
   pub there : at + matched ≤ length xs
-  pub same : matched + agreeing (macro_steps number (drop i (take count times))) (drop (at + matched) xs) ≡ agreeing (macro_steps first (take count times)) (drop at xs)
+  pub same : matched + agreeing (macro_steps number (drop i zs)) (drop (at + matched) xs) ≡ agreeing (macro_steps first zs) (drop at xs)
 
-pub matching-start : (first : ℕ) (count : ℕ) (times : List ℤ) (xs : List ℕ) (at : ℕ) → count ≤ length times → at ≤ length xs → Matching first count times xs at 0 first 0
-matching-start first count times xs at h l = record {
-  here = there-all count times h;
+pub matching-start : (first : ℕ) (zs : List ℤ) (xs : List ℕ) (at : ℕ) → at ≤ length xs → Matching first zs xs at 0 first 0
+matching-start first zs xs at l = record {
   bound = omega arith;
   numbered = omega arith;
   there = omega arith;
-  same = zero-add _ ∙ ap (λ (k : ℕ). agreeing (macro_steps first (take count times)) (drop k xs)) (add-zero at);
+  same = zero-add _ ∙ ap (λ (k : ℕ). agreeing (macro_steps first zs) (drop k xs)) (add-zero at);
 }
 
-module _ {first : ℕ} {count : ℕ} {times : List ℤ} {xs : List ℕ} {at matched number i : ℕ} (g : Matching first count times xs at matched number i) where
-  pub matching-end : count ≤ i → matched ≡ agreeing (macro_steps first (take count times)) (drop at xs)
+module _ {first : ℕ} {zs : List ℤ} {xs : List ℕ} {at matched number i : ℕ} (g : Matching first zs xs at matched number i) where
+  pub matching-end : length zs ≤ i → matched ≡ agreeing (macro_steps first zs) (drop at xs)
   matching-end h =
-      let n : agreeing (macro_steps number (drop i (take count times))) (drop (at + matched) xs) ≡ 0 = ap (λ (l : List ℕ). agreeing l (drop (at + matched) xs)) (steps-none g.here number g.bound h) in
+      let n : agreeing (macro_steps number (drop i zs)) (drop (at + matched) xs) ≡ 0 =
+      ap (λ (l : List ℕ). agreeing l (drop (at + matched) xs)) (steps-none zs number i h) in
       omega (arith, n, g.same)
 
-  module _ (h : i < count) (r : Run) (is : RunOf number (get_or times i (pos 0)) r) (k : ℕ) (e : k ≡ agreeing (stage_steps number (get_or times i (pos 0))) (drop (at + matched) xs)) where
+  module _ (h : i < length zs) (r : Run) (is : RunOf number (get_or zs i (pos 0)) r) (k : ℕ)
+      (e : k ≡ agreeing (stage_steps number (get_or zs i (pos 0))) (drop (at + matched) xs)) where
     abbrev stage : List ℕ
-    stage = stage_steps number (get_or times i (pos 0))
+    stage = stage_steps number (get_or zs i (pos 0))
 
     abbrev rest : List ℕ
-    rest = macro_steps (number + 3) (drop (i + 1) (take count times))
+    rest = macro_steps (number + 3) (drop (i + 1) zs)
 
     long : length stage ≡ r.count + 1
-    long = length-append (strokes number (get_or times i (pos 0))) ((number + 2) ∷ []) ∙ omega (arith, ap length is.is, length-replicate r.count r.number)
+    long = length-append (strokes number (get_or zs i (pos 0))) ((number + 2) ∷ []) ∙ omega (arith, ap length is.is, length-replicate r.count r.number)
 
-    more : matched + agreeing (stage ++ rest) (drop (at + matched) xs) ≡ agreeing (macro_steps first (take count times)) (drop at xs)
-    more = ap (λ (l : List ℕ). matched + agreeing l (drop (at + matched) xs)) (sym (steps-more g.here number h)) ∙ g.same
+    more : matched + agreeing (stage ++ rest) (drop (at + matched) xs) ≡ agreeing (macro_steps first zs) (drop at xs)
+    more = ap (λ (l : List ℕ). matched + agreeing l (drop (at + matched) xs)) (sym (steps-more zs number i h)) ∙ g.same
 
     pub matched-there : at + (matched + k) ≤ length xs
     matched-there = omega (arith, e, agreeing-there stage (drop (at + matched) xs), length-drop (at + matched) xs, g.there)
 
-    pub matching-stop : k ≤ r.count → matched + k ≡ agreeing (macro_steps first (take count times)) (drop at xs)
+    pub matching-stop : k ≤ r.count → matched + k ≡ agreeing (macro_steps first zs) (drop at xs)
     matching-stop l = ap (λ (n : ℕ). matched + n) (e ∙ sym (agreeing-short stage rest (drop (at + matched) xs) (omega (arith, e, long)))) ∙ more
 
-    pub matching-next : r.count < k → Matching first count times xs at (matched + k) (number + 3) (i + 1)
+    pub matching-next : r.count < k → Matching first zs xs at (matched + k) (number + 3) (i + 1)
     matching-next l =
         let n : agreeing stage (drop (at + matched) xs) ≡ length stage = omega (arith, e, long, agreeing-few stage (drop (at + matched) xs)) in
         let q : length stage ≡ k = sym (e ∙ n) in
         let f : at + matched + k ≡ at + (matched + k) = omega arith in
-        let on : agreeing (stage ++ rest) (drop (at + matched) xs) ≡ k + agreeing rest (drop (at + (matched + k)) xs) = agreeing-past stage rest (drop (at + matched) xs) n ∙ rw (q, drop-drop k (at + matched) xs, f) in
-        record { here = g.here; bound = omega arith; numbered = omega (arith, g.numbered); there = matched-there; same = omega (arith, on, more) }
+        let on : agreeing (stage ++ rest) (drop (at + matched) xs) ≡ k + agreeing rest (drop (at + (matched + k)) xs) =
+        agreeing-past stage rest (drop (at + matched) xs) n ∙ rw (q, drop-drop k (at + matched) xs, f) in
+        record { bound = omega arith; numbered = omega (arith, g.numbered); there = matched-there; same = omega (arith, on, more) }
 
 -- ---- the opening, and the stages behind it
 module _ (opening : ℕ) (zs : List ℤ) (xs : List ℕ) (at m : ℕ) (e : m ≡ agreeing (opening ∷ []) (drop at xs)) where

@@ -5,16 +5,18 @@ use Prim.Native.Nat.{ℕ, ◌+◌, ◌*◌, ◌≤◌, ◌<◌}
 use native.Mathlib.Omega.{arith}
 use mathlib.Core.Bool.{Bool, true, false}
 use mathlib.Core.List.{List, [], ◌∷◌}
-use lib.ListN.{length, get_or, take, drop}
-use lib.Seq.{get_or-take}
+use lib.ListN.{length, get_or, take, drop, drop_of_length-le}
+use lib.Seq.{drop-cons}
+use native.Mathlib.Numerals.{add-one}
 use lib.IntN.{ℤ, pos, nat_abs}
 use Rattle.integers.specs.Division.{unit_less, floor}
 use Rattle.integers.specs.Parts.{EachWithin}
-use Rattle.lists.proofs.Loops.{There, there-all, rest_more, rest-none}
 use Rattle.model.specs.Tasks.{Effect, add_effect, linear_effect, quotient_effect, residue_effect}
 use Rattle.model.specs.Steps.{integer_at, result, results}
 use Rattle.model.specs.Expansion.{magnitudes, price_of_result, price_of_held, price_of_effects}
 use Rattle.model.proofs.StageValues.{sign-cost}
+use Rattle.std.specs.Bool.{then_some}
+use Rattle.std.proofs.Common.{None}
 use Rattle.source_step.specs.Row.{effects_at, held, Finished}
 use Rattle.source_step.proofs.Taking.{not-held, behind-the-test}
 use Rattle.plan_strokes.specs.Strokes.{term_strokes, result_strokes, held_strokes, set_strokes, single_strokes, strokes_of, price_of_strokes}
@@ -54,53 +56,44 @@ price-is (e ∷ f ∷ es) v =
     omega (arith, price-of-held (e ∷ f ∷ es) v, steps-of-both (held_strokes (e ∷ f ∷ es) v) (set_strokes (results (e ∷ f ∷ es) v) v))
 
 -- ---- the price so far, and behind it that of the strokes that are left
-pub record Pricing (times : List ℤ) (count price i : ℕ) : Type 0 where
-  pub here : There count times count
-  pub bound : i ≤ count
-  pub same : price + steps_of (drop i (take count times)) ≡ price_of_strokes (take count times)
+pub record Pricing (zs : List ℤ) (price i : ℕ) : Type 0 where
+  pub bound : i ≤ length zs
+  pub same : price + steps_of (drop i zs) ≡ price_of_strokes zs
   pub few : price ≤ 1 + i * 1000000001
 
-pub pricing-start : (times : List ℤ) (count : ℕ) → count ≤ length times → Pricing times count 1 0
-pricing-start times count h = record { here = there-all count times h; bound = omega arith; same = omega arith; few = omega arith }
+pub pricing-start : (zs : List ℤ) → Pricing zs 1 0
+pricing-start zs = record { bound = omega arith; same = omega arith; few = omega arith }
 
-module _ {times : List ℤ} {count price i : ℕ} (g : Pricing times count price i) where
-  pub stroke-few : i < count → EachWithin 1000000000 (take count times) → nat_abs (get_or times i (pos 0)) ≤ 1000000000
-  stroke-few h w = rw (get_or-take count times i (pos 0) h) at (w i).within
-
-  pub pricing-next : i < count → EachWithin 1000000000 (take count times) → (m : ℕ) → m ≡ nat_abs (get_or times i (pos 0))
-      → Pricing times count (price + (m + 1)) (i + 1)
+module _ {zs : List ℤ} {price i : ℕ} (g : Pricing zs price i) where
+  pub pricing-next : i < length zs → EachWithin 1000000000 zs → (m : ℕ) → m ≡ nat_abs (get_or zs i (pos 0)) → Pricing zs (price + (m + 1)) (i + 1)
   pricing-next h w m e =
-      let r = ap steps_of (rest_more {i = i} (pos 0) g.here h) in
-      record { here = g.here; bound = omega arith; same = omega (arith, r, e, g.same); few = omega (arith, e, stroke-few h w, g.few) }
+      let r = ap steps_of (drop-cons zs i (pos 0) h ∙ ap (λ (k : ℕ). get_or zs i (pos 0) ∷ drop k zs) (sym (add-one i))) in
+      record { bound = omega arith; same = omega (arith, r, e, g.same); few = omega (arith, e, (w i).within, g.few) }
 
-  pub pricing-end : count ≤ i → price ≡ price_of_strokes (take count times)
-  pricing-end h = let r = ap steps_of (rest-none {i = i} g.here g.bound h) in omega (arith, r, g.same)
+  pub pricing-end : length zs ≤ i → price ≡ price_of_strokes zs
+  pricing-end h = let r = ap steps_of (drop_of_length-le zs h) in omega (arith, r, g.same)
 
 -- ---- a step: it was not taken, or priced and finished
 module _ {n m : ℕ} {marks : List ℕ} {numbers sums values : List ℤ} {modes : List ℕ} where
-  pub turned-away : held n m marks numbers sums values modes ≡ false
-      → Turned n m marks numbers sums values modes (record { applied = false; price = 0 }) values modes
-  turned-away e = record { stepped = not-held sums e; price = rw e refl; few = omega arith }
+  pub turned-away : held n m marks numbers sums values modes ≡ false → Turned n m marks numbers sums values modes None values modes
+  turned-away e = record { stepped = not-held sums e; price = tt; few = tt }
 
-  pub turned-single : held n m marks numbers sums values modes ≡ true → MacroIs marks false → (r : Bool) {values' : List ℤ} {modes' : List ℕ}
-      → Finished n m marks numbers values modes r values' modes'
-      → Turned n m marks numbers sums values modes (record { applied = r; price = 1 }) values' modes'
-  turned-single e s r F =
-      let es = effects_at marks numbers in
-      let v = integer_at (take n values) in
-      record {
-        stepped = behind-the-test sums e F;
-        price = rw e (sym (price-is es v ∙ ap price_of_strokes (no-strokes es v (s.is numbers))));
-        few = omega arith;
-      }
+  module _ (e : held n m marks numbers sums values modes ≡ true) where
+    at_price : {p : ℕ} → p ≡ price_of_effects (effects_at marks numbers) (integer_at (take n values)) → p ≤ 40000000000 → (r : Bool)
+        {values' : List ℤ} {modes' : List ℕ} → Finished n m marks numbers values modes r values' modes'
+        → Turned n m marks numbers sums values modes (then_some r p) values' modes'
+    at_price q l true F = record { stepped = behind-the-test sums e F; price = q; few = l }
+    at_price q l false F = record { stepped = behind-the-test sums e F; price = tt; few = tt }
 
-  pub turned : held n m marks numbers sums values modes ≡ true → {times results : List ℤ} {count : ℕ}
-      → StrokesMade n marks numbers values times results count
-      → (p : ℕ) → (p ≡ price_of_strokes (take count times)) × (p ≤ 40000000000) → (r : Bool) {values' : List ℤ} {modes' : List ℕ}
-      → Finished n m marks numbers values modes r values' modes'
-      → Turned n m marks numbers sums values modes (record { applied = r; price = p }) values' modes'
-  turned e s p q r F = record {
-    stepped = behind-the-test sums e F;
-    price = rw e (q.0 ∙ ap price_of_strokes s.listed.is ∙ sym (price-is _ _));
-    few = q.1;
-  }
+    pub turned-single : MacroIs marks false → (r : Bool) {values' : List ℤ} {modes' : List ℕ} → Finished n m marks numbers values modes r values' modes'
+        → Turned n m marks numbers sums values modes (then_some r 1) values' modes'
+    turned-single s r F =
+        let es = effects_at marks numbers in
+        let v = integer_at (take n values) in
+        at_price (sym (price-is es v ∙ ap price_of_strokes (no-strokes es v (s.is numbers)))) (omega arith) r F
+
+    pub turned : {times results : List ℤ} {count : ℕ} → StrokesMade n marks numbers values times results count
+        → (p : ℕ) → (p ≡ price_of_strokes (take count times)) × (p ≤ 40000000000) → (r : Bool) {values' : List ℤ} {modes' : List ℕ}
+        → Finished n m marks numbers values modes r values' modes'
+        → Turned n m marks numbers sums values modes (then_some r p) values' modes'
+    turned s p q r F = at_price (q.0 ∙ ap price_of_strokes s.listed.is ∙ sym (price-is _ _)) q.1 r F

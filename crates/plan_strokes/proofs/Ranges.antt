@@ -16,7 +16,8 @@ use Rattle.model.specs.Tasks.{Effect}
 use Rattle.model.specs.Steps.{integer_at, linear, target, result, results}
 use Rattle.model.specs.Following.{makes_macro}
 use Rattle.model.proofs.StepBounds.{abs-sum}
-use Rattle.source_step.specs.Row.{kind_at, target_at, operand_at, constant_at, term_count_at, variable_at, weight_at, terms_at, effect_at, effect_count_at, effects_at}
+use Rattle.source_step.specs.Row.{kind_at, target_at, operand_at, constant_at, term_count_at, variable_at, weight_at, terms_at, effect_at, effect_count_at}
+use Rattle.source_step.specs.Row.{effects_at}
 use Rattle.source_step.specs.Row.{result_at, Reads}
 use Rattle.source_step.proofs.InRange.{term-small, quotient-small, residue-small}
 use Rattle.source_step.proofs.Numbers.{near}

@@ -10,7 +10,8 @@ use lib.Dec.{T}
 use lib.ListN.{length, get_elem?}
 use lib.IntN.{ℤ}
 use Rattle.model.specs.Tasks.{Effect, add_effect, linear_effect, quotient_effect, residue_effect, SourceAction}
-use Rattle.model.specs.Stages.{Stage, count_actions, drain_terms, result_stages, result_in, move_to_hold, next_additions, hold_stages, unload_stages, set_stages}
+use Rattle.model.specs.Stages.{Stage, count_actions, drain_terms, result_stages, result_in, move_to_hold, next_additions, hold_stages, unload_stages}
+use Rattle.model.specs.Stages.{set_stages}
 use Rattle.model.specs.Stages.{helper_a, stages_of, macro_size, opening}
 use Rattle.model.specs.Following.{makes_macro}
 use Rattle.model.proofs.Pairing.{some-injective}

@@ -206,7 +206,8 @@ module _ (lower upper : ℕ → ℤ) where
   effects-walk (add_effect t c ∷ []) v d = ends _
   effects-walk (linear_effect t w ts ∷ []) v d =
       let e = linear_effect t w ts in
-      subst (λ (f : Name → ℤ). Walks (stages_of lower upper (e ∷ [])) f (result_strokes e v ++ set_strokes (results (e ∷ []) v) v)) (sym (added_to_a all_zero w v))
+      subst (λ (f : Name → ℤ). Walks (stages_of lower upper (e ∷ [])) f (result_strokes e v ++ set_strokes (results (e ∷ []) v) v))
+      (sym (added_to_a all_zero w v))
       (works e v all_zero (clear-move e helper_a v (linear w ts v) (pos 0) (λ u. refl)))
   effects-walk (quotient_effect t y c ∷ []) v d =
       let e = quotient_effect t y c in works e v all_zero (clear-move e helper_b v (pos 0) (quotient_of (v y) c) (λ u. refl))

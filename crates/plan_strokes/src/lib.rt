@@ -75,13 +75,11 @@ fn put_terms(
     ensures { TermsMade marks.now e (integer_at (take n values.now)) times.old at times.new result }
 {
     let block = BLOCK * e;
-    let k = source_step::lesser(TERMS, source_step::wide16(marks[COUNT + block]));
+    let k = TERMS.min(marks[COUNT + block] as usize);
     let mut count = at;
-    let mut i: usize = 0;
-    while i < k {
+    for i in 0..k {
         let value = source_step::value_of(values, n, marks[TERM + block + i]);
         count = put_two(times, count, value, value);
-        i += 1;
     }
     count
 }
@@ -94,7 +92,7 @@ fn divide_strokes(quotient: i64, c: i64) -> i64
     if 0 <= c {
         return quotient;
     }
-    0 - quotient
+    -quotient
 }
 
 // The strokes of a Q or R, effect e of a row, before Clear: the operand drained and filled again, what Divide counts, what Empty takes away;
@@ -168,22 +166,12 @@ fn put_held(
     ensures { HeldMade n marks.now numbers.now values.now times.new results.new result }
 {
     let mut place: usize = 0;
-    let mut e: usize = 0;
-    while e < count {
+    for e in 0..count {
         place = put_result(times, place, values, n, marks, numbers, e);
         let last = place - 1;
         results[e] = times[last];
-        e += 1;
     }
     place
-}
-
-// What stands in a hold.
-fn held_in(results: &[i64; EFFECTS], e: usize) -> i64
-    requires { e < EFFECTS }
-    ensures { result ≡ integer_at results.now e }
-{
-    results[e]
 }
 
 // The strokes behind those: each target cleared, and the Move of its result from its hold.
@@ -201,11 +189,9 @@ fn put_sets(
         times.new result }
 {
     let mut place = at;
-    let mut e: usize = 0;
-    while e < count {
+    for e in 0..count {
         let before = source_step::value_of(values, n, marks[TARGET + BLOCK * e]);
-        place = put_two(times, place, before, held_in(results, e));
-        e += 1;
+        place = put_two(times, place, before, results[e]);
     }
     place
 }
@@ -263,23 +249,14 @@ pub fn price_of(times: &[i64; STAGES], count: usize) -> u64
     ensures { (result ≡ price_of_strokes (take count times.now)) × (result ≤ 40000000000) }
 {
     let mut price: u64 = 1;
-    let mut i: usize = 0;
-    while i < count {
-        price += integers::magnitude(times[i]) + 1;
-        i += 1;
+    for z in &times[..count] {
+        price += z.unsigned_abs() + 1;
     }
     price
 }
 
-// What a step comes to: whether its action applies, and its price, which is 0 where the test of its row fails.
-#[derive(Drop)]
-pub struct Turn {
-    pub applied: bool,
-    pub price: u64,
-}
-
-// Takes the action of two rows in a lent state where it applies, and else leaves the state as it was. The price is counted from the values
-// before: an action that stays one costs 1, without strokes. The times are lent for strokes.
+// Takes the action of two rows in a lent state where it applies, and else leaves the state as it was. The price, if it applies, is counted from
+// the values before: an action that stays one costs 1, without strokes. The times are lent for strokes.
 pub fn take_priced(
     values: &mut [i64; VARIABLES],
     modes: &mut [u16; MODES],
@@ -289,7 +266,7 @@ pub fn take_priced(
     numbers: &[i64; NUMBERS],
     sums: &[i64; NUMBERS],
     times: &mut [i64; STAGES],
-) -> Turn
+) -> Option<u64>
     requires n_bound { (n ≤ VARIABLES) × (m ≤ MODES) × (length modes.old ≡ MODES) × (length times.old ≡ STAGES) }
     requires usable { Usable n marks.now numbers.now sums.now }
     ensures turned { Turned n m marks.now numbers.now sums.now values.old modes.old result
@@ -297,25 +274,20 @@ pub fn take_priced(
     ensures times_len { length times.new ≡ STAGES }
 {
     if !source_step::holds(values, modes, n, m, marks, numbers, sums) {
-        return Turn {
-            applied: false,
-            price: 0,
-        };
+        return None;
     }
     if !makes_macro(marks) {
         let result = source_step::result_of(values, n, marks, numbers, 0);
-        let applied = source_step::finish_single(values, modes, n, m, marks, numbers, result);
-        return Turn { applied, price: 1 };
+        return source_step::finish_single(values, modes, n, m, marks, numbers, result).then_some(1);
     }
     let mut results = [0i64; EFFECTS];
     let count = put_strokes(times, &mut results, values, n, marks, numbers);
     let price = price_of(times, count);
-    let applied = source_step::finish(values, modes, n, m, marks, numbers, &results);
-    Turn { applied, price }
+    source_step::finish(values, modes, n, m, marks, numbers, &results).then_some(price)
 }
 
 // A number so many times.
-#[derive(Drop)]
+#[derive(Clone, Copy)]
 struct Run {
     number: u16,
     count: usize,
@@ -326,15 +298,10 @@ fn run_of(first: u16, z: i64) -> Run
     requires { first + 2 < 65536 }
     ensures { RunOf first z result }
 {
-    if 0 <= z {
-        return Run {
-            number: first,
-            count: z as usize,
-        };
-    }
+    let number = if 0 <= z { first } else { first + 1 };
     Run {
-        number: first + 1,
-        count: ((-(z + 1)) as usize) + 1,
+        number,
+        count: z.unsigned_abs() as usize,
     }
 }
 
@@ -357,11 +324,9 @@ fn put_stages(out: &mut [u8], at: usize, first: u16, times: &[i64; STAGES], coun
 {
     let mut place = at;
     let mut number = first;
-    let mut i: usize = 0;
-    while i < count {
-        place = put_stage(out, place, number, times[i]);
+    for z in &times[..count] {
+        place = put_stage(out, place, number, *z);
         number += STAGE;
-        i += 1;
     }
     place
 }
@@ -402,17 +367,14 @@ fn matches_stages(plan: &[u8], at: usize, first: u16, times: &[i64; STAGES], cou
 {
     let mut matched: usize = 0;
     let mut number = first;
-    let mut i: usize = 0;
-    while i < count {
-        let z = times[i];
-        let run = run_of(number, z);
-        let stage = matches_stage(plan, at + matched, number, z);
+    for z in &times[..count] {
+        let run = run_of(number, *z);
+        let stage = matches_stage(plan, at + matched, number, *z);
         matched += stage;
         if stage <= run.count {
             return matched;
         }
         number += STAGE;
-        i += 1;
     }
     matched
 }
@@ -439,7 +401,7 @@ pub fn matches_step(
 pub const ENTRIES: usize = 33;
 
 // The number of the first restricted action of each source action, and behind the last the count of all.
-#[derive(Drop)]
+#[derive(Clone, Copy)]
 pub struct Openings {
     pub numbers: [u16; ENTRIES],
 }
@@ -455,8 +417,7 @@ fn effect_size(marks: &[u16; MARKS], e: usize) -> u16
         return 15;
     }
     if kind == LINEAR {
-        return 9
-            + 6 * (source_step::lesser(TERMS, source_step::wide16(marks[COUNT + block])) as u16);
+        return 9 + 6 * TERMS.min(marks[COUNT + block] as usize) as u16;
     }
     21
 }
@@ -470,10 +431,8 @@ fn macro_size(marks: &[u16; MARKS]) -> u16
     }
     let count = source_step::effect_count(marks);
     let mut size: u16 = 1;
-    let mut e: usize = 0;
-    while e < count {
+    for e in 0..count {
         size += effect_size(marks, e);
-        e += 1;
     }
     if count == 1 {
         return size - STAGE;
@@ -490,11 +449,9 @@ pub fn openings_of(count: usize, marks: &[[u16; MARKS]]) -> Openings
         numbers: [0; ENTRIES],
     };
     let mut next: u16 = 0;
-    let mut k: usize = 0;
-    while k < count {
+    for k in 0..count {
         next += macro_size(&marks[k]);
-        k += 1;
-        o.numbers[k] = next;
+        o.numbers[k + 1] = next;
     }
     o
 }

@@ -7,22 +7,23 @@ ghost use Rattle.std.specs.Prelude.{◌≡◌, drop};
 ghost use Rattle.commands.specs.Reading.{command_at};
 ghost use Rattle.reader.specs.Places.{place_after};
 
+use answers::Reason;
 use commands::Command;
 
-#[derive(Drop)]
+#[derive(Clone, Copy, Debug)]
 pub struct Reader<'a> {
     pub file: &'a [u8],
     pub at: usize,
 }
 
-// The command at a place of a file, read from the remainder alone; the refusal 2 where nothing remains.
+// The command at a place of a file, read from the remainder alone; cut short where nothing remains.
 pub fn command_at(file: &[u8], at: usize) -> Command
     ensures { result ≡ command_at (drop at file.now) }
 {
     if at < file.len() {
         return commands::read(&file[at..]);
     }
-    Command::Refused(2)
+    Command::Refused(Reason::CutShort)
 }
 
 // The place behind the command at a place.
@@ -34,7 +35,6 @@ pub fn place_after(file: &[u8], at: usize) -> usize
         if size <= file.len() - at {
             return at + size;
         }
-        return at;
     }
     at
 }

@@ -1,30 +1,49 @@
--- The text of a number that is one of those with a text, and of one that is none of them.
+-- The text of a number that is none of those with a text.
 -- Assumes nothing.
 use mathlib.Core.Path.{◌≡◌, sym, ap, ◌∙◌, subst}
-use Prim.Native.Nat.{ℕ, zero, suc, ◌≤◌}
+use Prim.Native.Nat.{ℕ, ◌≤◌}
 use native.Mathlib.Omega.{arith}
 use mathlib.Core.List.{List}
 use lib.ListN.{length, get_or-eq_default}
-use Rattle.lists.specs.Answer.{given}
-use Rattle.lists.specs.Written.{Lent}
-use Rattle.lists.specs.declared.Written.{Written}
+use Rattle.std.specs.Prelude.{◌≢◌, Result}
+use Rattle.answers.specs.Answer.{given}
+use Rattle.answers.specs.Lent.{Lent}
+use Rattle.answers.specs.Refusals.{number_of}
+use Rattle.answers.specs.declared.Reason.{Reason}
+use Rattle.answers.specs.declared.Reason.TheVariants.{NotAllowed, CutShort, BytesBehind, OverLimit, Undeclared, OutOfRange, NamedTwice}
+use Rattle.answers.specs.declared.Reason.TheVariants.{OutputShort, OverMillion, PlanLength, NoAction, DoesNotApply, GoalNotMet, SumWithoutTerm}
+use Rattle.answers.specs.declared.Refusal.{Refusal}
 use Rattle.refusals.specs.Texts.{bytes_of_text, texts, unknown, refusal_text}
 
--- the number is none of those below k
-abbrev pub NoneBelow : ℕ → ℕ → Type 0
-NoneBelow zero number = Unit {0}
-NoneBelow (suc k) number = NoneBelow k number × (number ≡ k → ⊥)
+-- a number that is not 0 and no reason's is past them all
+pub past : (number : ℕ) → number ≢ 0 → ((reason : Reason) → number ≢ number_of reason) → length texts ≤ number
+past number zero other =
+    omega (
+      arith,
+      zero,
+      other NotAllowed,
+      other CutShort,
+      other BytesBehind,
+      other OverLimit,
+      other Undeclared,
+      other OutOfRange,
+      other NamedTwice,
+      other OutputShort,
+      other OverMillion,
+      other PlanLength,
+      other NoAction,
+      other DoesNotApply,
+      other GoalNotMet,
+      other SumWithoutTerm,
+    )
 
-past : (k number : ℕ) → NoneBelow k number → k ≤ number
-past zero number h = omega arith
-past (suc k) number (h, other) = omega (arith, past k number h, other)
+pub text-unknown : (number : ℕ) → length texts ≤ number → refusal_text number ≡ bytes_of_text unknown
+text-unknown number h = ap bytes_of_text (get_or-eq_default texts unknown h)
 
-module _ {old after : List ℕ} {r : Written} {number : ℕ} where
-  pub said : (k : ℕ) → number ≡ k → {text : List ℕ} → Lent old (given text) after r → text ≡ refusal_text k → Lent old (given (refusal_text number)) after r
-  said k e l is = subst (λ (bytes : List ℕ). Lent old (given bytes) after r) (is ∙ ap refusal_text (sym e)) l
+-- the text of a reason that is known
+pub text-of : {reason known : Reason} → reason ≡ known → refusal_text (number_of known) ≡ refusal_text (number_of reason)
+text-of e = ap (λ (r : Reason). refusal_text (number_of r)) (sym e)
 
-  pub said-unknown : NoneBelow (length texts) number → {text : List ℕ} → Lent old (given text) after r → text ≡ bytes_of_text unknown
-      → Lent old (given (refusal_text number)) after r
-  said-unknown h l is =
-      let e = get_or-eq_default texts unknown (past (length texts) number h) in
-      subst (λ (bytes : List ℕ). Lent old (given bytes) after r) (is ∙ ap bytes_of_text (sym e)) l
+-- a text was written that is that of the number
+pub said : {old after : List ℕ} {r : Result ℕ Refusal} {text other : List ℕ} → text ≡ other → Lent old (given text) after r → Lent old (given other) after r
+said {old} {after} {r} e l = subst (λ (bytes : List ℕ). Lent old (given bytes) after r) e l

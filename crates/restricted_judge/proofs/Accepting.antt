@@ -12,7 +12,10 @@ use lib.IntN.{ℤ, pos, nat_abs}
 use borrow.Author.Tests.{le-leb, lt-ltb}
 use Rattle.integers.specs.All.{All}
 use Rattle.integers.specs.Numbers.{Bytes}
-use Rattle.lists.specs.Answer.{Answer, given, refused, then}
+use Rattle.std.specs.Prelude.{Ok, Err}
+use Rattle.answers.specs.Answer.{Answer, given, refused, then}
+use Rattle.answers.specs.Refusals.{refusal_is}
+use Rattle.answers.specs.declared.Refusal.{Refusal}
 use Rattle.lists.specs.Writing.{splice}
 use Rattle.lists.proofs.Writing.{length-splice}
 use Rattle.model.specs.Tasks.{RestrictedAction, RestrictedTask, State}
@@ -22,7 +25,8 @@ use Rattle.model.specs.Decoding.{restricted_action_of, read_restricted}
 use Rattle.model.specs.TaskOk.{InRange, ModeOk, RestrictedActionOk, RestrictedTaskOk}
 use Rattle.model.specs.ActionBytes.{decode_action}
 use Rattle.model.specs.Plans.{plan_numbers, read_plan}
-use Rattle.model.specs.Steps.{values_within, modes_below_sizes, figure, sizes_of, start_modes, applies_restricted, restricted_start, restricted_goal_holds, step_restricted}
+use Rattle.model.specs.Steps.{values_within, modes_below_sizes, figure, sizes_of, start_modes, applies_restricted, restricted_start}
+use Rattle.model.specs.Steps.{restricted_goal_holds, step_restricted}
 use Rattle.model.specs.Judging.{judge, declared_part, judge_restricted_task, judge_restricted}
 use Rattle.model.proofs.AcceptedOk.{accepted-restricted-ok}
 use Rattle.plan_bytes.specs.Counted.{count_of}
@@ -44,8 +48,6 @@ use Rattle.restricted_step.proofs.Usable.{usable}
 use Rattle.restricted_step.proofs.Whole.{within-append, zeros_within, below-declared, applies-declared, sizes-many}
 use Rattle.restricted_runs.specs.Slots.{PlacesKept}
 use Rattle.restricted_state.proofs.Accepting.{zero_room, file-rejected, file-accepted, actions-counted}
-use Rattle.restricted_judge.specs.declared.Walk.{Walk}
-use Rattle.restricted_judge.specs.declared.Walk.TheVariants.{Through, Ended}
 use Rattle.restricted_judge.specs.Judging.{judgement_of, AcceptedPlan, judging_from, Walked}
 use Rattle.restricted_judge.proofs.Walking.{judging-ends}
 
@@ -71,10 +73,12 @@ module _ (file : List ℕ) (is : read_restricted file ≡ given (task_in file)) 
   start_is_lem = sym (ap₂ (λ (i j : ℕ). declared_part i j (state_of start modes)) H₀.variable_count H₀.mode_count) ∙ H₀.start_is
 
   pub beyond-starts : Beyond (length (task_in file).starts) (replicate VARIABLES (pos 0)) start
-  beyond-starts = subst (λ (i : ℕ). Beyond i (replicate VARIABLES (pos 0)) start) H₀.variable_count (record { rest = (restricted-starts zero_room stored).all_starts.rest; long = H₀.room.start_long ∙ sym (length-replicate VARIABLES (pos 0)) })
+  beyond-starts = subst (λ (i : ℕ). Beyond i (replicate VARIABLES (pos 0)) start) H₀.variable_count
+      (record { rest = (restricted-starts zero_room stored).all_starts.rest; long = H₀.room.start_long ∙ sym (length-replicate VARIABLES (pos 0)) })
 
   pub beyond-modes : Beyond (length (task_in file).modes) (replicate MODES 0) modes
-  beyond-modes = subst (λ (i : ℕ). Beyond i (replicate MODES 0) modes) H₀.mode_count (record { rest = (restricted-modes zero_room stored).all_values.rest; long = H₀.room.values_long ∙ sym (length-replicate {A = ℕ} MODES 0) })
+  beyond-modes = subst (λ (i : ℕ). Beyond i (replicate MODES 0) modes) H₀.mode_count
+      (record { rest = (restricted-modes zero_room stored).all_values.rest; long = H₀.room.values_long ∙ sym (length-replicate {A = ℕ} MODES 0) })
 
   start-within : values_within figure start ≡ true
   start-within = subst (λ (l : List ℤ). values_within figure l ≡ true) (take-append-drop (length (task_in file).starts) start)
@@ -105,7 +109,8 @@ module _ {file plan : List ℕ} {count steps : ℕ} (input : AcceptedPlan file p
     bytes = input.bytes;
     accepted = input.accepted;
     count_is = input.count_is;
-    places_are = λ k b. ap (λ (l : List ℕ). get_or l k 0) e ∙ places-at file (replicate room 0) (omega (arith, edges, input.count_is, length-replicate {A = ℕ} room 0)) k (omega (arith, edges, b, input.count_is));
+    places_are = λ k b. ap (λ (l : List ℕ). get_or l k 0) e
+        ∙ places-at file (replicate room 0) (omega (arith, edges, input.count_is, length-replicate {A = ℕ} room 0)) k (omega (arith, edges, b, input.count_is));
     few = few;
     long = omega (arith, long);
   }
@@ -117,7 +122,8 @@ module _ {file plan : List ℕ} {count steps : ℕ} (input : AcceptedPlan file p
       edges = restricted-edges file input.bytes (task_in file) input.accepted
 
 -- ---- the goal, as an action that keeps to the rules
-module _ {file plan : List ℕ} {count steps : ℕ} (input : AcceptedPlan file plan count steps) {bytes marks : List ℕ} {numbers : List ℤ} (part : bytes ≡ goal_part file count)
+module _ {file plan : List ℕ} {count steps : ℕ} (input : AcceptedPlan file plan count steps) {bytes marks : List ℕ} {numbers : List ℤ}
+    (part : bytes ≡ goal_part file count)
     (says : Says (fitting_restricted (restricted_action_of (decode_action bytes))) marks numbers) where
   abbrev t : RestrictedTask
   t = task_in file
@@ -130,7 +136,8 @@ module _ {file plan : List ℕ} {count steps : ℕ} (input : AcceptedPlan file p
 
   goal-is : row_is marks numbers ≡ goal
   goal-is = (restricted-goal-decoded file input.bytes t input.accepted marks numbers
-      (subst (λ (s : List ℕ). Says (fitting_restricted (restricted_action_of (decode_action s))) marks numbers) (part ∙ ap (goal_part file) input.count_is) says)).is
+      (subst (λ (s : List ℕ). Says (fitting_restricted (restricted_action_of (decode_action s))) marks numbers)
+      (part ∙ ap (goal_part file) input.count_is) says)).is
 
   goal-ok : RestrictedActionOk restricted_limits (length t.starts) (sizes_of t.modes) goal
   goal-ok = restricted-goal-ok file input.bytes t input.accepted
@@ -141,24 +148,27 @@ module _ {file plan : List ℕ} {count steps : ℕ} (input : AcceptedPlan file p
 
   -- it holds of a whole state as of what the task declares of it
   goal-met : (x : State) → applies_restricted (row_is marks numbers) x ≡ restricted_goal_holds t (declared_of t x)
-  goal-met x = ap (λ (a : RestrictedAction). applies_restricted a x) goal-is ∙ sym (applies-declared (length t.starts) (length t.modes) (sizes_of t.modes) (sizes-many t) goal goal-ok x)
+  goal-met x = ap (λ (a : RestrictedAction). applies_restricted a x) goal-is
+      ∙ sym (applies-declared (length t.starts) (length t.modes) (sizes_of t.modes) (sizes-many t) goal goal-ok x)
 
 -- ---- an accepted file and a plan
 module _ {file plan : List ℕ} {count steps : ℕ} (input : AcceptedPlan file plan count steps) {r : Declared} {start : List ℤ} {sizes modes : List ℕ}
     (stored : RestrictedStored file (replicate VARIABLES (pos 0)) (replicate MODES 0) (replicate MODES 0) r start sizes modes) where
-  whole : judging_from (task_in file) (plan_numbers plan) 0 (declared_of (task_in file) (state_of start modes)) ≡ judge_restricted_task (task_in file) (plan_numbers plan)
-  whole = ap (judge (length (task_in file).actions) (step_restricted (task_in file)) (restricted_goal_holds (task_in file)) 0 (plan_numbers plan)) (start_is_lem file input.accepted stored)
+  whole : judging_from (task_in file) (plan_numbers plan) 0 (declared_of (task_in file) (state_of start modes))
+      ≡ judge_restricted_task (task_in file) (plan_numbers plan)
+  whole = ap (judge (length (task_in file).actions) (step_restricted (task_in file)) (restricted_goal_holds (task_in file)) 0 (plan_numbers plan))
+      (start_is_lem file input.accepted stored)
 
   -- a step was refused
-  pub judged-ended : {number place : ℕ} {y : State} → Walked file plan steps (state_of start modes) (Ended number place) y → refused number place ≡ judge_restricted_task (task_in file) (plan_numbers plan)
+  pub judged-ended : {refusal : Refusal} {y : State} → Walked file plan steps (state_of start modes) (Err refusal) y
+      → refusal_is refusal ≡ judge_restricted_task (task_in file) (plan_numbers plan)
   judged-ended w = w.judged ∙ whole
 
   -- all steps were taken: the goal decides
-  module _ {values' : List ℤ} {modes' : List ℕ} {walk : Walk} (walked : Walked file plan steps (state_of start modes) walk (state_of values' modes')) (through : walk ≡ Through) {bytes marks : List ℕ} {numbers : List ℤ} (part : bytes ≡ goal_part file count)
-      (says : Says (fitting_restricted (restricted_action_of (decode_action bytes))) marks numbers) (b : Bool) (met : b ≡ applies_restricted (row_is marks numbers) (state_of values' modes')) where
-    w : Walked file plan steps (state_of start modes) Through (state_of values' modes')
-    w = subst (λ (r : Walk). Walked file plan steps (state_of start modes) r (state_of values' modes')) through walked
-
+  module _ {values' : List ℤ} {modes' : List ℕ} (w : Walked file plan steps (state_of start modes) (Ok tt) (state_of values' modes'))
+      {bytes marks : List ℕ} {numbers : List ℤ} (part : bytes ≡ goal_part file count)
+      (says : Says (fitting_restricted (restricted_action_of (decode_action bytes))) marks numbers) (b : Bool)
+      (met : b ≡ applies_restricted (row_is marks numbers) (state_of values' modes')) where
     abbrev end : State
     end = declared_of (task_in file) (state_of values' modes')
 
@@ -190,10 +200,13 @@ module _ {file plan : List ℕ} {count steps : ℕ} (input : AcceptedPlan file p
         few-modes = length-take-le (length (task_in file).modes) modes' (omega (arith, w.spared.modes.long, S.modes_long, sizes-many (task_in file)))
 
         v : values' ≡ take (length (task_in file).starts) values' ++ drop (length (take (length (task_in file).starts) values')) (replicate VARIABLES (pos 0))
-        v = sym (take-append-drop (length (task_in file).starts) values') ∙ ap (λ (l : List ℤ). take (length (task_in file).starts) values' ++ l) (B.rest ∙ ap (λ (k : ℕ). drop k (replicate VARIABLES (pos 0))) (sym few-values))
+        v = sym (take-append-drop (length (task_in file).starts) values')
+            ∙ ap (λ (l : List ℤ). take (length (task_in file).starts) values' ++ l)
+            (B.rest ∙ ap (λ (k : ℕ). drop k (replicate VARIABLES (pos 0))) (sym few-values))
 
         x : modes' ≡ take (length (task_in file).modes) modes' ++ drop (length (take (length (task_in file).modes) modes')) (replicate MODES 0)
-        x = sym (take-append-drop (length (task_in file).modes) modes') ∙ ap (λ (l : List ℕ). take (length (task_in file).modes) modes' ++ l) (C.rest ∙ ap (λ (k : ℕ). drop k (replicate MODES 0)) (sym few-modes))
+        x = sym (take-append-drop (length (task_in file).modes) modes')
+            ∙ ap (λ (l : List ℕ). take (length (task_in file).modes) modes' ++ l) (C.rest ∙ ap (λ (k : ℕ). drop k (replicate MODES 0)) (sym few-modes))
 
 -- ---- judging from bytes: the file's refusals, those of the plan's bytes, then the judge
 module _ (file plan : List ℕ) where
@@ -208,7 +221,8 @@ module _ (file plan : List ℕ) where
     on-task = ap (λ (a : Answer RestrictedTask). then a on_task) (sym (file-accepted file e))
 
     pub judged-no-plan : {number place : ℕ} → refused number place ≡ count_of plan → refused number place ≡ judge_restricted file plan
-    judged-no-plan {number} {place} c = ap (λ (p : Answer (List ℕ)). then p (judge_restricted_task (task_in file))) (sym (no_steps plan number place c)) ∙ on-task
+    judged-no-plan {number} {place} c =
+        ap (λ (p : Answer (List ℕ)). then p (judge_restricted_task (task_in file))) (sym (no_steps plan number place c)) ∙ on-task
 
     pub judged-task : {steps : ℕ} → given steps ≡ count_of plan → judge_restricted_task (task_in file) (plan_numbers plan) ≡ judge_restricted file plan
     judged-task {steps} c = ap (λ (p : Answer (List ℕ)). then p (judge_restricted_task (task_in file))) (sym (steps_of plan steps c).0) ∙ on-task

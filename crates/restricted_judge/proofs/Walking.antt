@@ -13,7 +13,11 @@ use lib.ListN.{length, get_or, drop, get_elem?}
 use lib.Seq.{drop-cons}
 use lib.IntN.{ℤ}
 use borrow.Author.Tests.{lt-ltb, le-ltb}
-use Rattle.lists.specs.Answer.{given, refused}
+use Rattle.std.specs.Prelude.{Result, Ok, Err, MatchResult}
+use Rattle.answers.specs.Answer.{given, refused}
+use Rattle.answers.specs.Refusals.{refusal_at}
+use Rattle.answers.specs.declared.Refusal.{Refusal}
+use Rattle.answers.specs.declared.Reason.TheVariants.{NoAction, DoesNotApply}
 use Rattle.model.specs.Tasks.{RestrictedAction, RestrictedTask, State}
 use Rattle.model.specs.Limits.{restricted_limits}
 use Rattle.model.specs.TaskOk.{RestrictedActionOk, RestrictedTaskOk}
@@ -30,10 +34,21 @@ use Rattle.restricted_step.proofs.Effects.{beyond-same, beyond-then}
 use Rattle.restricted_step.proofs.Usable.{usable}
 use Rattle.restricted_step.proofs.Whole.{stays, goes, sizes-many, action-ok, step-by-number}
 use Rattle.restricted_runs.specs.Repeats.{steps_by}
-use Rattle.restricted_runs.specs.Runs.{Alike, CanRun, Led, Passed, Stuck}
+use Rattle.restricted_runs.specs.Runs.{Alike, CanRun, Led, Passed, Stuck, Ran}
 use Rattle.restricted_runs.specs.Slots.{PlacesKept}
-use Rattle.restricted_judge.specs.declared.Walk.TheVariants.{Through, Ended}
 use Rattle.restricted_judge.specs.Judging.{AcceptedPlan, judging_from, Walked}
+
+-- ---- what comes of a run whose error is made a refusal: it passes, or it is stuck
+module _ {a : RestrictedAction} {x : State} {k : ℕ} {plan : List ℕ} {from steps : ℕ} where
+  pub ran-ok : (run : Result ℕ ℕ) (next : ℕ) {y : State} → Ran a x k plan from steps run y
+      → MatchResult run (λ j. ◌≡◌ {A = Result ℕ Refusal} (Ok next) (Ok j)) (λ j. ⊥) → Passed a x k plan from steps next y
+  ran-ok (Ok j) next {y} R e = let same : j ≡ next = cc in subst (λ (i : ℕ). Passed a x k plan from steps i y) same R
+  ran-ok (Err j) next R e = absurd e
+
+  pub ran-err : (run : Result ℕ ℕ) (refusal : Refusal) {made : ℕ → Type 0} (y : State) → Ran a x k plan from steps run y
+      → MatchResult run (λ j. Err refusal ≡ Ok j) made → (at : ℕ) × Stuck a x k plan from steps at × made at
+  ran-err (Ok j) refusal y R e = cc
+  ran-err (Err j) refusal y R e = (j, R, e)
 
 -- ---- past the last element nothing is left
 none_left : {A : Type 0} (n : ℕ) (l : List A) → length l ≤ n → drop n l ≡ []
@@ -73,15 +88,18 @@ module _ (file plan places : List ℕ) (count steps : ℕ) (x₀ : State) where
     pub placed : PlacesKept file places count
     pub bound : i ≤ steps
     pub standing : StandingIn (task_in file) x
-    pub judged : judging_from (task_in file) (plan_numbers plan) i (declared_of (task_in file) x) ≡ judging_from (task_in file) (plan_numbers plan) 0 (declared_of (task_in file) x₀)
+    pub judged : judging_from (task_in file) (plan_numbers plan) i (declared_of (task_in file) x)
+        ≡ judging_from (task_in file) (plan_numbers plan) 0 (declared_of (task_in file) x₀)
     pub spared : SparedIn (task_in file) x₀ x
 
 spared-then : (t : RestrictedTask) {x y z : State} → SparedIn t x y → SparedIn t y z → SparedIn t x z
 spared-then t a b = record { values = beyond-then a.values b.values; modes = beyond-then a.modes b.modes }
 
 module _ {file plan places : List ℕ} {count steps : ℕ} {x₀ : State} where
-  pub walk_start : AcceptedPlan file plan count steps → PlacesKept file places count → StandingIn (task_in file) x₀ → Walking file plan places count steps x₀ 0 x₀
-  walk_start a p s = record { input = a; placed = p; bound = omega arith; standing = s; judged = refl; spared = record { values = beyond-same; modes = beyond-same } }
+  pub walk_start : AcceptedPlan file plan count steps → PlacesKept file places count → StandingIn (task_in file) x₀
+      → Walking file plan places count steps x₀ 0 x₀
+  walk_start a p s = record
+      { input = a; placed = p; bound = omega arith; standing = s; judged = refl; spared = record { values = beyond-same; modes = beyond-same } }
 
   -- one step, and so many, by action k
   module _ (k : ℕ) (known : k < count) (a : RestrictedAction) (is : get_elem? (task_in file).actions k ≡ some a) where
@@ -103,7 +121,8 @@ module _ {file plan places : List ℕ} {count steps : ℕ} {x₀ : State} where
 
       -- the task's step on what it declares of x is the step of action k
       numbered : step_restricted (task_in file) (declared_of (task_in file) x) (get_or (plan_numbers plan) i 0) ≡ step_of sizes (declared_of (task_in file) x) a
-      numbered = ap (step_restricted (task_in file) (declared_of (task_in file) x)) takes ∙ sym (step-by-number (task_in file) (declared_of (task_in file) x) k a is)
+      numbered = ap (step_restricted (task_in file) (declared_of (task_in file) x)) takes
+          ∙ sym (step-by-number (task_in file) (declared_of (task_in file) x) k a is)
 
       one-stops : step_by a x ≡ none → refused 12 i ≡ judging_from (task_in file) (plan_numbers plan) 0 (declared_of (task_in file) x₀)
       one-stops e =
@@ -113,7 +132,8 @@ module _ {file plan places : List ℕ} {count steps : ℕ} {x₀ : State} where
 
       one-goes : (y : State) → step_by a x ≡ some y → Walking file plan places count steps x₀ (i + 1) y
       one-goes y e =
-          let (s, standing, spared) = goes (length (task_in file).starts) (length (task_in file).modes) sizes (sizes-many (task_in file)) a action x W.standing y e in
+          let (s, standing, spared) =
+          goes (length (task_in file).starts) (length (task_in file).modes) sizes (sizes-many (task_in file)) a action x W.standing y e in
           record {
             input = W.input;
             placed = W.placed;
@@ -137,19 +157,22 @@ module _ {file plan places : List ℕ} {count steps : ℕ} {x₀ : State} where
         (many-go taken (one-goes W (omega arith) (ap (λ (j : ℕ). get_or (plan_numbers plan) j 0) (omega arith) ∙ alike 0 (omega arith)) z first) (omega arith)
         (λ j q. ap (λ (l : ℕ). get_or (plan_numbers plan) l 0) (omega arith) ∙ alike (suc j) (omega arith)) y others)
 
-    led_on : {i next : ℕ} {x y : State} → Walking file plan places count steps x₀ i x → Led a x k plan i next y → next ≤ steps → Walking file plan places count steps x₀ next y
-    led_on {y = y} W L h = subst (λ (j : ℕ). Walking file plan places count steps x₀ j y) (sym L.there) (many-go L.taken W (omega (arith, L.there)) L.alike y L.steps)
+    led_on : {i next : ℕ} {x y : State} → Walking file plan places count steps x₀ i x → Led a x k plan i next y → next ≤ steps
+        → Walking file plan places count steps x₀ next y
+    led_on {y = y} W L h =
+        subst (λ (j : ℕ). Walking file plan places count steps x₀ j y) (sym L.there) (many-go L.taken W (omega (arith, L.there)) L.alike y L.steps)
 
   module _ {i : ℕ} {x : State} (W : Walking file plan places count steps x₀ i x) where
-    pub walk_ends : steps ≤ i → Walked file plan steps x₀ Through x
+    pub walk_ends : steps ≤ i → Walked file plan steps x₀ (Ok tt) x
     walk_ends h =
         let e : steps ≡ i = omega (arith, W.bound) in
         record { judged = ap (λ (j : ℕ). judging_from (task_in file) (plan_numbers plan) j (declared_of (task_in file) x)) e ∙ W.judged; spared = W.spared }
 
     module _ (k : ℕ) (number : k ≡ get_or (plan_numbers plan) i 0) (more : i < steps) where
-      pub walk-no-action : count ≤ k → (y : State) → Walked file plan steps x₀ (Ended 11 i) y
+      pub walk-no-action : count ≤ k → (y : State) → Walked file plan steps x₀ (Err (refusal_at NoAction i)) y
       walk-no-action h y = record {
-        judged = no-such-action (task_in file) (plan_numbers plan) i (declared_of (task_in file) x) (omega (arith, W.input.steps_are)) (omega (arith, W.input.count_is)) ∙ W.judged;
+        judged = no-such-action (task_in file) (plan_numbers plan) i (declared_of (task_in file) x) (omega (arith, W.input.steps_are))
+            (omega (arith, W.input.count_is)) ∙ W.judged;
         spared = tt;
       }
 
@@ -157,7 +180,8 @@ module _ {file plan places : List ℕ} {count steps : ℕ} {x₀ : State} where
         pub walk_can : CanRun x.values marks numbers k plan i steps
         walk_can = record {
           can_take = record {
-            usable = usable (length (task_in file).starts) (sizes_of (task_in file).modes) marks numbers ok.starts_few sizes_few (action-ok (task_in file) ok k (row_is marks numbers) is);
+            usable = usable (length (task_in file).starts) (sizes_of (task_in file).modes) marks numbers ok.starts_few sizes_few
+                (action-ok (task_in file) ok k (row_is marks numbers) is);
             within = W.standing.within;
           };
           steps_are = W.input.steps_are;
@@ -173,9 +197,11 @@ module _ {file plan places : List ℕ} {count steps : ℕ} {x₀ : State} where
             sizes_few : length (sizes_of (task_in file).modes) ≤ MODES
             sizes_few = omega (arith, ok.modes_few, sizes-many (task_in file))
 
-        pub walk-stops : {at : ℕ} → Stuck (row_is marks numbers) x k plan i steps at → (y : State) → Walked file plan steps x₀ (Ended 12 at) y
+        pub walk-stops : {at : ℕ} → Stuck (row_is marks numbers) x k plan i steps at → (y : State)
+            → Walked file plan steps x₀ (Err (refusal_at DoesNotApply at)) y
         walk-stops {at} R y = record {
-          judged = one-stops k known (row_is marks numbers) is (led_on k known (row_is marks numbers) is W R.led (omega (arith, R.more))) R.more R.takes R.refuses;
+          judged = one-stops k known (row_is marks numbers) is
+              (led_on k known (row_is marks numbers) is W R.led (omega (arith, R.more))) R.more R.takes R.refuses;
           spared = tt;
         }
 

@@ -3,17 +3,16 @@
 #![tactic(auto)]
 
 ghost use Rattle.std.specs.Prelude.{◌≡◌, ◌<◌, ◌≤◌, length};
-ghost use Rattle.lists.specs.Answer.{refused};
 ghost use Rattle.model.specs.Plans.{plan_numbers};
 ghost use Rattle.model.specs.Judging.{judge_restricted_task, judge_restricted};
 ghost use Rattle.restricted_step.specs.Steps.{state_of};
 ghost use Rattle.restricted_step.specs.Whole.{task_in, StandingIn};
 ghost use Rattle.restricted_runs.specs.Slots.{PlacesKept, Held};
-ghost use Rattle.restricted_judge.specs.Judging.{judgement_is, judgement_of, AcceptedPlan, Walked};
+ghost use Rattle.restricted_judge.specs.Judging.{judgement_is, judgement_of, judged_is, AcceptedPlan, Walked};
 
+use answers::{Reason, Refusal};
 use file_parts::{MARKS, NUMBERS};
-use plan_bytes::Counted;
-use restricted_runs::{PLACES, Run};
+use restricted_runs::PLACES;
 use restricted_state::State;
 use restricted_step::{MODES, VARIABLES};
 
@@ -31,31 +30,12 @@ const FEW_PLACES: usize = 1_024;
 // The tag of a slot that holds no action: it is no action's number.
 const NO_ACTION: u16 = 65_535;
 
-// What comes of a plan: valid, with its count of steps, or the number and place of the refusal.
-#[derive(Drop)]
-pub enum Verdict {
-    Valid(u64),
-    Refused(u8, u64),
-}
-
-// Beside it the end state. What stands beyond the task's variables and modes is 0; on a refusal all is.
-#[derive(Drop)]
+// What comes of a plan: the count of its steps where it is valid, and the end state. What stands beyond the task's variables and modes is 0; on
+// a refusal all is.
+#[derive(Clone, Copy)]
 pub struct Judgement {
-    pub verdict: Verdict,
+    pub verdict: Result<u64, Refusal>,
     pub state: State,
-}
-
-// All steps of a plan: each applied, or the walk ended with the number and place of a refusal.
-#[derive(Drop)]
-enum Walk {
-    Through,
-    Ended(u8, u64),
-}
-
-fn wide16(x: u16) -> usize
-    ensures { result ≡ x }
-{
-    x as usize
 }
 
 // The slot of an action.
@@ -82,7 +62,7 @@ fn judge_runs(
     tags: &mut [u16],
     marks: &mut [[u16; MARKS]],
     numbers: &mut [[i64; NUMBERS]],
-) -> Walk
+) -> Result<(), Refusal>
     requires accepted_plan { AcceptedPlan file.now plan.now count steps × PlacesKept file.now places.now count
         × StandingIn (task_in file.now) (state_of values.old modes.old) }
     requires in_bounds { (8 ≤ length tags.old) × Held file.now count tags.old marks.old numbers.old }
@@ -92,9 +72,9 @@ fn judge_runs(
     let mut i: usize = 0;
     while i < steps {
         let k = plan_bytes::action_of(plan, i);
-        let number = wide16(k);
+        let number = k as usize;
         if count <= number {
-            return Walk::Ended(11, i as u64);
+            return Err(Reason::NoAction.at(i as u64));
         }
         let slot = slot_of(number, tags.len());
         restricted_runs::keep_action(file, places, count, tags, marks, numbers, slot, k);
@@ -108,12 +88,9 @@ fn judge_runs(
             i,
             steps,
         );
-        match run {
-            Run::Stopped(step) => return Walk::Ended(12, step as u64),
-            Run::Until(next) => i = next,
-        }
+        i = run.map_err(|step| Reason::DoesNotApply.at(step as u64))?;
     }
-    Walk::Through
+    Ok(())
 }
 
 // The steps of a plan, with tables for few actions and few steps.
@@ -124,7 +101,7 @@ fn walk_few(
     steps: usize,
     values: &mut [i64; VARIABLES],
     modes: &mut [u16; MODES],
-) -> Walk
+) -> Result<(), Refusal>
     requires { AcceptedPlan file.now plan.now count steps × (count < 1024) × StandingIn (task_in file.now) (state_of values.old modes.old) }
     ensures { Walked file.now plan.now steps (state_of values.old modes.old)
         result (state_of values.new modes.new) }
@@ -158,7 +135,7 @@ fn walk_many(
     steps: usize,
     values: &mut [i64; VARIABLES],
     modes: &mut [u16; MODES],
-) -> Walk
+) -> Result<(), Refusal>
     requires { AcceptedPlan file.now plan.now count steps × StandingIn (task_in file.now) (state_of values.old modes.old) }
     ensures { Walked file.now plan.now steps (state_of values.old modes.old)
         result (state_of values.new modes.new) }
@@ -192,7 +169,7 @@ fn walk_plan(
     steps: usize,
     values: &mut [i64; VARIABLES],
     modes: &mut [u16; MODES],
-) -> Walk
+) -> Result<(), Refusal>
     requires { AcceptedPlan file.now plan.now count steps × StandingIn (task_in file.now) (state_of values.old modes.old) }
     ensures { Walked file.now plan.now steps (state_of values.old modes.old)
         result (state_of values.new modes.new) }
@@ -203,22 +180,15 @@ fn walk_plan(
     walk_few(file, count, plan, steps, values, modes)
 }
 
-// The judgement of a plan that is refused.
-fn refuse(number: u8, place: u64) -> Judgement
-    ensures { judgement_is result ≡ judgement_of (refused number place) }
-{
-    let values = [0i64; VARIABLES];
-    let modes = [0u16; MODES];
-    Judgement {
-        verdict: Verdict::Refused(number, place),
-        state: State { values, modes },
-    }
-}
-
 // The judgement of a plan of so many steps, over an accepted file with `count` actions.
-fn judge_accepted(file: &[u8], count: usize, plan: &[u8], steps: usize) -> Judgement
+fn judge_accepted(
+    file: &[u8],
+    count: usize,
+    plan: &[u8],
+    steps: usize,
+) -> Result<Judgement, Refusal>
     requires { AcceptedPlan file.now plan.now count steps }
-    ensures { judgement_is result ≡ judgement_of (judge_restricted_task (task_in file.now) (plan_numbers plan.now)) }
+    ensures { judged_is result ≡ judgement_of (judge_restricted_task (task_in file.now) (plan_numbers plan.now)) }
 {
     let mut values = [0i64; VARIABLES];
     let mut sizes = [0u16; MODES];
@@ -226,22 +196,28 @@ fn judge_accepted(file: &[u8], count: usize, plan: &[u8], steps: usize) -> Judge
     let mut marks = [0u16; MARKS];
     let mut numbers = [0i64; NUMBERS];
     let _declared = file_declarations::read_restricted(file, &mut values, &mut sizes, &mut modes);
-    let walk = walk_plan(file, count, plan, steps, &mut values, &mut modes);
-    if let Walk::Ended(number, place) = walk {
-        return refuse(number, place);
-    }
+    walk_plan(file, count, plan, steps, &mut values, &mut modes)?;
     file_actions::decode_restricted(
         file_actions::goal_bytes(file, count),
         &mut marks,
         &mut numbers,
     );
     if !restricted_step::holds(&values, &modes, &marks, &numbers) {
-        return refuse(13, steps as u64);
+        return Err(Reason::GoalNotMet.at(steps as u64));
     }
-    Judgement {
-        verdict: Verdict::Valid(steps as u64),
+    Ok(Judgement {
+        verdict: Ok(steps as u64),
         state: State { values, modes },
-    }
+    })
+}
+
+// The judgement of a plan against a restricted file, or the first refusal: the file's, 10, per step 11 and 12, then 13.
+fn judge_plan(file: &[u8], plan: &[u8]) -> Result<Judgement, Refusal>
+    ensures { judged_is result ≡ judgement_of (judge_restricted file.now plan.now) }
+{
+    let accepted = file_check::check_restricted(file)?;
+    let steps = plan_bytes::count_steps(plan)?;
+    judge_accepted(file, accepted.actions as usize, plan, steps)
 }
 
 // What judging a plan against a restricted file answers: the file's refusals first, 10, per step 11 and 12, then 13; else the count of steps
@@ -249,15 +225,14 @@ fn judge_accepted(file: &[u8], count: usize, plan: &[u8], steps: usize) -> Judge
 pub fn judge(file: &[u8], plan: &[u8]) -> Judgement
     ensures { judgement_is result ≡ judgement_of (judge_restricted file.now plan.now) }
 {
-    let checked = file_check::check_restricted(file);
-    match checked {
-        file_check::Verdict::Rejected(number, place) => refuse(number, place),
-        file_check::Verdict::Accepted(_, _, count) => {
-            let counted = plan_bytes::count_steps(plan);
-            match counted {
-                Counted::Refused(number, place) => refuse(number, place),
-                Counted::Steps(steps) => judge_accepted(file, count as usize, plan, steps),
-            }
-        }
+    match judge_plan(file, plan) {
+        Ok(judgement) => judgement,
+        Err(refusal) => Judgement {
+            verdict: Err(refusal),
+            state: State {
+                values: [0; VARIABLES],
+                modes: [0; MODES],
+            },
+        },
     }
 }

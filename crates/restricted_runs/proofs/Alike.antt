@@ -20,7 +20,8 @@ agreeing-at zero k xs j h = absurd (omega arith)
 agreeing-at (suc c) k [] j h = absurd (omega arith)
 agreeing-at (suc c) k (x ∷ xs) j h = go (agreeing-at c k xs) (eqb k x) refl j h
   where
-    go : ((j : ℕ) → j < agreeing (replicate c k) xs → get_or xs j 0 ≡ k) → (b : Bool) → eqb k x ≡ b → (j : ℕ) → j < cond b (suc (agreeing (replicate c k) xs)) zero → get_or (x ∷ xs) j 0 ≡ k
+    go : ((j : ℕ) → j < agreeing (replicate c k) xs → get_or xs j 0 ≡ k) → (b : Bool) → eqb k x ≡ b → (j : ℕ)
+        → j < cond b (suc (agreeing (replicate c k) xs)) zero → get_or (x ∷ xs) j 0 ≡ k
     go rest true q zero h = sym (eqb-true k x q)
     go rest true q (suc j) h = rest j (omega arith)
     go rest false q j h = absurd (omega arith)
@@ -66,11 +67,16 @@ module _ {k : ℕ} {plan : List ℕ} {from steps : ℕ} (more : from < steps) (t
     alike = alike-one k plan from takes;
   }
 
-  pub counted-run : (left r : ℕ) → left ≡ steps - from → steps ≡ length (plan_numbers plan) → r ≡ agreeing (replicate left k) (drop from (plan_numbers plan)) → Counted k plan from steps r
+  pub counted-run : (left r : ℕ) → left ≡ steps - from → steps ≡ length (plan_numbers plan)
+      → r ≡ agreeing (replicate left k) (drop from (plan_numbers plan)) → Counted k plan from steps r
   counted-run left r l s e =
       let n : length (drop from (plan_numbers plan)) ≡ length (plan_numbers plan) - from = length-drop from (plan_numbers plan) in
       record {
-        some = omega (arith, agreeing-some left k (drop from (plan_numbers plan)) (omega arith) (omega (arith, n)) (get_or-drop from (plan_numbers plan) 0 0 ∙ ap (λ (i : ℕ). get_or (plan_numbers plan) i 0) (add-zero from) ∙ takes));
+        some = omega (
+          arith,
+          agreeing-some left k (drop from (plan_numbers plan)) (omega arith) (omega (arith, n))
+              (get_or-drop from (plan_numbers plan) 0 0 ∙ ap (λ (i : ℕ). get_or (plan_numbers plan) i 0) (add-zero from) ∙ takes),
+        );
         there = omega (arith, agreeing-le left k (drop from (plan_numbers plan)), n);
         alike = λ j h. sym (get_or-drop from (plan_numbers plan) j 0) ∙ agreeing-at left k (drop from (plan_numbers plan)) j (omega (arith, e));
       }

@@ -43,11 +43,13 @@ the_same : {A : Type 0} (x y : A) (b : Bool) → some x ≡ provided b y → x �
 the_same x y true e = some-injective x y e
 the_same x y false e = absurd (none-ne-some x (sym e))
 
-at_once : (a : RestrictedAction) → All Plain a.conditions → (k : ℕ) (x : State) → 0 < k → Good a x → Good a (behind a k x) → steps_by a k x ≡ some (behind a k x)
+at_once : (a : RestrictedAction) → All Plain a.conditions → (k : ℕ) (x : State) → 0 < k → Good a x → Good a (behind a k x)
+    → steps_by a k x ≡ some (behind a k x)
 at_once a plain zero x h g b = absurd (omega arith)
 at_once a plain (suc k) x h g b = repeats a plain k x g b
 
-module _ (a : RestrictedAction) (times : ℕ) (x y : State) (values_are : some y.values ≡ summed times a x.values) (modes_are : y.modes ≡ set_all a.mode_effects x.modes) where
+module _ (a : RestrictedAction) (times : ℕ) (x y : State) (values_are : some y.values ≡ summed times a x.values)
+    (modes_are : y.modes ≡ set_all a.mode_effects x.modes) where
   ahead : y ≡ behind a times x
   unfolding summed
   ahead = let v = the_same y.values (sums_of times a x.values) (values_within figure (sums_of times a x.values)) values_are in λ i. state_of (v i) (modes_are i)
@@ -56,10 +58,12 @@ module _ (a : RestrictedAction) (times : ℕ) (x y : State) (values_are : some y
   unfolding summed
   within-ahead = passed y.values (sums_of times a x.values) (values_within figure (sums_of times a x.values)) values_are
 
-  pub leapt : All Plain a.conditions → 0 < times → values_within figure x.values ≡ true → applies_restricted a x ≡ true → applies_restricted a y ≡ true → Leapt a x times times y
+  pub leapt : All Plain a.conditions → 0 < times → values_within figure x.values ≡ true → applies_restricted a x ≡ true
+      → applies_restricted a y ≡ true → Leapt a x times times y
   leapt plain h w before after = record {
     few = omega arith;
-    steps = at_once a plain times x h (record { within = w; applies = before }) (record { within = within-ahead; applies = subst (λ (z : State). applies_restricted a z ≡ true) ahead after }) ∙ ap some (sym ahead);
+    steps = at_once a plain times x h (record { within = w; applies = before })
+        (record { within = within-ahead; applies = subst (λ (z : State). applies_restricted a z ≡ true) ahead after }) ∙ ap some (sym ahead);
     within = subst (λ (z : State). values_within figure z.values ≡ true) (sym ahead) within-ahead;
   }
 
@@ -69,11 +73,13 @@ unfolding steps_by
 steps_then a zero k x y e = let z : 0 + k ≡ k = omega arith in rw z (ap (steps_by a k) (some-injective x y e))
 steps_then a (suc j) k x y e = let z : suc j + k ≡ suc (j + k) = omega arith in rw z (go (λ w. steps_then a j k w y) (step_by a x) e)
   where
-    go : ((w : State) → steps_by a j w ≡ some y → steps_by a (j + k) w ≡ steps_by a k y) → (o : Option State) → bind o (steps_by a j) ≡ some y → bind o (steps_by a (j + k)) ≡ steps_by a k y
+    go : ((w : State) → steps_by a j w ≡ some y → steps_by a (j + k) w ≡ steps_by a k y) → (o : Option State) → bind o (steps_by a j) ≡ some y
+        → bind o (steps_by a (j + k)) ≡ steps_by a k y
     go rest none e = absurd (none-ne-some y e)
     go rest (some w) e = rest w e
 
-pub leapt-then : {a : RestrictedAction} {x y z : State} {most times j k : ℕ} → Leapt a x most j y → Leapt a y times k z → j + times ≤ most → Leapt a x most (j + k) z
+pub leapt-then : {a : RestrictedAction} {x y z : State} {most times j k : ℕ} → Leapt a x most j y → Leapt a y times k z → j + times ≤ most
+    → Leapt a x most (j + k) z
 leapt-then {a} {x} {y} {z} {most} {times} {j} {k} p q h = record {
   few = omega (arith, q.few);
   steps = steps_then a j k x y p.steps ∙ q.steps;

@@ -19,7 +19,8 @@ use Rattle.integers.proofs.Products.{mul-add}
 use Rattle.lists.proofs.Loops.{and_left, and_right}
 use Rattle.model.specs.Tasks.{Measured, variable, weighted_sum, NumericCondition, RestrictedAction, State}
 use Rattle.model.specs.Systems.{bind, provided}
-use Rattle.model.specs.Steps.{integer_at, natural_at, measure, conditions_hold, modes_hold, add_all, set_all, values_within, applies_restricted, apply_restricted, figure}
+use Rattle.model.specs.Steps.{integer_at, natural_at, measure, conditions_hold, modes_hold, add_all, set_all, values_within, applies_restricted}
+use Rattle.model.specs.Steps.{apply_restricted, figure}
 use Rattle.restricted_step.proofs.Tests.{within-at, at-within}
 use Rattle.restricted_step.proofs.Effects.{add-length}
 use Rattle.restricted_step.specs.Steps.{step_by, scaled, behind}
@@ -41,12 +42,14 @@ none-added : (x : ℤ) (k : ℕ) → x ≡ x +ℤ pos k *ℤ pos 0
 none-added x k = omega (ints, mul (pos k) (pos 0))
 
 added : (x y z : ℤ) (k : ℕ) → (x +ℤ pos k *ℤ y) +ℤ pos k *ℤ z ≡ x +ℤ pos k *ℤ (y +ℤ z)
-added x y z k = omega (ints, add (x +ℤ pos k *ℤ y) (pos k *ℤ z), add x (pos k *ℤ y), add x (pos k *ℤ (y +ℤ z)), mul-add (pos k) y z, add (pos k *ℤ y) (pos k *ℤ z))
+added x y z k = omega
+    (ints, add (x +ℤ pos k *ℤ y) (pos k *ℤ z), add x (pos k *ℤ y), add x (pos k *ℤ (y +ℤ z)), mul-add (pos k) y z, add (pos k *ℤ y) (pos k *ℤ z))
 
 passed-by : (x z : ℤ) (k : ℕ) → x +ℤ pos k *ℤ z ≡ x +ℤ pos k *ℤ (pos 0 +ℤ z)
 passed-by x z k = let e : z ≡ pos 0 +ℤ z = omega (ints, add (pos 0) z) in ap (λ (y : ℤ). x +ℤ pos k *ℤ y) e
 
-line-within : (k : ℕ) (es : List (ℕ × ℤ)) (l : List ℤ) (i : ℕ) → i < length l → integer_at (add_all (map (scaled k) es) l) i ≡ integer_at l i +ℤ pos k *ℤ rate es i
+line-within : (k : ℕ) (es : List (ℕ × ℤ)) (l : List ℤ) (i : ℕ) → i < length l
+    → integer_at (add_all (map (scaled k) es) l) i ≡ integer_at l i +ℤ pos k *ℤ rate es i
 unfolding rate
 line-within k [] l i h = none-added (integer_at l i) k
 line-within k (e ∷ es) l i h =
@@ -67,7 +70,8 @@ line_at k es l i = go (ltb i (length l)) refl
     go true q = line-within k es l i (ltb-true i (length l) q)
     go false q =
         let h : length l ≤ i = ltb-false i (length l) q in
-        get_d_past (add_all (map (scaled k) es) l) i (pos 0) (omega (arith, add-length (map (scaled k) es) l)) ∙ none-added (pos 0) k ∙ ap (λ (z : ℤ). z +ℤ pos k *ℤ pos 0) (sym (get_d_past l i (pos 0) h))
+        get_d_past (add_all (map (scaled k) es) l) i (pos 0) (omega (arith, add-length (map (scaled k) es) l)) ∙ none-added (pos 0) k
+        ∙ ap (λ (z : ℤ). z +ℤ pos k *ℤ pos 0) (sym (get_d_past l i (pos 0) h))
 
 -- ---- so many steps, and one step more before them
 one_more : (x c : ℤ) (k : ℕ) → (x +ℤ pos 1 *ℤ c) +ℤ pos k *ℤ c ≡ x +ℤ pos (suc k) *ℤ c
@@ -75,7 +79,8 @@ one_more x c k = omega (ints, mul (pos 1) c, mul (pos k) c, mul (pos (suc k)) c,
 
 add-more : (k : ℕ) (es : List (ℕ × ℤ)) (l : List ℤ) → add_all (map (scaled k) es) (add_all (map (scaled 1) es) l) ≡ add_all (map (scaled (suc k)) es) l
 add-more k es l =
-    ext_get_or (pos 0) _ _ (add-length (map (scaled k) es) (add_all (map (scaled 1) es) l) ∙ add-length (map (scaled 1) es) l ∙ sym (add-length (map (scaled (suc k)) es) l))
+    ext_get_or (pos 0) _ _
+    (add-length (map (scaled k) es) (add_all (map (scaled 1) es) l) ∙ add-length (map (scaled 1) es) l ∙ sym (add-length (map (scaled (suc k)) es) l))
     (λ i h.
     let long : length (add_all (map (scaled 1) es) l) ≡ length l = add-length (map (scaled 1) es) l in
     let first : i < length (add_all (map (scaled 1) es) l) = omega (arith, add-length (map (scaled k) es) (add_all (map (scaled 1) es) l)) in
@@ -94,29 +99,36 @@ Plain c = PlainMeasure c.measured
 
 -- ---- between the first state and the last
 module _ (es : List (ℕ × ℤ)) (l : List ℤ) (j m : ℕ) (h : j ≤ m) where
-  at-between : (p : ℤ → Bool) → Convex p → (i : ℕ) → p (integer_at l i) ≡ true → p (integer_at (add_all (map (scaled m) es) l) i) ≡ true → p (integer_at (add_all (map (scaled j) es) l) i) ≡ true
+  at-between : (p : ℤ → Bool) → Convex p → (i : ℕ) → p (integer_at l i) ≡ true → p (integer_at (add_all (map (scaled m) es) l) i) ≡ true
+      → p (integer_at (add_all (map (scaled j) es) l) i) ≡ true
   at-between p q i e f =
       ap p (line_at j es l i) ∙ on_line p q (integer_at l i) (rate_in es l i) j m h e (ap p (sym (line_at m es l i)) ∙ f)
 
-  values-between : values_within figure l ≡ true → values_within figure (add_all (map (scaled m) es) l) ≡ true → values_within figure (add_all (map (scaled j) es) l) ≡ true
-  values-between e f = at-within figure (add_all (map (scaled j) es) l) (λ i. at-between (within_limit figure) (convex-within figure) i (within-at figure l e i) (within-at figure (add_all (map (scaled m) es) l) f i))
+  values-between : values_within figure l ≡ true → values_within figure (add_all (map (scaled m) es) l) ≡ true
+      → values_within figure (add_all (map (scaled j) es) l) ≡ true
+  values-between e f = at-within figure (add_all (map (scaled j) es) l)
+      (λ i. at-between (within_limit figure) (convex-within figure) i (within-at figure l e i) (within-at figure (add_all (map (scaled m) es) l) f i))
 
   condition-between : (c : NumericCondition ℕ) (w : Measured ℕ) → PlainMeasure w
-      → related c.relation (measure w (integer_at l)) c.constant ≡ true → related c.relation (measure w (integer_at (add_all (map (scaled m) es) l))) c.constant ≡ true
+      → related c.relation (measure w (integer_at l)) c.constant ≡ true
+      → related c.relation (measure w (integer_at (add_all (map (scaled m) es) l))) c.constant ≡ true
       → related c.relation (measure w (integer_at (add_all (map (scaled j) es) l))) c.constant ≡ true
   unfolding PlainMeasure
   condition-between c (variable i) p e f = at-between (λ v. related c.relation v c.constant) (convex-related c.relation c.constant) i e f
   condition-between c (weighted_sum ts) p e f = absurd p
 
-  conditions-between : (cs : List (NumericCondition ℕ)) → All Plain cs → conditions_hold cs (integer_at l) ≡ true → conditions_hold cs (integer_at (add_all (map (scaled m) es) l)) ≡ true
+  conditions-between : (cs : List (NumericCondition ℕ)) → All Plain cs → conditions_hold cs (integer_at l) ≡ true
+      → conditions_hold cs (integer_at (add_all (map (scaled m) es) l)) ≡ true
       → conditions_hold cs (integer_at (add_all (map (scaled j) es) l)) ≡ true
   unfolding Plain
   conditions-between [] p e f = refl
   conditions-between (c ∷ cs) (p, ps) e f =
       let first = related c.relation (measure c.measured (integer_at l)) c.constant in
       let last = related c.relation (measure c.measured (integer_at (add_all (map (scaled m) es) l))) c.constant in
-      ap₂ ◌&&◌ (condition-between c c.measured p (and_left first (conditions_hold cs (integer_at l)) e) (and_left last (conditions_hold cs (integer_at (add_all (map (scaled m) es) l))) f))
-      (conditions-between cs ps (and_right first (conditions_hold cs (integer_at l)) e) (and_right last (conditions_hold cs (integer_at (add_all (map (scaled m) es) l))) f))
+      ap₂ ◌&&◌ (condition-between c c.measured p (and_left first (conditions_hold cs (integer_at l)) e)
+      (and_left last (conditions_hold cs (integer_at (add_all (map (scaled m) es) l))) f))
+      (conditions-between cs ps (and_right first (conditions_hold cs (integer_at l)) e)
+      (and_right last (conditions_hold cs (integer_at (add_all (map (scaled m) es) l))) f))
 
 -- ---- a state in which an action may go on
 module _ (a : RestrictedAction) where
@@ -147,7 +159,8 @@ module _ (a : RestrictedAction) where
     good-between x j m h g b = record {
       within = values-between a.additions x.values j m h g.within b.within;
       applies = ap₂ ◌&&◌ (and_left (held (behind a m x)) (met (behind a m x)) b.applies)
-          (conditions-between a.additions x.values j m h a.conditions plain (and_right (held x) (met x) g.applies) (and_right (held (behind a m x)) (met (behind a m x)) b.applies));
+          (conditions-between a.additions x.values j m h a.conditions plain (and_right (held x) (met x) g.applies)
+          (and_right (held (behind a m x)) (met (behind a m x)) b.applies));
     }
 
     -- THE LAW

@@ -39,7 +39,8 @@ held_none file count slots few =
     }
 
 -- ---- a slot that holds the action already
-pub kept-already : {file : List ℕ} {count : ℕ} {tags : List ℕ} {slot k : ℕ} {marks : List (List ℕ)} {numbers : List (List ℤ)} → Held file count tags marks numbers → slot < length tags → k < count → get_or tags slot 0 ≡ k
+pub kept-already : {file : List ℕ} {count : ℕ} {tags : List ℕ} {slot k : ℕ} {marks : List (List ℕ)} {numbers : List (List ℤ)}
+    → Held file count tags marks numbers → slot < length tags → k < count → get_or tags slot 0 ≡ k
     → Kept file count (length tags) slot k tags marks numbers
 kept-already {file} {count} {tags} {slot} {k} {marks} {numbers} h l b e = record {
   held = h;
@@ -48,16 +49,20 @@ kept-already {file} {count} {tags} {slot} {k} {marks} {numbers} h l b e = record
 }
 
 -- ---- the rows that the bytes of action k say
-pub decoded-action : {file places : List ℕ} {count : ℕ} (k : ℕ) → PlacesKept file places count → k < count → {bytes : List ℕ} → bytes ≡ part_of file (get_or places k 0) (get_or places (k + 1) 0)
-    → {row : List ℕ} {line : List ℤ} → Says (fitting_restricted (restricted_action_of (decode_action bytes))) row line → get_elem? (task_in file).actions k ≡ some (row_is row line)
+pub decoded-action : {file places : List ℕ} {count : ℕ} (k : ℕ) → PlacesKept file places count → k < count → {bytes : List ℕ}
+    → bytes ≡ part_of file (get_or places k 0) (get_or places (k + 1) 0)
+    → {row : List ℕ} {line : List ℤ} → Says (fitting_restricted (restricted_action_of (decode_action bytes))) row line
+    → get_elem? (task_in file).actions k ≡ some (row_is row line)
 decoded-action {file} {places} {count} k placed known part {row} {line} says =
     restricted-action-decoded file placed.bytes (task_in file) placed.accepted row line k (omega (arith, placed.count_is))
     (subst (λ (s : List ℕ). Says (fitting_restricted (restricted_action_of (decode_action s))) row line)
     (part ∙ ap₂ (part_of file) (placed.places_are k (omega arith)) (placed.places_are (k + 1) (omega arith) ∙ ap (edge_of file) (add-one k))) says)
 
 -- ---- they stand in a slot
-module _ {file : List ℕ} {count : ℕ} {tags : List ℕ} {marks : List (List ℕ)} {numbers : List (List ℤ)} {slot : ℕ} (k : ℕ) (held : Held file count tags marks numbers) (there : slot < length tags)
-    (row : List ℕ) (line : List ℤ) (row_long : length row ≡ MARKS) (line_long : length line ≡ NUMBERS) (is : get_elem? (task_in file).actions k ≡ some (row_is row line)) where
+module _ {file : List ℕ} {count : ℕ} {tags : List ℕ} {marks : List (List ℕ)} {numbers : List (List ℤ)} {slot : ℕ} (k : ℕ)
+    (held : Held file count tags marks numbers) (there : slot < length tags)
+    (row : List ℕ) (line : List ℤ) (row_long : length row ≡ MARKS) (line_long : length line ≡ NUMBERS)
+    (is : get_elem? (task_in file).actions k ≡ some (row_is row line)) where
   row_put : get_or (set marks slot row) slot [] ≡ row
   row_put = get_or-set_same marks slot row [] (omega (arith, held.marks_long))
 
@@ -79,18 +84,23 @@ module _ {file : List ℕ} {count : ℕ} {tags : List ℕ} {marks : List (List �
     where
       go : (b : Bool) → eqb s slot ≡ b → (length (get_or (set marks slot row) s []) ≡ MARKS) × (length (get_or (set numbers slot line) s []) ≡ NUMBERS)
       go true q =
-          let e : slot ≡ s = sym (eqb-true s slot q) in
-          (ap (λ (j : ℕ). length (get_or (set marks slot row) j [])) (sym e) ∙ ap length row_put ∙ row_long, ap (λ (j : ℕ). length (get_or (set numbers slot line) j [])) (sym e) ∙ ap length line-put ∙ line_long)
+          let e : slot ≡ s = sym (eqb-true s slot q) in (
+            ap (λ (j : ℕ). length (get_or (set marks slot row) j [])) (sym e) ∙ ap length row_put ∙ row_long,
+            ap (λ (j : ℕ). length (get_or (set numbers slot line) j [])) (sym e) ∙ ap length line-put ∙ line_long,
+          )
       go false q =
           let n = eqb-false s slot q in
           (ap length (row_other s n) ∙ (held.rows_long s l).0, ap length (line_other s n) ∙ (held.rows_long s l).1)
 
-  holds-put : (s : ℕ) → s < length tags → get_or (set tags slot k) s 0 < count → get_elem? (task_in file).actions (get_or (set tags slot k) s 0) ≡ some (slot_is (set marks slot row) (set numbers slot line) s)
+  holds-put : (s : ℕ) → s < length tags → get_or (set tags slot k) s 0 < count
+      → get_elem? (task_in file).actions (get_or (set tags slot k) s 0) ≡ some (slot_is (set marks slot row) (set numbers slot line) s)
   holds-put s l h = go (eqb s slot) refl
     where
-      go : (b : Bool) → eqb s slot ≡ b → get_elem? (task_in file).actions (get_or (set tags slot k) s 0) ≡ some (slot_is (set marks slot row) (set numbers slot line) s)
+      go : (b : Bool) → eqb s slot ≡ b
+          → get_elem? (task_in file).actions (get_or (set tags slot k) s 0) ≡ some (slot_is (set marks slot row) (set numbers slot line) s)
       go true q =
-          subst (λ (j : ℕ). get_elem? (task_in file).actions (get_or (set tags slot k) j 0) ≡ some (slot_is (set marks slot row) (set numbers slot line) j)) (sym (eqb-true s slot q))
+          subst (λ (j : ℕ). get_elem? (task_in file).actions (get_or (set tags slot k) j 0) ≡ some
+          (slot_is (set marks slot row) (set numbers slot line) j)) (sym (eqb-true s slot q))
           (ap (get_elem? (task_in file).actions) (get_or-set_same tags slot k 0 there) ∙ holds-there)
       go false q =
           let n : s ≡ slot → ⊥ = eqb-false s slot q in

@@ -1,14 +1,12 @@
 -- A run of one action in a plan: the steps that it takes, and where it ends.
 -- Assumes nothing.
-use Rattle.std.specs.Prelude.{◌≡◌, ℕ, ◌+◌, ◌*◌, ◌<◌, ◌≤◌, true, List, length, get_or, ℤ}
+use Rattle.std.specs.Prelude.{◌≡◌, ℕ, ◌+◌, ◌*◌, ◌<◌, ◌≤◌, true, List, length, get_or, ℤ, Result, Ok, Err}
 use Rattle.std.proofs.Math.Option.{none, some}
 use Rattle.model.specs.Tasks.{RestrictedAction, State}
 use Rattle.model.specs.Plans.{plan_numbers}
 use Rattle.model.specs.Steps.{values_within, figure}
 use Rattle.restricted_step.specs.Steps.{step_by, CanTake}
 use Rattle.restricted_runs.specs.Repeats.{steps_by}
-use Rattle.restricted_runs.specs.declared.Run.{Run}
-use Rattle.restricted_runs.specs.declared.Run.TheVariants.{Until, Stopped}
 
 -- so many numbers of a plan from step `from` on are k
 abbrev pub Alike : ℕ → List ℕ → ℕ → ℕ → Type 0
@@ -51,6 +49,6 @@ pub record Stuck (a : RestrictedAction) (x : State) (k : ℕ) (plan : List ℕ) 
   pub takes : get_or (plan_numbers plan) i 0 ≡ k
   pub refuses : step_by a here ≡ none
 
-abbrev pub Ran : RestrictedAction → State → ℕ → List ℕ → ℕ → ℕ → Run → State → Type 0
-Ran a x k plan from steps (Until i) y = Passed a x k plan from steps i y
-Ran a x k plan from steps (Stopped i) y = Stuck a x k plan from steps i
+abbrev pub Ran : RestrictedAction → State → ℕ → List ℕ → ℕ → ℕ → Result ℕ ℕ → State → Type 0
+Ran a x k plan from steps (Ok i) y = Passed a x k plan from steps i y
+Ran a x k plan from steps (Err i) y = Stuck a x k plan from steps i

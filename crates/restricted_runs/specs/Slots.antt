@@ -5,7 +5,7 @@ use Rattle.std.specs.Prelude.{◌≡◌, ℕ, ◌<◌, ◌≤◌, List, [], leng
 use Rattle.std.proofs.Math.Option.{some}
 use Rattle.std.proofs.Math.ListN.{get_elem?}
 use Rattle.integers.specs.Numbers.{Bytes}
-use Rattle.lists.specs.Answer.{given}
+use Rattle.answers.specs.Answer.{given}
 use Rattle.model.specs.Tasks.{RestrictedAction}
 use Rattle.model.specs.Limits.{restricted_limits}
 use Rattle.model.specs.Decoding.{read_restricted}

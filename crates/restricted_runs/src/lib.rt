@@ -5,7 +5,7 @@
 // anew.
 #![tactic(auto)]
 
-ghost use Rattle.std.specs.Prelude.{◌≡◌, min, ◌*◌, ◌<◌, ◌≤◌, length, get_or};
+ghost use Rattle.std.specs.Prelude.{◌≡◌, ◌*◌, ◌<◌, ◌≤◌, length, get_or};
 ghost use Rattle.model.specs.Plans.{plan_numbers};
 ghost use Rattle.file_parts.specs.Row.{row_is};
 ghost use Rattle.restricted_step.specs.Steps.{state_of, CanTake};
@@ -18,12 +18,6 @@ use restricted_step::{MODES, VARIABLES};
 
 // The most actions of a restricted task, and one more: where its goal stands.
 pub const PLACES: usize = 16_385;
-
-fn wide(x: u16) -> usize
-    ensures { result ≡ x }
-{
-    x as usize
-}
 
 // Action k of the file is made to stand in a slot: where another stands there, its bytes are decoded into the slot.
 pub fn keep_action(
@@ -43,7 +37,7 @@ pub fn keep_action(
     if tags[slot] == k {
         return;
     }
-    let number = wide(k);
+    let number = k as usize;
     let bytes = file_actions::part(file, places[number], places[number + 1]);
     file_actions::decode_restricted(bytes, &mut marks[slot], &mut numbers[slot]);
     tags[slot] = k;
@@ -51,19 +45,6 @@ pub fn keep_action(
 
 // Fewer steps than these are taken one by one.
 const SHORT: usize = 8;
-
-// A run of steps by one action: up to a step, or stopped at one where the action doesn't apply.
-#[derive(Drop)]
-pub enum Run {
-    Until(usize),
-    Stopped(usize),
-}
-
-fn lesser(a: usize, b: usize) -> usize
-    ensures { result ≡ min a b }
-{
-    if a < b { a } else { b }
-}
 
 // So many steps by an action at once, one at least: taken where the action applies before them and behind them, else none.
 fn leap(
@@ -110,7 +91,7 @@ fn leap_far(
     while SHORT <= times {
         let leapt = leap(values, modes, marks, numbers, times);
         taken += leapt;
-        times = lesser(times / 2, most - taken);
+        times = (times / 2).min(most - taken);
     }
     taken
 }
@@ -130,7 +111,8 @@ fn count_alike(plan: &[u8], from: usize, k: u16, steps: usize) -> usize
     plan_bytes::matches_run(plan, from, k, left)
 }
 
-// The steps of a plan from step `from` on one by one, as long as they take action k.
+// The steps of a plan from step `from` on one by one, as long as they take action k: the step that takes another, or the one where the
+// action doesn't apply.
 fn take_steps(
     values: &mut [i64; VARIABLES],
     modes: &mut [u16; MODES],
@@ -140,22 +122,20 @@ fn take_steps(
     plan: &[u8],
     from: usize,
     steps: usize,
-) -> Run
+) -> Result<usize, usize>
     requires { CanRun values.old marks.now numbers.now k plan.now from steps }
     ensures { Ran (row_is marks.now numbers.now) (state_of values.old modes.old)
         k plan.now from steps result (state_of values.new modes.new) }
 {
-    let mut i = from;
-    while i < steps {
+    for i in from..steps {
         if plan_bytes::action_of(plan, i) != k {
-            return Run::Until(i);
+            return Ok(i);
         }
         if !restricted_step::take(values, modes, marks, numbers) {
-            return Run::Stopped(i);
+            return Err(i);
         }
-        i += 1;
     }
-    Run::Until(i)
+    Ok(steps)
 }
 
 // The same, by leaps first.
@@ -168,7 +148,7 @@ fn take_many(
     plan: &[u8],
     from: usize,
     steps: usize,
-) -> Run
+) -> Result<usize, usize>
     requires { CanRun values.old marks.now numbers.now k plan.now from steps }
     ensures { Ran (row_is marks.now numbers.now) (state_of values.old modes.old)
         k plan.now from steps result (state_of values.new modes.new) }
@@ -188,20 +168,20 @@ pub fn take_run(
     plan: &[u8],
     from: usize,
     steps: usize,
-) -> Run
+) -> Result<usize, usize>
     requires { CanRun values.old marks.now numbers.now k plan.now from steps }
     ensures { Ran (row_is marks.now numbers.now) (state_of values.old modes.old)
         k plan.now from steps result (state_of values.new modes.new) }
 {
     if !restricted_step::take(values, modes, marks, numbers) {
-        return Run::Stopped(from);
+        return Err(from);
     }
     let next = from + 1;
     if next == steps {
-        return Run::Until(next);
+        return Ok(next);
     }
     if plan_bytes::action_of(plan, next) != k {
-        return Run::Until(next);
+        return Ok(next);
     }
     take_many(values, modes, marks, numbers, k, plan, next, steps)
 }

@@ -10,7 +10,7 @@ use lib.ListN.{length, take, get_elem?, replicate, length-replicate, length-map}
 use lib.IntN.{ℤ, pos}
 use borrow.Author.Tests.{lt-ltb, le-ltb}
 use Rattle.integers.specs.Numbers.{Bytes}
-use Rattle.lists.specs.Answer.{Answer, given, refused, then}
+use Rattle.answers.specs.Answer.{Answer, given, refused, then}
 use Rattle.model.specs.Tasks.{RestrictedTask, State}
 use Rattle.model.specs.Limits.{restricted_limits}
 use Rattle.model.specs.Reading.{Verdict as ModelVerdict, Accepted as accepted, Rejected as rejected, verdict_of, commands_of}
@@ -34,11 +34,15 @@ use Rattle.restricted_step.specs.Sizes.{VARIABLES, MODES}
 use Rattle.restricted_step.specs.Whole.{task_in, step_of}
 use Rattle.restricted_step.proofs.Whole.{action-ok, step-by-number}
 use Rattle.restricted_state.specs.Step.{RowFor, handed_back, stepped}
-use Rattle.restricted_state.specs.Alone.{step_verdict, refusal_is, step_answer_of}
+use Rattle.restricted_state.specs.Alone.{step_answer_of}
 
 -- ---- what is declared, read into arrays of zeros
 pub zero_room : RestrictedRoom (replicate VARIABLES (pos 0)) (replicate MODES 0) (replicate MODES 0)
-zero_room = record { start_long = length-replicate VARIABLES (pos 0); sizes_long = length-replicate {A = ℕ} MODES 0; values_long = length-replicate {A = ℕ} MODES 0 }
+zero_room = record {
+  start_long = length-replicate VARIABLES (pos 0);
+  sizes_long = length-replicate {A = ℕ} MODES 0;
+  values_long = length-replicate {A = ℕ} MODES 0;
+}
 
 -- ---- a file's verdict
 module _ (file : List ℕ) where
@@ -50,12 +54,17 @@ module _ (file : List ℕ) where
 
   pub actions-counted : Bytes file → {v m a : ℕ} → accepted v m a ≡ verdict_of restricted_limits file → a ≡ length (task_in file).actions
   actions-counted bytes {v} {m} {a} e =
-      verdict-counts-actions restricted_limits file bytes (subst Is e tt) v m a (sym e) ∙ sym (length-map (actions_of (commands_of restricted_limits file)) restricted_action_of)
+      verdict-counts-actions restricted_limits file bytes (subst Is e tt) v m a (sym e)
+      ∙ sym (length-map (actions_of (commands_of restricted_limits file)) restricted_action_of)
 
--- ---- what a step hands back is the answer
-answered : (n m : ℕ) (x z : State) (b : Bool) (o : Option State) → (b, z) ≡ handed_back n m x o → (refusal_is (step_verdict b), z) ≡ step_answer_of x (if_applies o 0 (λ y. given (with_rest n m x y)))
-answered n m x z b none e = ap (λ (p : Bool × State). (refusal_is (step_verdict p.0), p.1)) e
-answered n m x z b (some y) e = ap (λ (p : Bool × State). (refusal_is (step_verdict p.0), p.1)) e
+-- ---- what a step hands back is the answer: no refusal where the action applied, else 12 at place 0
+abbrev pub told : Bool → Option (ℕ × ℕ)
+told applied = cond applied none (some (12, 0))
+
+answered : (n m : ℕ) (x z : State) (b : Bool) (o : Option State) → (b, z) ≡ handed_back n m x o
+    → (told b, z) ≡ step_answer_of x (if_applies o 0 (λ y. given (with_rest n m x y)))
+answered n m x z b none e = ap (λ (p : Bool × State). (told p.0, p.1)) e
+answered n m x z b (some y) e = ap (λ (p : Bool × State). (told p.0, p.1)) e
 
 -- action k of a task
 abbrev task_step : RestrictedTask → State → ℕ → Answer State
@@ -63,7 +72,8 @@ task_step t x k = step_alone (length t.starts) (length t.modes) (length t.action
 
 -- ---- the rows of the action that has these bytes, of an accepted file
 module _ (file : List ℕ) (bytes : Bytes file) (k : ℕ) {part : List ℕ} (of : BytesOfAction restricted_limits file k part)
-    {r : Declared} {start : List ℤ} {sizes modes : List ℕ} (stored : RestrictedStored file (replicate VARIABLES (pos 0)) (replicate MODES 0) (replicate MODES 0) r start sizes modes)
+    {r : Declared} {start : List ℤ} {sizes modes : List ℕ}
+    (stored : RestrictedStored file (replicate VARIABLES (pos 0)) (replicate MODES 0) (replicate MODES 0) r start sizes modes)
     {marks : List ℕ} {numbers : List ℤ} (says : Says (fitting_restricted (restricted_action_of (decode_action part))) marks numbers) where
   abbrev t : RestrictedTask
   t = task_in file
@@ -93,13 +103,16 @@ module _ (file : List ℕ) (bytes : Bytes file) (k : ℕ) {part : List ℕ} (of 
   abbrev of_task : ℕ → ℕ → State → Answer State
   of_task n m x = if_applies (step_restricted t (declared_part n m x) k) 0 (λ y. given (with_rest n m x y))
 
-  pub step-taken : (x z : State) (b : Bool) → (b, z) ≡ stepped r.variables r.modes sizes marks numbers x → (refusal_is (step_verdict b), z) ≡ step_answer_of x (step_restricted_alone file x k)
+  pub step-taken : (x z : State) (b : Bool) → (b, z) ≡ stepped r.variables r.modes sizes marks numbers x
+      → (told b, z) ≡ step_answer_of x (step_restricted_alone file x k)
   step-taken x z b e =
       let y = declared_part r.variables r.modes x in
-      let s : step_of (take r.modes sizes) y (row_is marks numbers) ≡ step_restricted t y k = rw held.sizes_are (step-by-number t y k (row_is marks numbers) is-action) in
+      let s : step_of (take r.modes sizes) y (row_is marks numbers) ≡ step_restricted t y k =
+      rw held.sizes_are (step-by-number t y k (row_is marks numbers) is-action) in
       answered r.variables r.modes x z b (step_restricted t y k) (e ∙ ap (handed_back r.variables r.modes x) s)
       ∙ ap₂ (λ (n m : ℕ). step_answer_of x (of_task n m x)) held.variable_count held.mode_count
-      ∙ ap (λ (there : Bool). step_answer_of x (cond there (of_task (length t.starts) (length t.modes) x) (refused 11 0))) (sym (lt-ltb k (length t.actions) below))
+      ∙ ap (λ (there : Bool). step_answer_of x (cond there (of_task (length t.starts) (length t.modes) x) (refused 11 0)))
+      (sym (lt-ltb k (length t.actions) below))
       ∙ ap (λ (o : Answer RestrictedTask). step_answer_of x (then o (λ u. task_step u x k))) (sym is)
 
 -- ---- there is no such action, or no such task

@@ -3,7 +3,7 @@
 use mathlib.Core.Path.{◌≡◌, refl, sym, ap, ◌∙◌}
 use Prim.Native.Nat.{ℕ}
 use native.Mathlib.Omega.{arith}
-use mathlib.Core.Bool.{Bool, true, false, ◌&&◌, cond}
+use mathlib.Core.Bool.{Bool, true, false, ◌&&◌, cond, false≢true}
 use mathlib.Core.Option.{Option, none, some}
 use mathlib.Core.List.{List, ◌++◌}
 use lib.ListN.{length, take, drop, replicate, length-replicate, length-append, length-take, length-drop, take-append-drop}
@@ -19,7 +19,7 @@ use Rattle.restricted_step.specs.Steps.{state_of, step_by, CanTake}
 use Rattle.restricted_step.specs.Whole.{step_of, Standing}
 use Rattle.restricted_step.proofs.Usable.{usable}
 use Rattle.restricted_step.proofs.Whole.{within-append, zeros_within, below-declared, stays, goes}
-use Rattle.restricted_state.specs.Step.{RowFor, handed_back, stepped, tried_is}
+use Rattle.restricted_state.specs.Step.{RowFor, handed_back, stepped}
 
 and-false : (b : Bool) → (b && false) ≡ false
 and-false true = refl
@@ -38,7 +38,8 @@ module _ {n m : ℕ} {sizes marks : List ℕ} {numbers : List ℤ} (row : RowFor
   unsound : sound_restricted (take m sizes) (declared_part n m x) ≡ false → none ≡ step_of (take m sizes) (declared_part n m x) (row_is marks numbers)
   unfolding step_of
   unsound e = go (applies_restricted (row_is marks numbers) (declared_part n m x))
-      ∙ ap (λ (s : Bool). bind (try_restricted (declared_part n m x) (row_is marks numbers)) (λ y. cond s (cond (sound_restricted (take m sizes) y) (some y) none) none)) (sym e)
+      ∙ ap (λ (s : Bool). bind (try_restricted (declared_part n m x) (row_is marks numbers))
+      (λ y. cond s (cond (sound_restricted (take m sizes) y) (some y) none) none)) (sym e)
     where
       go : (t : Bool) → ◌≡◌ {A = Option State} none (bind (provided t (apply_restricted (row_is marks numbers) (declared_part n m x))) (λ (y : State). none))
       go true = refl
@@ -81,12 +82,15 @@ module _ {n m : ℕ} {sizes marks : List ℕ} {numbers : List ℤ} (row : RowFor
       -- ---- the step by rows decides
       pub step-stops : none ≡ step_by (row_is marks numbers) (state_of (front n values) modes) → (false, x) ≡ stepped n m sizes marks numbers x
       step-stops e = ap (handed_back n m x)
-          (sym (stays n m (take m sizes) many (row_is marks numbers) row.ok (state_of (front n values) modes) standing (sym e)) ∙ ap (λ (y : State). step_of (take m sizes) y (row_is marks numbers)) same-declared)
+          (sym (stays n m (take m sizes) many (row_is marks numbers) row.ok (state_of (front n values) modes) standing (sym e))
+          ∙ ap (λ (y : State). step_of (take m sizes) y (row_is marks numbers)) same-declared)
 
       -- where it goes, the array is as long as before
-      pub front_long : {values' : List ℤ} {modes' : List ℕ} → some (state_of values' modes') ≡ step_by (row_is marks numbers) (state_of (front n values) modes) → length values' ≡ VARIABLES
+      pub front_long : {values' : List ℤ} {modes' : List ℕ}
+          → some (state_of values' modes') ≡ step_by (row_is marks numbers) (state_of (front n values) modes) → length values' ≡ VARIABLES
       front_long {values'} {modes'} e =
-          let (s, stood, spared) = goes n m (take m sizes) many (row_is marks numbers) row.ok (state_of (front n values) modes) standing (state_of values' modes') (sym e) in
+          let (s, stood, spared) =
+          goes n m (take m sizes) many (row_is marks numbers) row.ok (state_of (front n values) modes) standing (state_of values' modes') (sym e) in
           omega (
             arith,
             spared.values.long,
@@ -100,12 +104,13 @@ module _ {n m : ℕ} {sizes marks : List ℕ} {numbers : List ℤ} (row : RowFor
       pub step-goes : {values' : List ℤ} {modes' : List ℕ} → some (state_of values' modes') ≡ step_by (row_is marks numbers) (state_of (front n values) modes)
           → (true, state_of (take n values' ++ drop n values) modes') ≡ stepped n m sizes marks numbers x
       step-goes {values'} {modes'} e =
-          let (s, stood, spared) = goes n m (take m sizes) many (row_is marks numbers) row.ok (state_of (front n values) modes) standing (state_of values' modes') (sym e) in
+          let (s, stood, spared) =
+          goes n m (take m sizes) many (row_is marks numbers) row.ok (state_of (front n values) modes) standing (state_of values' modes') (sym e) in
           let w : modes' ≡ take m modes' ++ drop m modes = sym (take-append-drop m modes') ∙ ap (λ (l : List ℕ). take m modes' ++ l) spared.modes.rest in
           (λ i. (true, state_of (take n values' ++ drop n values) (w i)))
           ∙ ap (handed_back n m x) (sym s ∙ ap (λ (y : State). step_of (take m sizes) y (row_is marks numbers)) same-declared)
 
--- ---- what is told of a step in a lent state, taken apart
-pub tried-applies : (r : Bool) (y x : State) {p : Bool × State} → tried_is r y x ≡ p → r ≡ p.0
-tried-applies true y x e = ap (λ (p : Bool × State). p.0) e
-tried-applies false y x e = ap (λ (p : Bool × State). p.0) e
+-- ---- where an action doesn't apply, the state before is handed back
+pub stays-put : (n m : ℕ) (x : State) (o : Option State) → false ≡ (handed_back n m x o).0 → (false, x) ≡ handed_back n m x o
+stays-put n m x none e = refl
+stays-put n m x (some y) e = absurd (false≢true e)

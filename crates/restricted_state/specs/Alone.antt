@@ -1,24 +1,21 @@
 -- A step by itself: what the answer says.
 -- Assumes nothing.
-use Rattle.std.specs.Prelude.{◌≡◌, ℕ, Bool, cond, List}
+use Rattle.std.specs.Prelude.{◌≡◌, ℕ, List, Result, Ok, Err, ⊤}
 use Rattle.std.proofs.Math.Option.{Option, none, some}
-use Rattle.lists.specs.Answer.{Answer, given, refused}
+use Rattle.answers.specs.Answer.{Answer, given, refused}
 use Rattle.model.specs.Tasks.{State}
 use Rattle.model.specs.Limits.{restricted_limits}
 use Rattle.model.specs.Judging.{step_restricted_alone}
 use Rattle.file_actions.specs.Places.{BytesOfAction}
-use Rattle.restricted_state.specs.declared.StepVerdict.{StepVerdict}
-use Rattle.restricted_state.specs.declared.StepVerdict.TheVariants.{Applied as applied, Refused as step_refused}
+use Rattle.answers.specs.Refusals.{number_of}
+use Rattle.answers.specs.declared.Refusal.{Refusal}
 use Rattle.restricted_state.specs.declared.StepAnswer.{StepAnswer}
 use Rattle.restricted_state.specs.Step.{whole_is}
 
-abbrev pub step_verdict : Bool → StepVerdict
-step_verdict b = cond b applied (step_refused 12 0)
-
 -- the refusal, or none where the action applied; and the state after the step, or the state before on a refusal
-abbrev pub refusal_is : StepVerdict → Option (ℕ × ℕ)
-refusal_is applied = none
-refusal_is (step_refused number place) = some (number, place)
+abbrev pub refusal_is : Result ⊤ Refusal → Option (ℕ × ℕ)
+refusal_is (Ok _) = none
+refusal_is (Err r) = some (number_of r.reason, r.place)
 
 abbrev pub step_answer_is : StepAnswer → Option (ℕ × ℕ) × State
 step_answer_is r = (refusal_is r.verdict, whole_is r.state)

@@ -1,6 +1,7 @@
 -- A restricted state by value and one step of it, in the words of the model.
 -- Assumes nothing.
 use Rattle.std.specs.Prelude.{◌≡◌, ℕ, ◌≤◌, Bool, true, false, List, length, take, ℤ}
+use Rattle.std.specs.Prelude.{Option as StepResult, Some, None}
 use Rattle.std.proofs.Math.Option.{Option, none, some}
 use Rattle.model.specs.Tasks.{State}
 use Rattle.model.specs.Limits.{restricted_limits}
@@ -11,7 +12,6 @@ use Rattle.restricted_step.specs.Sizes.{VARIABLES, MODES}
 use Rattle.restricted_step.specs.Steps.{state_of}
 use Rattle.restricted_step.specs.Whole.{step_of}
 use Rattle.restricted_state.specs.declared.State.{State as StateByValue}
-use Rattle.restricted_state.specs.declared.Stepped.{Stepped}
 
 -- the whole arrays
 abbrev pub whole_is : StateByValue → State
@@ -32,8 +32,9 @@ handed_back n m x (some y) = (true, with_rest n m x y)
 abbrev pub stepped : ℕ → ℕ → List ℕ → List ℕ → List ℤ → State → Bool × State
 stepped n m sizes marks numbers x = handed_back n m x (step_of (take m sizes) (declared_part n m x) (row_is marks numbers))
 
-abbrev pub stepped_is : Stepped → Bool × State
-stepped_is r = (r.applied, whole_is r.state)
+abbrev pub stepped_is : StateByValue → StepResult StateByValue → Bool × State
+stepped_is x None = (false, whole_is x)
+stepped_is x (Some y) = (true, whole_is y)
 
 -- ---- the same of a step on lent arrays, which are spent where the action doesn't apply
 abbrev pub tried_is : Bool → State → State → Bool × State

@@ -5,15 +5,17 @@
 #![tactic(auto)]
 
 ghost use Rattle.std.specs.Prelude.{◌≡◌, ◌++◌, ◌≤◌, length, take, drop};
+ghost use Rattle.answers.specs.Refusals.{refusal_is};
 ghost use Rattle.model.specs.Limits.{restricted_limits};
 ghost use Rattle.model.specs.Judging.{step_restricted_alone};
 ghost use Rattle.model.specs.Steps.{values_within, modes_below_sizes, figure};
 ghost use Rattle.file_actions.specs.Places.{BytesOfSome};
 ghost use Rattle.restricted_step.specs.Sizes.{VARIABLES, MODES};
 ghost use Rattle.restricted_step.specs.Steps.{state_of};
-ghost use Rattle.restricted_state.specs.Alone.{step_verdict, step_answer_is, step_answer_of, StepTaken};
+ghost use Rattle.restricted_state.specs.Alone.{step_answer_is, step_answer_of, StepTaken};
 ghost use Rattle.restricted_state.specs.Step.{whole_is, RowFor, stepped, stepped_is, tried_is};
 
+use answers::{Reason, Refusal};
 use file_parts::{MARKS, NUMBERS};
 use restricted_step::{FIGURE, MODES, VARIABLES};
 
@@ -24,24 +26,10 @@ pub struct State {
     pub modes: [u16; MODES],
 }
 
-// Whether the action applied, and the state after it; where it did not, the state before.
-#[derive(Drop)]
-pub struct Stepped {
-    pub applied: bool,
-    pub state: State,
-}
-
-// What comes of a step by itself: the action applied, or the number and place of the refusal.
-#[derive(Drop)]
-pub enum StepVerdict {
-    Applied,
-    Refused(u8, u64),
-}
-
-// Beside it the state after the step; the state before on a refusal.
-#[derive(Drop)]
+// What comes of a step by itself: whether it is refused, and the state after it; on a refusal the state before.
+#[derive(Clone, Copy)]
 pub struct StepAnswer {
-    pub verdict: StepVerdict,
+    pub verdict: Result<(), Refusal>,
     pub state: State,
 }
 
@@ -50,14 +38,9 @@ fn values_within(values: &[i64; VARIABLES], n: usize) -> bool
     requires { (n ≤ VARIABLES) × (n ≤ length values.now) }
     ensures { result ≡ values_within figure (take n values.now) }
 {
-    let mut i: usize = 0;
-    while i < n {
-        if !integers::is_within(values[i], FIGURE) {
-            return false;
-        }
-        i += 1;
-    }
-    true
+    values[..n]
+        .iter()
+        .all(|value| integers::is_within(*value, FIGURE))
 }
 
 // Whether the first m modes have values below their sizes.
@@ -65,14 +48,10 @@ fn modes_below(modes: &[u16; MODES], m: usize, sizes: &[u16; MODES]) -> bool
     requires { (m ≤ MODES) × (m ≤ length modes.now) × (m ≤ length sizes.now) }
     ensures { result ≡ modes_below_sizes (take m sizes.now) (take m modes.now) }
 {
-    let mut i: usize = 0;
-    while i < m {
-        if modes[i] >= sizes[i] {
-            return false;
-        }
-        i += 1;
-    }
-    true
+    modes[..m]
+        .iter()
+        .zip(&sizes[..m])
+        .all(|(mode, size)| *mode < *size)
 }
 
 // The first n values of one array in the place of those of another.
@@ -80,11 +59,7 @@ fn copy_front(to: &mut [i64; VARIABLES], from: &[i64; VARIABLES], n: usize)
     requires { (n ≤ VARIABLES) × (length to.old ≡ VARIABLES) × (length from.now ≡ VARIABLES) }
     ensures { to.new ≡ take n from.now ++ drop n to.old }
 {
-    let mut i: usize = 0;
-    while i < n {
-        to[i] = from[i];
-        i += 1;
-    }
+    to[..n].copy_from_slice(&from[..n]);
 }
 
 // A step in a lent state. Whether the action applies; where it doesn't, the state is spent. The declared values are moved before zeros, where
@@ -156,7 +131,7 @@ impl State {
         State { values, modes }
     }
 
-    // Both.
+    // The state after it, where it applies.
     pub fn step(
         self,
         n: usize,
@@ -164,23 +139,25 @@ impl State {
         sizes: &[u16; MODES],
         marks: &[u16; MARKS],
         numbers: &[i64; NUMBERS],
-    ) -> Stepped
+    ) -> Option<State>
         requires { RowFor n m sizes.now marks.now numbers.now }
-        ensures { stepped_is result ≡ stepped n m sizes.now marks.now numbers.now (whole_is self) }
+        ensures { stepped_is self result ≡ stepped n m sizes.now marks.now numbers.now (whole_is self) }
     {
-        let applied = self.applies(n, m, sizes, marks, numbers);
-        let state = self.next(n, m, sizes, marks, numbers);
-        Stepped { applied, state }
+        if !self.applies(n, m, sizes, marks, numbers) {
+            return None;
+        }
+        Some(self.next(n, m, sizes, marks, numbers))
     }
 }
 
-fn step_verdict(applied: bool) -> StepVerdict
-    ensures { result ≡ step_verdict applied }
+// The answer to a step that is refused: the state as it was handed in.
+fn answer_refused(refusal: Refusal, state: State) -> StepAnswer
+    ensures { step_answer_is result ≡ step_answer_of (whole_is state) (refusal_is refusal) }
 {
-    if applied {
-        return StepVerdict::Applied;
+    StepAnswer {
+        verdict: Err(refusal),
+        state,
     }
-    StepVerdict::Refused(12, 0)
 }
 
 // The action that has these bytes, of an accepted file, taken from a state.
@@ -195,11 +172,12 @@ fn step_accepted(file: &[u8], bytes: &[u8], state: State) -> StepAnswer
     let mut numbers = [0i64; NUMBERS];
     let declared = file_declarations::read_restricted(file, &mut start, &mut sizes, &mut first);
     file_actions::decode_restricted(bytes, &mut marks, &mut numbers);
-    let stepped = state.step(declared.variables, declared.modes, &sizes, &marks, &numbers);
-    let after = stepped.state;
-    StepAnswer {
-        verdict: step_verdict(stepped.applied),
-        state: after,
+    match state.step(declared.variables, declared.modes, &sizes, &marks, &numbers) {
+        Some(after) => StepAnswer {
+            verdict: Ok(()),
+            state: after,
+        },
+        None => answer_refused(Reason::DoesNotApply.at(0), state),
     }
 }
 
@@ -208,14 +186,8 @@ fn step_accepted(file: &[u8], bytes: &[u8], state: State) -> StepAnswer
 pub fn step_alone(file: &[u8], state: State, k: usize) -> StepAnswer
     ensures { step_answer_is result ≡ step_answer_of (whole_is state) (step_restricted_alone file.now (whole_is state) k) }
 {
-    let mut number: u8 = 0;
-    let mut place: u64 = 0;
-    let bytes = file_actions::restricted_action_bytes(file, k, &mut number, &mut place);
-    if number == 0 {
-        return step_accepted(file, bytes, state);
-    }
-    StepAnswer {
-        verdict: StepVerdict::Refused(number, file_actions::step_place(number, place)),
-        state,
+    match file_actions::restricted_action_bytes(file, k) {
+        Ok(action) => step_accepted(file, action.bytes, state),
+        Err(refusal) => answer_refused(file_actions::at_step(refusal), state),
     }
 }

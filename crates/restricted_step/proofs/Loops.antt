@@ -14,7 +14,11 @@ use Rattle.lists.proofs.Loops.{There, Scanned, scan-start, scan-next, scan-stop,
 
 module _ {A : Type 0} (n : ℕ) (f : ℕ → A) {k : ℕ} where
   all_there : k ≡ n → There n (tabulate n f) k
-  all_there e = record { ends = e ∙ sym (length-tabulate n f) ∙ ap length (sym (take-tabulate n f)); asked = omega arith; room = omega (arith, length-tabulate n f) }
+  all_there e = record {
+    ends = e ∙ sym (length-tabulate n f) ∙ ap length (sym (take-tabulate n f));
+    asked = omega arith;
+    room = omega (arith, length-tabulate n f);
+  }
 
   at : {i : ℕ} → There n (tabulate n f) k → i < k → get_or (tabulate n f) i (f i) ≡ f i
   at {i} h l = get_or-tabulate n f i (f i) (omega (arith, h.asked))

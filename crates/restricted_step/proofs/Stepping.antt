@@ -26,14 +26,16 @@ unfolding step_by
 not-held a x e = rw e refl
 
 -- values, where there are any, and the modes beside them
-beside : (r b : Bool) (values sums : List ℤ) (modes : List ℕ) → cond r (some values) none ≡ provided b sums → cond r (some (state_of values modes)) none ≡ provided b (state_of sums modes)
+beside : (r b : Bool) (values sums : List ℤ) (modes : List ℕ) → cond r (some values) none ≡ provided b sums
+    → cond r (some (state_of values modes)) none ≡ provided b (state_of sums modes)
 beside true true values sums modes e = ap (λ o. bind o (λ l. some (state_of l modes))) e
 beside true false values sums modes e = ap (λ o. bind o (λ l. some (state_of l modes))) e
 beside false true values sums modes e = ap (λ o. bind o (λ l. some (state_of l modes))) e
 beside false false values sums modes e = refl
 
 -- where they hold, the sums decide
-pub held : (a : RestrictedAction) (values : List ℤ) (modes : List ℕ) (r : Bool) (sums : List ℤ) → applies_restricted a (state_of values modes) ≡ true → cond r (some sums) none ≡ summed 1 a values
+pub held : (a : RestrictedAction) (values : List ℤ) (modes : List ℕ) (r : Bool) (sums : List ℤ) → applies_restricted a (state_of values modes) ≡ true
+    → cond r (some sums) none ≡ summed 1 a values
     → cond r (some (state_of sums (set_all a.mode_effects modes))) none ≡ step_by a (state_of values modes)
 unfolding step_by summed
 held a values modes r sums e s =

@@ -45,7 +45,8 @@ once-at : {A : Type 0} (n : ℕ) (f : ℕ → ℕ × A) → Distinct (keys (tabu
 unfolding tabulate
 once-at zero f d i j l m e = omega arith
 once-at (suc n) f d zero j l m e = omega arith
-once-at (suc n) f (h, d) (suc i) zero l m e = eqb-false (f (suc i)).0 (f 0).0 (keys-at (λ (k : ℕ). eqb k (f 0).0 ≡ false) n (λ k. f (suc k)) h i (omega arith)) (sym e)
+once-at (suc n) f (h, d) (suc i) zero l m e =
+    eqb-false (f (suc i)).0 (f 0).0 (keys-at (λ (k : ℕ). eqb k (f 0).0 ≡ false) n (λ k. f (suc k)) h i (omega arith)) (sym e)
 once-at (suc n) f (h, d) (suc i) (suc j) l m e = once-at n (λ k. f (suc k)) d i j (omega arith) (omega arith) e
 
 -- an action sets a mode once, so it has no more effects than there are modes
@@ -56,7 +57,8 @@ declared sizes (e ∷ es) (h, hs) = (h.0, declared sizes es hs)
 few-effects : (sizes : List ℕ) (es : List (ℕ × ℕ)) → ValuesIn sizes es → Distinct (keys es) → length es ≤ length sizes
 few-effects sizes es h d = omega (arith, length-keys es, few-distinct (length sizes) (keys es) (declared sizes es h) d)
 
-pub usable : (n : ℕ) (sizes marks : List ℕ) (numbers : List ℤ) → n ≤ VARIABLES → length sizes ≤ MODES → RestrictedActionOk restricted_limits n sizes (row_is marks numbers) → Usable marks numbers
+pub usable : (n : ℕ) (sizes marks : List ℕ) (numbers : List ℤ) → n ≤ VARIABLES → length sizes ≤ MODES
+    → RestrictedActionOk restricted_limits n sizes (row_is marks numbers) → Usable marks numbers
 usable n sizes marks numbers few few_modes ok = record {
   conditions = record {
     few = omega (arith, ok.conditions_ok.conditions_few, length-tabulate (natural_at marks condition_count) (condition_in marks numbers));
@@ -67,10 +69,17 @@ usable n sizes marks numbers few few_modes ok = record {
   };
   mode_conditions = record {
     few = omega (arith, ok.conditions_ok.mode_conditions_few, length-tabulate (natural_at marks mode_condition_count) (mode_condition_in marks));
-    below = λ i l. omega (arith, (all-at (ValueIn sizes) (natural_at marks mode_condition_count) (mode_condition_in marks) ok.conditions_ok.mode_conditions_in i l).0);
+    below = λ i l. omega (
+      arith,
+      (all-at (ValueIn sizes) (natural_at marks mode_condition_count) (mode_condition_in marks) ok.conditions_ok.mode_conditions_in i l).0,
+    );
   };
   mode_effects = record {
-    few = omega (arith, few-effects sizes (tabulate (natural_at marks mode_effect_count) (mode_effect_in marks)) ok.mode_effects_in ok.mode_effects_once, length-tabulate (natural_at marks mode_effect_count) (mode_effect_in marks));
+    few = omega (
+      arith,
+      few-effects sizes (tabulate (natural_at marks mode_effect_count) (mode_effect_in marks)) ok.mode_effects_in ok.mode_effects_once,
+      length-tabulate (natural_at marks mode_effect_count) (mode_effect_in marks),
+    );
     below = λ i l. omega (arith, (all-at (ValueIn sizes) (natural_at marks mode_effect_count) (mode_effect_in marks) ok.mode_effects_in i l).0);
   };
   additions = record {

@@ -4,11 +4,9 @@
 // reads and writes the variables and modes that these name, and no others. It never reads a file, and never finds an action by its number.
 #![tactic(auto)]
 
-ghost use Rattle.std.specs.Prelude.{◌≡◌, cond, ◌≤◌, pos, ◌+ℤ◌, ◌*ℤ◌};
+ghost use Rattle.std.specs.Prelude.{◌≡◌, cond, ◌≤◌};
 ghost use Rattle.std.proofs.Math.Option.{none, some};
-ghost use Rattle.integers.specs.Parts.{Within};
-ghost use Rattle.model.specs.Limits.{restricted_limits};
-ghost use Rattle.model.specs.Steps.{set_all, modes_hold, conditions_hold, integer_at, natural_at, applies_restricted, figure};
+ghost use Rattle.model.specs.Steps.{set_all, modes_hold, conditions_hold, integer_at, natural_at, applies_restricted};
 ghost use Rattle.file_parts.specs.Layout.{condition_room, mode_condition_room, mode_effect_room};
 ghost use Rattle.file_parts.specs.Layout.{condition_count, condition_variable, mode_condition_count, mode_condition_mode, mode_effect_count, mode_effect_mode};
 ghost use Rattle.file_parts.specs.Row.{conditions_in, mode_conditions_in, mode_effects_in, row_is};
@@ -30,24 +28,16 @@ pub const MODES: usize = 8;
 // "a restricted one past that figure"
 pub const FIGURE: u64 = 2_000_000_000_000_000;
 
-fn wide(x: u16) -> usize
-    ensures { result ≡ x }
-{
-    x as usize
-}
-
 // Whether every P of an action holds.
 fn modes_hold(modes: &[u16; MODES], marks: &[u16; MARKS]) -> bool
     requires { Named mode_condition_room MODES marks.now mode_condition_count mode_condition_mode }
     ensures { result ≡ modes_hold (mode_conditions_in marks.now) (natural_at modes.now) }
 {
-    let count = wide(marks[MODE_CONDITION_COUNT]);
-    let mut i: usize = 0;
-    while i < count {
-        if modes[wide(marks[MODE_CONDITION_MODE + i])] != marks[MODE_CONDITION_VALUE + i] {
+    let count = marks[MODE_CONDITION_COUNT] as usize;
+    for i in 0..count {
+        if modes[marks[MODE_CONDITION_MODE + i] as usize] != marks[MODE_CONDITION_VALUE + i] {
             return false;
         }
-        i += 1;
     }
     true
 }
@@ -61,15 +51,13 @@ fn conditions_hold(
     requires { Named condition_room VARIABLES marks.now condition_count condition_variable }
     ensures { result ≡ conditions_hold (conditions_in marks.now numbers.now) (integer_at values.now) }
 {
-    let count = wide(marks[CONDITION_COUNT]);
-    let mut i: usize = 0;
-    while i < count {
-        let value = values[wide(marks[CONDITION_VARIABLE + i])];
+    let count = marks[CONDITION_COUNT] as usize;
+    for i in 0..count {
+        let value = values[marks[CONDITION_VARIABLE + i] as usize];
         let relation = marks[CONDITION_RELATION + i];
         if !integers::relation_holds(value, relation, numbers[i]) {
             return false;
         }
-        i += 1;
     }
     true
 }
@@ -84,25 +72,7 @@ pub fn holds(
     requires { Usable marks.now numbers.now }
     ensures { result ≡ applies_restricted (row_is marks.now numbers.now) (state_of values.now modes.now) }
 {
-    if !modes_hold(modes, marks) {
-        return false;
-    }
-    conditions_hold(values, marks, numbers)
-}
-
-fn signed(times: usize) -> i64
-    requires { times ≤ 1000000 }
-    ensures { result ≡ pos times }
-{
-    times as i64
-}
-
-// A value, and so many times an amount.
-fn plus_times(value: i64, times: i64, amount: i64) -> i64
-    requires { Within figure value × Within 1000000 times × Within restricted_limits.constant amount }
-    ensures { result ≡ value +ℤ times *ℤ amount }
-{
-    value + times * amount
+    modes_hold(modes, marks) && conditions_hold(values, marks, numbers)
 }
 
 // Every + of an action so many times, as long as no sum passes the figure. Whether none does; where one does, the values are spent.
@@ -115,17 +85,15 @@ pub fn add_times(
     requires { CanTake values.old marks.now numbers.now × (times ≤ 1000000) }
     ensures { cond result (some values.new) none ≡ summed times (row_is marks.now numbers.now) values.old }
 {
-    let count = wide(marks[ADDITION_COUNT]);
-    let many = signed(times);
-    let mut i: usize = 0;
-    while i < count {
-        let variable = wide(marks[ADDITION_VARIABLE + i]);
-        let sum = plus_times(values[variable], many, numbers[ADDITION_AMOUNT + i]);
+    let count = marks[ADDITION_COUNT] as usize;
+    let many = times as i64;
+    for i in 0..count {
+        let variable = marks[ADDITION_VARIABLE + i] as usize;
+        let sum = values[variable] + many * numbers[ADDITION_AMOUNT + i];
         if !integers::is_within(sum, FIGURE) {
             return false;
         }
         values[variable] = sum;
-        i += 1;
     }
     true
 }
@@ -135,11 +103,9 @@ pub fn set_all(modes: &mut [u16; MODES], marks: &[u16; MARKS])
     requires { Named mode_effect_room MODES marks.now mode_effect_count mode_effect_mode }
     ensures { modes.new ≡ set_all (mode_effects_in marks.now) modes.old }
 {
-    let count = wide(marks[MODE_EFFECT_COUNT]);
-    let mut i: usize = 0;
-    while i < count {
-        modes[wide(marks[MODE_EFFECT_MODE + i])] = marks[MODE_EFFECT_VALUE + i];
-        i += 1;
+    let count = marks[MODE_EFFECT_COUNT] as usize;
+    for i in 0..count {
+        modes[marks[MODE_EFFECT_MODE + i] as usize] = marks[MODE_EFFECT_VALUE + i];
     }
 }
 

@@ -6,7 +6,7 @@ use native.Mathlib.Omega.{arith}
 use mathlib.Core.List.{List, map, ◌++◌}
 use lib.ListN.{length, drop, replicate, length-map, take-append-drop}
 use lib.IntN.{ℤ, pos}
-use Rattle.lists.specs.Answer.{given, refused}
+use Rattle.answers.specs.Answer.{given, refused}
 use Rattle.model.specs.Tasks.{SourceVariable, SourceTask, RestrictedTask}
 use Rattle.model.specs.Limits.{source_limits, restricted_limits}
 use Rattle.model.specs.Reading.{Verdict, Accepted, Rejected, verdict_of, commands_of}

@@ -1,7 +1,7 @@
 -- What a task file declares: the state before any step, and of a source task the bounds of its variables and the sizes of its modes.
 -- Assumes nothing.
 use Rattle.std.specs.Prelude.{ℕ, List, map, ℤ}
-use Rattle.lists.specs.Answer.{Answer, given, then}
+use Rattle.answers.specs.Answer.{Answer, given, then}
 use Rattle.model.specs.Tasks.{SourceVariable, SourceTask, State}
 use Rattle.model.specs.Decoding.{read_source, read_restricted}
 use Rattle.model.specs.Steps.{sizes_of, source_start, restricted_start}

@@ -4,8 +4,8 @@
 #![tactic(auto)]
 
 ghost use Rattle.std.specs.Prelude.{◌≡◌};
-ghost use Rattle.lists.specs.Answer.{given, lent};
-ghost use Rattle.lists.specs.Written.{answer_of};
+ghost use Rattle.answers.specs.Answer.{given, lent};
+ghost use Rattle.answers.specs.Refusals.{answer_of};
 ghost use Rattle.model.specs.Limits.{source_limits, restricted_limits};
 ghost use Rattle.model.specs.Reading.{verdict_of};
 ghost use Rattle.model.specs.ActionBytes.{action_place};
@@ -14,13 +14,16 @@ ghost use Rattle.model.specs.Judging.{lower_bytes, expand_bytes, project_bytes};
 ghost use Rattle.model.specs.Listing.{listing};
 ghost use Rattle.file_check.specs.Views.{verdict_is};
 ghost use Rattle.file_actions.specs.Places.{placed_is};
-ghost use Rattle.source_state.specs.Priced.{priced_is};
 ghost use Rattle.restricted_judge.specs.Judging.{zeros};
 ghost use Rattle.source_walk.specs.Answers.{zeros as source_zeros};
 ghost use Rattle.refusals.specs.Texts.{refusal_text};
-ghost use Rattle.ruphenqo.specs.Told.{Told, counts_of, itself, state_of, state_over, end_over};
+ghost use Rattle.ruphenqo.specs.Told.{Told, code_of, place_of, counts_of, itself, state_of, state_over, end_over};
 ghost use Rattle.ruphenqo.specs.Start.{declares_of, declares_over, start_source, start_restricted};
 ghost use Rattle.ruphenqo.specs.Version.{VERSION};
+
+use answers::Refusal;
+use file_check::Accepted;
+use std::ops::Range;
 
 // major * 10000 + minor * 100 + patch
 const VERSION: u32 = 10_300;
@@ -32,20 +35,34 @@ pub fn ruphenqo_version() -> u32
     VERSION
 }
 
-fn tell_counts(verdict: file_check::Verdict, counts: &mut [u64; 3], place: &mut u64) -> u32
-    ensures { Told (counts_of (verdict_is verdict)) itself counts.old result place.new counts.new }
+// What a caller in C is told of every answer: 0, and the place 0; or the refusal's number, and its place.
+fn tell<T>(answer: &Result<T, Refusal>, place: &mut u64) -> u32
+    ensures code { result ≡ code_of (answer_of answer.now) }
+    ensures place { place.new ≡ place_of (answer_of answer.now) }
 {
-    match verdict {
-        file_check::Verdict::Rejected(number, at) => {
-            *place = at;
-            number as u32
-        }
-        file_check::Verdict::Accepted(variables, modes, actions) => {
+    match answer {
+        Ok(_) => {
             *place = 0;
-            *counts = [variables as u64, modes as u64, actions as u64];
             0
         }
+        Err(refusal) => {
+            *place = refusal.place;
+            refusal.reason.number() as u32
+        }
     }
+}
+
+fn tell_counts(checked: Result<Accepted, Refusal>, counts: &mut [u64; 3], place: &mut u64) -> u32
+    ensures { Told (counts_of (verdict_is checked)) itself counts.old result place.new counts.new }
+{
+    if let Ok(accepted) = checked {
+        *counts = [
+            accepted.variables as u64,
+            accepted.modes as u64,
+            accepted.actions as u64,
+        ];
+    }
+    tell(&checked, place)
 }
 
 // Reads a source file: the counts of its variables, modes and actions.
@@ -77,20 +94,17 @@ pub fn ruphenqo_source_start(
         (declares_of (state_of values.old modes.old) lower.old upper.old sizes.old) result place.new
         (declares_of (state_of values.new modes.new) lower.new upper.new sizes.new) }
 {
-    match file_check::check_source(task) {
-        file_check::Verdict::Rejected(number, at) => {
-            *place = at;
-            number as u32
-        }
-        file_check::Verdict::Accepted(_, _, _) => {
-            *place = 0;
+    let checked = file_check::check_source(task);
+    match checked {
+        Err(_) => tell(&checked, place),
+        Ok(_) => {
             *values = [0; 8];
             *modes = [0; 4];
             *lower = [0; 8];
             *upper = [0; 8];
             *sizes = [0; 4];
             file_declarations::read_source(task, lower, upper, values, sizes, modes);
-            0
+            tell(&checked, place)
         }
     }
 }
@@ -105,37 +119,32 @@ pub fn ruphenqo_restricted_start(
     ensures { Told (start_restricted task.now) (state_over zeros) (state_of values.old modes.old)
         result place.new (state_of values.new modes.new) }
 {
-    match file_check::check_restricted(task) {
-        file_check::Verdict::Rejected(number, at) => {
-            *place = at;
-            number as u32
-        }
-        file_check::Verdict::Accepted(_, _, _) => {
-            *place = 0;
+    let checked = file_check::check_restricted(task);
+    match checked {
+        Err(_) => tell(&checked, place),
+        Ok(_) => {
             *values = [0; 64];
             *modes = [0; 8];
             let mut sizes = [0u16; 8];
             file_declarations::read_restricted(task, values, &mut sizes, modes);
-            0
+            tell(&checked, place)
         }
     }
 }
 
-fn tell_place(placed: file_actions::Placed, start: &mut u64, end: &mut u64, place: &mut u64) -> u32
+fn tell_place(
+    placed: Result<Range<usize>, Refusal>,
+    start: &mut u64,
+    end: &mut u64,
+    place: &mut u64,
+) -> u32
     ensures { Told (placed_is placed) itself (start.old, end.old) result place.new (start.new, end.new) }
 {
-    match placed {
-        file_actions::Placed::Refused(number, at) => {
-            *place = at;
-            number as u32
-        }
-        file_actions::Placed::At(from, to) => {
-            *place = 0;
-            *start = from as u64;
-            *end = to as u64;
-            0
-        }
+    if let Ok(range) = &placed {
+        *start = range.start as u64;
+        *end = range.end as u64;
     }
+    tell(&placed, place)
 }
 
 // Where the bytes of action k of a source file start and end.
@@ -190,23 +199,12 @@ pub fn ruphenqo_judge_source(
         result place.new (steps.new, state_of values.new modes.new) }
 {
     let judgement = source_walk::judge(task, plan);
-    let verdict = judgement.verdict;
-    let state = judgement.state;
-    match verdict {
-        source_walk::Verdict::Refused(number, at) => {
-            *place = at;
-            number as u32
-        }
-        source_walk::Verdict::Valid(count) => {
-            *place = 0;
-            *steps = count;
-            let end_values = state.values;
-            let end_modes = state.modes;
-            *values = end_values;
-            *modes = end_modes;
-            0
-        }
+    if let Ok(count) = judgement.verdict {
+        *steps = count;
+        *values = judgement.state.values;
+        *modes = judgement.state.modes;
     }
+    tell(&judgement.verdict, place)
 }
 
 // Judges a restricted plan: the count of its steps and the end state.
@@ -223,23 +221,12 @@ pub fn ruphenqo_judge_restricted(
         result place.new (steps.new, state_of values.new modes.new) }
 {
     let judgement = restricted_judge::judge(task, plan);
-    let verdict = judgement.verdict;
-    let state = judgement.state;
-    match verdict {
-        restricted_judge::Verdict::Refused(number, at) => {
-            *place = at;
-            number as u32
-        }
-        restricted_judge::Verdict::Valid(count) => {
-            *place = 0;
-            *steps = count;
-            let end_values = state.values;
-            let end_modes = state.modes;
-            *values = end_values;
-            *modes = end_modes;
-            0
-        }
+    if let Ok(count) = judgement.verdict {
+        *steps = count;
+        *values = judgement.state.values;
+        *modes = judgement.state.modes;
     }
+    tell(&judgement.verdict, place)
 }
 
 // Takes a step by itself in the state that the arrays hold.
@@ -259,22 +246,11 @@ pub fn ruphenqo_step_restricted(
         modes: *modes,
     };
     let answer = restricted_state::step_alone(task, before, k as usize);
-    let verdict = answer.verdict;
-    let state = answer.state;
-    match verdict {
-        restricted_state::StepVerdict::Refused(number, at) => {
-            *place = at;
-            number as u32
-        }
-        restricted_state::StepVerdict::Applied => {
-            *place = 0;
-            let after_values = state.values;
-            let after_modes = state.modes;
-            *values = after_values;
-            *modes = after_modes;
-            0
-        }
+    if answer.verdict.is_ok() {
+        *values = answer.state.values;
+        *modes = answer.state.modes;
     }
+    tell(&answer.verdict, place)
 }
 
 // Takes a step by itself in the state that the arrays hold, in a source task.
@@ -294,38 +270,20 @@ pub fn ruphenqo_step_source(
         modes: *modes,
     };
     let answer = source_state::step_alone(task, before, k as usize);
-    let verdict = answer.verdict;
-    let state = answer.state;
-    match verdict {
-        source_state::StepVerdict::Refused(number, at) => {
-            *place = at;
-            number as u32
-        }
-        source_state::StepVerdict::Applied => {
-            *place = 0;
-            let after_values = state.values;
-            let after_modes = state.modes;
-            *values = after_values;
-            *modes = after_modes;
-            0
-        }
+    if answer.verdict.is_ok() {
+        *values = answer.state.values;
+        *modes = answer.state.modes;
     }
+    tell(&answer.verdict, place)
 }
 
-fn tell_price(priced: source_state::Priced, price: &mut u64, place: &mut u64) -> u32
-    ensures { Told (priced_is priced) itself price.old result place.new price.new }
+fn tell_price(priced: Result<u64, Refusal>, price: &mut u64, place: &mut u64) -> u32
+    ensures { Told (answer_of priced) itself price.old result place.new price.new }
 {
-    match priced {
-        source_state::Priced::Refused(number, at) => {
-            *place = at;
-            number as u32
-        }
-        source_state::Priced::Price(sum) => {
-            *place = 0;
-            *price = sum;
-            0
-        }
+    if let Ok(sum) = priced {
+        *price = sum;
     }
+    tell(&priced, place)
 }
 
 // The price of a step by itself.
@@ -358,20 +316,13 @@ pub fn ruphenqo_price_plan(task: &[u8], plan: &[u8], price: &mut u64, place: &mu
     tell_price(source_walk::price_plan(task, plan), price, place)
 }
 
-fn tell_written(written: lists::Written, length: &mut u64, place: &mut u64) -> u32
+fn tell_written(written: Result<usize, Refusal>, length: &mut u64, place: &mut u64) -> u32
     ensures { Told (answer_of written) itself length.old result place.new length.new }
 {
-    match written {
-        lists::Written::Refused(refusal, at) => {
-            *place = at;
-            refusal as u32
-        }
-        lists::Written::Bytes(count) => {
-            *place = 0;
-            *length = count as u64;
-            0
-        }
+    if let Ok(count) = written {
+        *length = count as u64;
     }
+    tell(&written, place)
 }
 
 // The lowered task's file, written into lent output.

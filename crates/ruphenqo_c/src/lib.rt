@@ -3,7 +3,7 @@
 #![tactic(auto)]
 
 ghost use Rattle.std.specs.Prelude.{◌≡◌};
-ghost use Rattle.lists.specs.Answer.{given, lent};
+ghost use Rattle.answers.specs.Answer.{given, lent};
 ghost use Rattle.model.specs.Limits.{source_limits, restricted_limits};
 ghost use Rattle.model.specs.Reading.{verdict_of};
 ghost use Rattle.model.specs.ActionBytes.{action_place};

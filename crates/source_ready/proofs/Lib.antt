@@ -1,4 +1,5 @@
 pub mod Blocks
+pub mod Capping
 pub mod Decoded
 pub mod Effects
 pub mod Making

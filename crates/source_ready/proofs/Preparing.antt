@@ -13,7 +13,7 @@ use lib.IntN.{ℤ, pos, nat_abs}
 use borrow.Author.Tests.{ltb-true, ltb-false}
 use Rattle.integers.specs.All.{All}
 use Rattle.integers.specs.Numbers.{Bytes}
-use Rattle.lists.specs.Answer.{given}
+use Rattle.answers.specs.Answer.{given}
 use Rattle.lists.specs.Writing.{splice}
 use Rattle.model.specs.Tasks.{NumericCondition, SourceVariable, SourceTask}
 use Rattle.model.specs.Limits.{source_limits}

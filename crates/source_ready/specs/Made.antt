@@ -1,7 +1,7 @@
 -- The parts of the rows of an action, as they are written; and what is asked of an action and of a file.
 -- Assumes nothing.
 use Rattle.std.specs.Prelude.{◌≡◌, ℕ, min, ◌+◌, ◌*◌, ◌≤◌, ◌<◌, cond, List, [], eqb, length, get_or, take, replicate, set, ℤ, pos, nat_abs}
-use Rattle.lists.specs.Answer.{given}
+use Rattle.answers.specs.Answer.{given}
 use Rattle.integers.specs.All.{All}
 use Rattle.model.specs.Tasks.{NumericCondition, Effect, SourceAction, SourceTask}
 use Rattle.model.specs.Limits.{source_limits}

@@ -34,12 +34,6 @@ use source_step::{
 };
 use source_sums::PLACES;
 
-fn wide(x: u8) -> u16
-    ensures { result ≡ x }
-{
-    x as u16
-}
-
 // The variables and the weights of the first k terms of effect e, an L.
 fn put_terms(
     marks: &mut [u16; MARKS],
@@ -51,18 +45,15 @@ fn put_terms(
     requires { (e < EFFECTS) × (k ≤ 4) × (length marks.old ≡ MARKS) × (length numbers.old ≡ NUMBERS) }
     ensures { TermsPut e k (term_at terms) marks.old numbers.old marks.new numbers.new }
 {
-    let mut i: usize = 0;
-    while i < k {
+    for i in 0..k {
         let term = terms[i];
-        let weight = term.weight;
-        marks[TERM + BLOCK * e + i] = wide(term.variable);
-        numbers[WEIGHT + BLOCK * e + i] = weight;
-        i += 1;
+        marks[TERM + BLOCK * e + i] = u16::from(term.variable);
+        numbers[WEIGHT + BLOCK * e + i] = term.weight;
     }
 }
 
 // An effect but for its terms: its kind, target, operand and constant.
-#[derive(Drop)]
+#[derive(Clone, Copy)]
 struct Head {
     kind: u16,
     target: u8,
@@ -122,17 +113,15 @@ fn put_head(
     ensures { HeadPut e n lower.now upper.now head count marks.old numbers.old
         marks.new numbers.new }
 {
-    let kind = head.kind;
-    let target = head.target;
-    let operand = head.operand;
-    let constant = head.constant;
-    marks[KIND + BLOCK * e] = kind;
-    marks[TARGET + BLOCK * e] = wide(target);
-    marks[OPERAND + BLOCK * e] = wide(operand);
+    let target = u16::from(head.target);
+    let operand = u16::from(head.operand);
+    marks[KIND + BLOCK * e] = head.kind;
+    marks[TARGET + BLOCK * e] = target;
+    marks[OPERAND + BLOCK * e] = operand;
     marks[COUNT + BLOCK * e] = count;
-    numbers[CONSTANT + BLOCK * e] = constant;
-    numbers[LOWER + BLOCK * e] = source_step::value_at(lower, n, target);
-    numbers[UPPER + BLOCK * e] = source_step::value_at(upper, n, target);
+    numbers[CONSTANT + BLOCK * e] = head.constant;
+    numbers[LOWER + BLOCK * e] = source_step::value_of(lower, n, target);
+    numbers[UPPER + BLOCK * e] = source_step::value_of(upper, n, target);
 }
 
 // How many of so many terms count for an effect of a kind.
@@ -140,7 +129,7 @@ fn counted(kind: u16, terms: usize) -> usize
     ensures { result ≡ terms_of_kind kind terms }
 {
     if kind == LINEAR {
-        return source_step::lesser(TERMS, terms);
+        return TERMS.min(terms);
     }
     0
 }
@@ -159,11 +148,9 @@ fn put_effect(
     ensures { EffectPut e n lower.now upper.now (numeric_is place) marks.old numbers.old
         marks.new numbers.new }
 {
-    let effect = place.effect;
-    let terms = place.terms;
-    let head = head_of(effect);
+    let head = head_of(place.effect);
     let count = counted(head.kind, place.term_count);
-    put_terms(marks, numbers, e, count, terms);
+    put_terms(marks, numbers, e, count, place.terms);
     put_head(marks, numbers, e, n, lower, upper, head, count as u16);
 }
 
@@ -180,19 +167,14 @@ fn put_effects(
     ensures { EffectsPut n lower.now upper.now (effects_is effects) marks.old numbers.old
         marks.new numbers.new }
 {
-    let count = effects.count;
-    let places = effects.places;
-    marks[MANY] = count as u16;
-    let mut e: usize = 0;
-    while e < count {
-        let place = places[e];
-        put_effect(marks, numbers, e, n, lower, upper, place);
-        e += 1;
+    marks[MANY] = effects.count as u16;
+    for e in 0..effects.count {
+        put_effect(marks, numbers, e, n, lower, upper, effects.places[e]);
     }
 }
 
 // The rows of an action but for the marks that name its conditions on sums, in the place of zeros: of its parts row and its effects.
-pub fn put_row<'a>(
+pub fn put_row(
     marks: &mut [u16; MARKS],
     numbers: &mut [i64; NUMBERS],
     n: usize,
@@ -200,8 +182,8 @@ pub fn put_row<'a>(
     upper: &[i64; VARIABLES],
     m: usize,
     sizes: &[u16; MODES],
-    parts: &'a [u16; PART_MARKS],
-    constants: &'a [i64; PART_NUMBERS],
+    parts: &[u16; PART_MARKS],
+    constants: &[i64; PART_NUMBERS],
     effects: Effects,
 )
     requires { Named marks.old × (numbers.old ≡ replicate NUMBERS (pos 0))
@@ -291,8 +273,7 @@ fn prepare_actions(
     let mut parts = [0u16; PART_MARKS];
     let mut constants = [0i64; PART_NUMBERS];
     let mut first: usize = 0;
-    let mut k: usize = 0;
-    while k < count {
+    for k in 0..count {
         let effects = decode_placed(file, places, k, &mut parts, &mut constants);
         let part = file_actions::part(file, places[k], places[k + 1]);
         let own = name_own(&mut marks[k], part, total, first);
@@ -309,7 +290,6 @@ fn prepare_actions(
             effects,
         );
         first += own;
-        k += 1;
     }
     first
 }

@@ -3,14 +3,14 @@
 use mathlib.Core.Path.{◌≡◌, refl, sym, ap, ap₂, ◌∙◌, subst}
 use Prim.Native.Nat.{ℕ, zero, suc, ◌≤◌, ◌<◌}
 use native.Mathlib.Omega.{arith}
-use mathlib.Core.Bool.{Bool, cond}
-use mathlib.Core.Option.{Option, none, some}
+use mathlib.Core.Bool.{Bool, true, false, cond}
+use mathlib.Core.Option.{Option as ModelOption, none, some}
 use mathlib.Core.List.{List, [], ◌∷◌}
 use lib.ListN.{length, take, get_elem?}
 use lib.IntN.{ℤ}
 use borrow.Author.Tests.{lt-ltb, le-ltb}
 use Rattle.integers.specs.Numbers.{Bytes}
-use Rattle.lists.specs.Answer.{Answer, given, refused, then}
+use Rattle.answers.specs.Answer.{Answer, given, refused, then}
 use Rattle.model.specs.Tasks.{SourceTask, State}
 use Rattle.model.specs.Limits.{source_limits}
 use Rattle.model.specs.Reading.{Verdict as FileVerdict, Accepted, verdict_of}
@@ -22,8 +22,16 @@ use Rattle.model.proofs.AcceptedOk.{accepted-source-ok}
 use Rattle.file_declarations.specs.declared.Declared.{Declared}
 use Rattle.source_step.specs.Step.{state, step_of, handed_back, Tried}
 use Rattle.source_step.specs.Accepted.{AcceptedWith}
-use Rattle.source_state.specs.Alone.{step_verdict, verdict_over, returned, RowRead}
-use Rattle.source_state.specs.Step.{stepped_by}
+use Rattle.std.specs.Prelude.{Option, Some, None, is_some, Result, Ok, Err, ⊤}
+use Rattle.answers.specs.Refusals.{number_of}
+use Rattle.answers.specs.declared.Refusal.{Refusal}
+use Rattle.answers.specs.declared.Reason.{Reason}
+use Rattle.answers.specs.declared.Reason.TheVariants.{DoesNotApply}
+use Rattle.source_state.specs.Alone.{verdict_over, returned, RowRead}
+use Rattle.std.specs.Bool.{then_some}
+use Rattle.std.specs.Option.{unwrap_or}
+use Rattle.source_state.specs.declared.State.{State as StateByValue}
+use Rattle.source_state.specs.Step.{whole_is, stepped_is, stepped_by}
 use Rattle.source_step.specs.Row.{Stepped}
 use Rattle.source_step.proofs.Taking.{tried}
 use Rattle.source_step.proofs.Steps.{step-of-task}
@@ -36,7 +44,11 @@ found_below [] k a e = absurd (none-not-some refl e)
 found_below (x ∷ l) zero a e = omega arith
 found_below (x ∷ l) (suc k) a e = let h = found_below l k a e in omega arith
 
-answered : (n m : ℕ) (x z : State) (b : Bool) (o : Option State) → (b, z) ≡ handed_back n m x o
+-- the verdict on a step, by whether it applies
+abbrev pub step_verdict : Bool → Result ⊤ Refusal
+step_verdict applies = cond applies (Ok tt) (Err (record { reason = DoesNotApply; place = 0 }))
+
+answered : (n m : ℕ) (x z : State) (b : Bool) (o : ModelOption State) → (b, z) ≡ handed_back n m x o
     → (verdict_over (step_verdict b) z, z) ≡ returned x (if_applies o 0 (λ y. given (with_rest n m x y)))
 answered n m x z b none e = ap (λ (p : Bool × State). (verdict_over (step_verdict p.0) p.1, p.1)) e
 answered n m x z b (some y) e = ap (λ (p : Bool × State). (verdict_over (step_verdict p.0) p.1, p.1)) e
@@ -45,11 +57,20 @@ answered n m x z b (some y) e = ap (λ (p : Bool × State). (verdict_over (step_
 abbrev task_step : SourceTask → State → ℕ → Answer State
 task_step t x k = step_alone (length t.variables) (length t.modes) (length t.actions) (step_source t) x k
 
--- the answer and the whole arrays after a row
-pub stepped-whole : {n m : ℕ} {marks : List ℕ} {numbers : List ℤ} (sums : List ℤ) {values : List ℤ} {modes : List ℕ} {r : Bool} {values' : List ℤ}
-    {modes' : List ℕ} → Stepped n m marks numbers sums values modes r values' modes'
-    → (r, state values' modes') ≡ stepped_by n m marks numbers sums (state values modes)
-stepped-whole sums T = rw (T.is, T.values_are, T.modes_are) refl
+-- whether a row is taken, and the whole arrays after it
+module _ {n m : ℕ} {marks : List ℕ} {numbers : List ℤ} (sums : List ℤ) (x y : StateByValue) where
+  pub given-if : (r : Bool) → Stepped n m marks numbers sums x.values x.modes r y.values y.modes
+      → stepped_is x (then_some r y) ≡ stepped_by n m marks numbers sums (whole_is x)
+  given-if true T = rw (T.is, T.values_are, T.modes_are) refl
+  given-if false T = rw (← T.is) refl
+
+pub first-is : (x : StateByValue) (o : Option StateByValue) → is_some o ≡ (stepped_is x o).0
+first-is x None = refl
+first-is x (Some y) = refl
+
+pub second-is : (x : StateByValue) (o : Option StateByValue) → whole_is (unwrap_or o x) ≡ (stepped_is x o).1
+second-is x None = refl
+second-is x (Some y) = refl
 
 -- a step by itself of the action that has these bytes
 module _ {file bytes marks : List ℕ} {numbers sums : List ℤ} {r : Declared} (R : RowRead file bytes marks numbers sums r) (k : ℕ)

@@ -10,7 +10,7 @@ use lib.Seq.{get_or-take}
 use lib.IntN.{ℤ, pos, nat_abs, ◌+ℤ◌, ◌*ℤ◌}
 use Rattle.integers.specs.All.{All}
 use Rattle.integers.specs.Division.{quotient_of, residue_of}
-use Rattle.lists.specs.Answer.{Answer, given, refused, then}
+use Rattle.answers.specs.Answer.{Answer, given, refused, then}
 use Rattle.lists.proofs.Loops.{and_left}
 use Rattle.model.specs.Limits.{source_limits}
 use Rattle.model.specs.Tasks.{Effect, add_effect, linear_effect, quotient_effect, residue_effect, SourceAction, SourceTask, State}
@@ -31,9 +31,9 @@ use Rattle.source_step.proofs.Taking.{read-when-held}
 use Rattle.plan_strokes.specs.Made.{Listed}
 use Rattle.plan_strokes.specs.Strokes.{strokes_of, price_of_strokes}
 use Rattle.plan_strokes.proofs.Prices.{price-is}
-use Rattle.source_state.specs.Alone.{step_verdict, verdict_over, RowRead}
+use Rattle.source_state.specs.Alone.{verdict_over, RowRead}
 use Rattle.source_state.specs.Step.{stepped_by}
-use Rattle.source_state.proofs.Alone.{step-taken}
+use Rattle.source_state.proofs.Alone.{step_verdict, step-taken}
 
 -- ---- effects that name declared variables, of n, cost over the first n values what they cost over all
 module _ (n : ℕ) (l : List ℤ) where
@@ -89,7 +89,8 @@ module _ (n : ℕ) (l : List ℤ) where
   same-held (e ∷ es) (o, os) =
       ap₂ (λ (p : ℕ) (z : ℤ). p + (1 + nat_abs z) + (2 + nat_abs (integer_at (take n l) (target e)) + nat_abs z) + price_of_held es (integer_at (take n l)))
       (same-before e o) (same-result e o)
-      ∙ ap₂ (λ (z : ℤ) (q : ℕ). price_of_result e (integer_at l) + (1 + nat_abs (result e (integer_at l))) + (2 + nat_abs z + nat_abs (result e (integer_at l))) + q)
+      ∙ ap₂ (λ (z : ℤ) (q : ℕ). price_of_result e (integer_at l) + (1 + nat_abs (result e (integer_at l))) +
+      (2 + nat_abs z + nat_abs (result e (integer_at l))) + q)
       (same_target e o) (same-held es os)
 
   same-prices : (es : List Effect) → All (EffectOk source_limits n) es → price_of_effects es (integer_at (take n l)) ≡ price_of_effects es (integer_at l)

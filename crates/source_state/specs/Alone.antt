@@ -1,29 +1,26 @@
 -- What a step taken by itself answers, in the words of the model.
 -- Assumes nothing.
-use Rattle.std.specs.Prelude.{◌≡◌, ℕ, ◌≤◌, Bool, cond, List, ℤ}
+use Rattle.std.specs.Prelude.{◌≡◌, ℕ, ◌≤◌, List, ℤ, Result, Ok, Err, ⊤}
 use Rattle.std.proofs.Math.ListN.{get_elem?}
 use Rattle.std.proofs.Math.Option.{some}
 use Rattle.file_declarations.specs.declared.Declared.{Declared}
 use Rattle.file_declarations.specs.Holding.{HoldsSource}
 use Rattle.source_step.specs.Sizes.{VARIABLES, MODES}
 use Rattle.source_step.specs.Row.{RowOf}
-use Rattle.lists.specs.Answer.{Answer, given, refused}
+use Rattle.answers.specs.Answer.{Answer, given, refused}
 use Rattle.model.specs.Tasks.{SourceTask, SourceAction, State}
 use Rattle.model.specs.Decoding.{read_source}
 use Rattle.model.specs.Limits.{source_limits}
 use Rattle.model.specs.Judging.{step_source_alone}
 use Rattle.file_actions.specs.Places.{BytesOfAction}
-use Rattle.source_state.specs.declared.StepVerdict.{StepVerdict}
-use Rattle.source_state.specs.declared.StepVerdict.TheVariants.{Applied, Refused}
+use Rattle.answers.specs.Refusals.{refusal_is}
+use Rattle.answers.specs.declared.Refusal.{Refusal}
 use Rattle.source_state.specs.declared.StepAnswer.{StepAnswer}
 use Rattle.source_state.specs.Step.{whole_is}
 
-abbrev pub step_verdict : Bool → StepVerdict
-step_verdict applied = cond applied Applied (Refused 12 0)
-
-abbrev pub verdict_over : StepVerdict → State → Answer State
-verdict_over Applied y = given y
-verdict_over (Refused number place) y = refused number place
+abbrev pub verdict_over : Result ⊤ Refusal → State → Answer State
+verdict_over (Ok _) y = given y
+verdict_over (Err r) y = refusal_is r
 
 -- an answer, and beside it the state that comes back
 abbrev pub step_answer_is : StepAnswer → Answer State × State

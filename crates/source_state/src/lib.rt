@@ -11,10 +11,12 @@ ghost use Rattle.file_actions.specs.Places.{BytesOfSome};
 ghost use Rattle.source_step.specs.Sizes.{VARIABLES, MODES};
 ghost use Rattle.source_step.specs.Row.{takes, Usable};
 ghost use Rattle.source_state.specs.Step.{whole_is, stepped_is, stepped_by};
-ghost use Rattle.source_state.specs.Alone.{step_verdict, step_answer_is, returned, StepTaken, RowRead};
+ghost use Rattle.source_state.specs.Alone.{step_answer_is, returned, StepTaken, RowRead};
 ghost use Rattle.source_step.specs.Layout.{MARKS, NUMBERS};
-ghost use Rattle.source_state.specs.Priced.{priced_is, StepPriced};
+ghost use Rattle.answers.specs.Refusals.{refusal_is, answer_of};
+ghost use Rattle.source_state.specs.Priced.{StepPriced};
 
+use answers::{Reason, Refusal};
 use file_actions::EFFECTS;
 use file_declarations::Declared;
 use file_parts::{MARKS as PART_MARKS, NUMBERS as PART_NUMBERS};
@@ -28,15 +30,28 @@ pub struct State {
     pub modes: [u16; MODES],
 }
 
-// Whether the action applied, and the state after it; where it did not, the state before.
-#[derive(Drop)]
-pub struct Stepped {
-    pub applied: bool,
-    pub state: State,
-}
-
 impl State {
-    // Whether the action of a row applies, in a task of n variables and m modes.
+    // The state after the action of a row, where it applies, in a task of n variables and m modes.
+    pub fn step(
+        self,
+        n: usize,
+        m: usize,
+        marks: &[u16; MARKS],
+        numbers: &[i64; NUMBERS],
+        sums: &[i64; NUMBERS],
+    ) -> Option<State>
+        requires { (n ≤ VARIABLES) × (m ≤ MODES) × Usable n marks.now numbers.now sums.now }
+        ensures { stepped_is self result ≡ stepped_by n m marks.now numbers.now sums.now (whole_is self) }
+    {
+        let mut values = self.values;
+        let mut modes = self.modes;
+        source_step::take(&mut values, &mut modes, n, m, marks, numbers, sums).then_some(State {
+            values,
+            modes,
+        })
+    }
+
+    // Whether it applies.
     pub fn applies(
         self,
         n: usize,
@@ -48,9 +63,7 @@ impl State {
         requires { (n ≤ VARIABLES) × (m ≤ MODES) × Usable n marks.now numbers.now sums.now }
         ensures { result ≡ takes n m marks.now numbers.now sums.now self.values self.modes }
     {
-        let mut values = self.values;
-        let mut modes = self.modes;
-        source_step::take(&mut values, &mut modes, n, m, marks, numbers, sums)
+        self.step(n, m, marks, numbers, sums).is_some()
     }
 
     // The state after it; where it does not apply, the state before.
@@ -65,27 +78,7 @@ impl State {
         requires { (n ≤ VARIABLES) × (m ≤ MODES) × Usable n marks.now numbers.now sums.now }
         ensures { whole_is result ≡ (stepped_by n m marks.now numbers.now sums.now (whole_is self)).1 }
     {
-        let mut values = self.values;
-        let mut modes = self.modes;
-        source_step::take(&mut values, &mut modes, n, m, marks, numbers, sums);
-        State { values, modes }
-    }
-
-    // Both.
-    pub fn step(
-        self,
-        n: usize,
-        m: usize,
-        marks: &[u16; MARKS],
-        numbers: &[i64; NUMBERS],
-        sums: &[i64; NUMBERS],
-    ) -> Stepped
-        requires { (n ≤ VARIABLES) × (m ≤ MODES) × Usable n marks.now numbers.now sums.now }
-        ensures { stepped_is result ≡ stepped_by n m marks.now numbers.now sums.now (whole_is self) }
-    {
-        let applied = self.applies(n, m, marks, numbers, sums);
-        let state = self.next(n, m, marks, numbers, sums);
-        Stepped { applied, state }
+        self.step(n, m, marks, numbers, sums).unwrap_or(self)
     }
 }
 
@@ -124,27 +117,21 @@ fn read_row(
     declared
 }
 
-// What a step taken by itself answers: it applied, or a refusal.
-#[derive(Drop)]
-pub enum StepVerdict {
-    Applied,
-    Refused(u8, u64),
-}
-
-// With it the state after; on a refusal, the state as it was handed in.
-#[derive(Drop)]
+// What a step taken by itself answers: whether it is refused, and the state after; on a refusal, the state as it was handed in.
+#[derive(Clone, Copy)]
 pub struct StepAnswer {
-    pub verdict: StepVerdict,
+    pub verdict: Result<(), Refusal>,
     pub state: State,
 }
 
-fn step_verdict(applied: bool) -> StepVerdict
-    ensures { result ≡ step_verdict applied }
+// The answer to a step that is refused: the state as it was handed in.
+fn answer_refused(refusal: Refusal, state: State) -> StepAnswer
+    ensures { step_answer_is result ≡ returned (whole_is state) (refusal_is refusal) }
 {
-    if applied {
-        return StepVerdict::Applied;
+    StepAnswer {
+        verdict: Err(refusal),
+        state,
     }
-    StepVerdict::Refused(12, 0)
 }
 
 // Takes a step of the action that has these bytes in a state of an accepted file.
@@ -156,11 +143,12 @@ fn step_accepted(file: &[u8], bytes: &[u8], state: State) -> StepAnswer
     let mut numbers = [0i64; NUMBERS];
     let mut sums = [0i64; NUMBERS];
     let declared = read_row(file, bytes, &mut marks, &mut numbers, &mut sums);
-    let stepped = state.step(declared.variables, declared.modes, &marks, &numbers, &sums);
-    let after = stepped.state;
-    StepAnswer {
-        verdict: step_verdict(stepped.applied),
-        state: after,
+    match state.step(declared.variables, declared.modes, &marks, &numbers, &sums) {
+        Some(after) => StepAnswer {
+            verdict: Ok(()),
+            state: after,
+        },
+        None => answer_refused(Reason::DoesNotApply.at(0), state),
     }
 }
 
@@ -168,27 +156,14 @@ fn step_accepted(file: &[u8], bytes: &[u8], state: State) -> StepAnswer
 pub fn step_alone(file: &[u8], state: State, k: usize) -> StepAnswer
     ensures { step_answer_is result ≡ returned (whole_is state) (step_source_alone file.now (whole_is state) k) }
 {
-    let mut number: u8 = 0;
-    let mut place: u64 = 0;
-    let bytes = file_actions::source_action_bytes(file, k, &mut number, &mut place);
-    if number == 0 {
-        return step_accepted(file, bytes, state);
+    match file_actions::source_action_bytes(file, k) {
+        Ok(action) => step_accepted(file, action.bytes, state),
+        Err(refusal) => answer_refused(file_actions::at_step(refusal), state),
     }
-    StepAnswer {
-        verdict: StepVerdict::Refused(number, file_actions::step_place(number, place)),
-        state,
-    }
-}
-
-// What pricing answers: a price, or a refusal.
-#[derive(Drop)]
-pub enum Priced {
-    Price(u64),
-    Refused(u8, u64),
 }
 
 // Prices a step of the action that has these bytes in a state of an accepted file.
-fn price_accepted(file: &[u8], bytes: &[u8], state: State) -> Priced
+fn price_accepted(file: &[u8], bytes: &[u8], state: State) -> Result<u64, Refusal>
     requires { BytesOfSome source_limits file.now bytes.now }
     ensures { StepPriced file.now bytes.now (whole_is state) result }
 {
@@ -199,24 +174,21 @@ fn price_accepted(file: &[u8], bytes: &[u8], state: State) -> Priced
     let n = declared.variables;
     let m = declared.modes;
     if !state.applies(n, m, &marks, &numbers, &sums) {
-        return Priced::Refused(12, 0);
+        return Err(Reason::DoesNotApply.at(0));
     }
     let values = state.values;
     let mut times = [0i64; STAGES];
     let mut results = [0i64; EFFECTS];
     let count = plan_strokes::put_strokes(&mut times, &mut results, &values, n, &marks, &numbers);
-    Priced::Price(plan_strokes::price_of(&times, count))
+    Ok(plan_strokes::price_of(&times, count))
 }
 
 // The price of a step of action k in a state, by itself. It is refused as by taking it.
-pub fn price_step(file: &[u8], state: State, k: usize) -> Priced
-    ensures { priced_is result ≡ price_step file.now (whole_is state) k }
+pub fn price_step(file: &[u8], state: State, k: usize) -> Result<u64, Refusal>
+    ensures { answer_of result ≡ price_step file.now (whole_is state) k }
 {
-    let mut number: u8 = 0;
-    let mut place: u64 = 0;
-    let bytes = file_actions::source_action_bytes(file, k, &mut number, &mut place);
-    if number != 0 {
-        return Priced::Refused(number, file_actions::step_place(number, place));
+    match file_actions::source_action_bytes(file, k) {
+        Ok(action) => price_accepted(file, action.bytes, state),
+        Err(refusal) => Err(file_actions::at_step(refusal)),
     }
-    price_accepted(file, bytes, state)
 }

@@ -7,7 +7,7 @@ use mathlib.Core.List.{List}
 use lib.ListN.{length, replicate, length-replicate, length-map}
 use lib.IntN.{ℤ, pos}
 use Rattle.integers.specs.Numbers.{Bytes}
-use Rattle.lists.specs.Answer.{given}
+use Rattle.answers.specs.Answer.{given}
 use Rattle.model.specs.Tasks.{SourceTask}
 use Rattle.model.specs.Limits.{source_limits}
 use Rattle.model.specs.Reading.{Verdict as FileVerdict, Accepted, Rejected, verdict_of, commands_of}

@@ -6,7 +6,7 @@ use mathlib.Core.Bool.{true}
 use mathlib.Core.List.{List}
 use lib.ListN.{length, take}
 use lib.IntN.{ℤ}
-use Rattle.lists.specs.Answer.{given}
+use Rattle.answers.specs.Answer.{given}
 use Rattle.model.specs.Tasks.{SourceTask}
 use Rattle.model.specs.TaskOk.{SourceTaskOk}
 use Rattle.model.specs.Decoding.{read_source}

@@ -16,8 +16,9 @@ use Rattle.integers.proofs.Parts.{ints, add, abs, mul, add_assoc}
 use Rattle.integers.proofs.Products.{mul-abs, mul-add}
 use Rattle.lists.specs.Each.{tabulate}
 use Rattle.model.specs.Steps.{integer_at, weigh}
-use Rattle.source_step.specs.Sizes.{VARIABLES}
-use Rattle.source_step.specs.Row.{weights_in, sum_at, most_weight}
+use Rattle.model.proofs.StepBounds.{abs-sum}
+use Rattle.source_step.specs.Sizes.{VARIABLES, SUMS}
+use Rattle.source_step.specs.Row.{weights_in, sum_at, ValuesNear, WeightsSmall, most_weight}
 
 -- ---- nothing in front, nothing behind, and nothing of something
 pub nothing-before : (z : ℤ) → pos 0 +ℤ z ≡ z
@@ -36,7 +37,7 @@ times-nothing z = omega (ints, mul z (pos 0))
 pub weighed-small : (value weight : ℤ) → nat_abs value ≤ 10_000 → nat_abs weight ≤ most_weight → nat_abs (value *ℤ weight) ≤ 400_000_000
 weighed-small value weight h k = let m : nat_abs value * nat_abs weight ≤ 10_000 * most_weight = mul-le-mul h k in rw (mul-abs value weight) m
 
-pub weighed-fits : (z : ℤ) → nat_abs z ≤ 8_000_000_000 → SFits w64 z
+weighed-fits : (z : ℤ) → nat_abs z ≤ 8_000_000_000 → SFits w64 z
 weighed-fits z h = omega (ints, abs z)
 
 -- ---- what the first n of some numbers make together
@@ -133,14 +134,29 @@ module _ (values : List ℤ) (n : ℕ) (sums : List ℤ) (j : ℕ) where
   summing_start = record { within = omega arith; made = refl; bound = omega arith }
 
 module _ {values : List ℤ} {n : ℕ} {sums : List ℤ} {j v : ℕ} {total : ℤ} (h : Summing values n sums j v total) where
-  pub summing-next : v < n → {more : ℤ} → more ≡ total +ℤ integer_at values v *ℤ entry sums j v → nat_abs more ≤ nat_abs total + 400_000_000
-      → Summing values n sums j (v + 1) more
-  summing-next l e small = record {
-    within = omega arith;
-    made = e ∙ ap₂ ◌+ℤ◌ h.made (ap (λ (z : ℤ). z *ℤ entry sums j v) (sym (get_or-take n values v (pos 0) l)))
-        ∙ sym (summed-more v (products values n sums j));
-    bound = omega (arith, h.bound);
-  }
+  module _ (few : n ≤ VARIABLES) (near : ValuesNear n values) (small : WeightsSmall sums) (there : j < SUMS) (l : v < n) where
+    abbrev product : ℤ
+    product = integer_at values v *ℤ entry sums j v
+
+    product_small : nat_abs product ≤ 400_000_000
+    product_small = weighed-small (integer_at values v) (entry sums j v) (rw (get_or-take n values v (pos 0) l) at (near v)) (small j v there (omega arith))
+
+    pub product-fits : SFits w64 product
+    product-fits = weighed-fits product (omega (arith, product_small))
+
+    more_small : nat_abs (total +ℤ product) ≤ nat_abs total + 400_000_000
+    more_small = omega (arith, abs-sum total product, product_small)
+
+    pub more-fits : SFits w64 (total +ℤ product)
+    more-fits = weighed-fits (total +ℤ product) (omega (arith, more_small, h.bound))
+
+    pub summing-next : Summing values n sums j (v + 1) (total +ℤ product)
+    summing-next = record {
+      within = omega arith;
+      made = ap₂ ◌+ℤ◌ h.made (ap (λ (z : ℤ). z *ℤ entry sums j v) (sym (get_or-take n values v (pos 0) l)))
+          ∙ sym (summed-more v (products values n sums j));
+      bound = omega (arith, h.bound, more_small);
+    }
 
   pub summing-small : n ≤ VARIABLES → nat_abs total ≤ VARIABLES * 400_000_000
   summing-small l = omega (arith, h.bound, h.within)

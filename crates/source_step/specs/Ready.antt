@@ -3,7 +3,7 @@
 use Rattle.std.specs.Prelude.{◌≡◌, ℕ, ◌<◌, true, List, [], map, length, get_or, take, replicate, ℤ, pos}
 use Rattle.std.proofs.Math.Option.{some}
 use Rattle.std.proofs.Math.ListN.{get_elem?}
-use Rattle.lists.specs.Answer.{given}
+use Rattle.answers.specs.Answer.{given}
 use Rattle.model.specs.Tasks.{SourceTask, SourceVariable, SourceAction}
 use Rattle.model.specs.TaskOk.{SourceTaskOk}
 use Rattle.model.specs.Steps.{integer_at, sizes_of, sound_source}

@@ -6,14 +6,14 @@
 // last. Rows are lent; what they mean is said in specs/Row.antt. It never reads a file, and never finds an action by its number.
 #![tactic(auto)]
 
-ghost use Rattle.std.specs.Prelude.{◌≡◌, ◌&&◌, List, ℕ, min, ◌+◌, ◌*◌, ◌≤◌, ◌<◌, leb, length, take, ℤ, nat_abs, ◌+ℤ◌, ◌*ℤ◌};
+ghost use Rattle.std.specs.Prelude.{◌≡◌, ◌&&◌, List, ℕ, min, ◌+◌, ◌*◌, ◌≤◌, ◌<◌, length, take, ℤ, nat_abs};
 ghost use Rattle.integers.specs.Parts.{Within};
 ghost use Rattle.integers.specs.Relation.{between};
 ghost use Rattle.model.specs.Steps.{integer_at, linear};
 ghost use Rattle.source_step.specs.Step.{set_at, settled};
-ghost use Rattle.source_step.specs.Row.{values_in, modes_in, modes_after, KeepOrSet, effect_count_at, constant_at, variable_at, weight_at, terms_at};
+ghost use Rattle.source_step.specs.Row.{values_in, modes_in, modes_after, KeepOrSet, effect_count_at, constant_at, terms_at};
 ghost use Rattle.source_step.specs.Row.{result_at, ResultsAre, SingleIs, first_outside, pairs_of, sum_at, sum_holds, sums_hold_from};
-ghost use Rattle.source_step.specs.Row.{ValuesNear, WeightsSmall, most_weight, Reads, Usable, held, Settled, Stepped, Finished};
+ghost use Rattle.source_step.specs.Row.{ValuesNear, WeightsSmall, Reads, Usable, held, Settled, Stepped, Finished};
 ghost use Rattle.source_step.specs.Sizes.{VARIABLES, MODES, EFFECTS, SUMS};
 ghost use Rattle.source_step.specs.Layout.{BLOCK, LOWER, UPPER};
 
@@ -89,55 +89,17 @@ pub const QUOTIENT: u16 = 2;
 
 pub const RESIDUE: u16 = 3;
 
-pub fn lesser(a: usize, b: usize) -> usize
-    ensures { result ≡ min a b }
-{
-    if a < b { a } else { b }
-}
-
-fn wide(x: u8) -> usize
-    ensures { result ≡ x }
-{
-    x as usize
-}
-
-pub fn wide16(x: u16) -> usize
-    ensures { result ≡ x }
-{
-    x as usize
-}
-
-// The value of a variable, of n; 0 where it is not declared.
-pub fn value_at(values: &[i64; VARIABLES], n: usize, variable: u8) -> i64
-    requires { n ≤ VARIABLES }
-    ensures { result ≡ integer_at (take n values.now) variable }
-{
-    let i = wide(variable);
-    if i < n {
-        return values[i];
-    }
-    0
-}
-
 // Whether each of n values lies between what a row says.
 fn values_in(values: &[i64; VARIABLES], n: usize, numbers: &[i64; NUMBERS]) -> bool
     requires { n ≤ VARIABLES }
     ensures { result ≡ values_in n numbers.now values.now }
 {
-    let mut i: usize = 0;
-    while i < n {
+    for i in 0..n {
         if !integers::is_between(numbers[i], values[i], numbers[MOST + i]) {
             return false;
         }
-        i += 1;
     }
     true
-}
-
-fn is_mode_between(least: u16, mode: u16, most: u16) -> bool
-    ensures { result ≡ (leb least mode && leb mode most) }
-{
-    least <= mode && mode <= most
 }
 
 // Whether each of m modes does.
@@ -145,33 +107,21 @@ fn modes_in(modes: &[u16; MODES], m: usize, marks: &[u16; MARKS]) -> bool
     requires { m ≤ MODES }
     ensures { result ≡ modes_in m marks.now modes.now }
 {
-    let mut i: usize = 0;
-    while i < m {
-        if !is_mode_between(marks[i], modes[i], marks[TOP + i]) {
+    for i in 0..m {
+        if modes[i] < marks[i] || marks[TOP + i] < modes[i] {
             return false;
         }
-        i += 1;
     }
     true
 }
 
-// A mode that stays, or what it is set to.
-fn mode_after(mode: u16, keep: u16, put: u16) -> u16
-    requires { keep * 65535 + put ≤ 65535 }
-    ensures { result ≡ mode * keep + put }
-{
-    mode * keep + put
-}
-
-// Sets the modes, of m, that an action sets.
+// Sets the modes, of m, that an action sets: each stays, and else is what it is set to.
 fn set_modes(modes: &mut [u16; MODES], m: usize, marks: &[u16; MARKS])
     requires { (m ≤ MODES) × (m ≤ length modes.old) × KeepOrSet marks.now }
     ensures { modes.new ≡ modes_after m marks.now modes.old }
 {
-    let mut i: usize = 0;
-    while i < m {
-        modes[i] = mode_after(modes[i], marks[KEEP + i], marks[PUT + i]);
-        i += 1;
+    for i in 0..m {
+        modes[i] = modes[i] * marks[KEEP + i] + marks[PUT + i];
     }
 }
 
@@ -180,50 +130,18 @@ pub fn value_of(values: &[i64; VARIABLES], n: usize, variable: u16) -> i64
     requires { n ≤ VARIABLES }
     ensures { result ≡ integer_at (take n values.now) variable }
 {
-    let i = wide16(variable);
+    let i = usize::from(variable);
     if i < n {
         return values[i];
     }
     0
 }
 
-fn sum(value: i64, constant: i64) -> i64
-    requires { (nat_abs value ≤ 10000) × (nat_abs constant ≤ 10000) }
-    ensures { result ≡ value +ℤ constant }
-{
-    value + constant
-}
-
-fn plus_product(z: i64, value: i64, weight: i64) -> i64
-    requires { Within 1000000000 z × (nat_abs value ≤ 10000) × (nat_abs weight ≤ 10000) }
-    ensures { (result ≡ z +ℤ value *ℤ weight) × (nat_abs result ≤ nat_abs z + 100000000) }
-{
-    z + value * weight
-}
-
 // How many effects an action has.
 pub fn effect_count(marks: &[u16; MARKS]) -> usize
     ensures { result ≡ effect_count_at marks.now }
 {
-    lesser(EFFECTS, wide16(marks[MANY]))
-}
-
-// A sum with one more term of effect e.
-fn plus_term(
-    z: i64,
-    values: &[i64; VARIABLES],
-    n: usize,
-    marks: &[u16; MARKS],
-    numbers: &[i64; NUMBERS],
-    e: usize,
-    i: usize,
-) -> i64
-    requires { Reads n values.now marks.now numbers.now × (e < EFFECTS) × (i < 4) × Within 1000000000 z }
-    ensures { (result ≡ z +ℤ integer_at (take n values.now) (variable_at marks.now e i) *ℤ weight_at numbers.now e i)
-        × (nat_abs result ≤ nat_abs z + 100000000) }
-{
-    let value = value_of(values, n, marks[TERM + BLOCK * e + i]);
-    plus_product(z, value, numbers[WEIGHT + BLOCK * e + i])
+    EFFECTS.min(usize::from(marks[MANY]))
 }
 
 // What effect e gives where it is an L.
@@ -238,22 +156,14 @@ pub fn linear_value(
     ensures { (result ≡ linear (constant_at numbers.now e) (terms_at marks.now numbers.now e)
         (integer_at (take n values.now))) × Within 1000000000 result }
 {
-    let count = lesser(TERMS, wide16(marks[COUNT + BLOCK * e]));
+    let count = TERMS.min(usize::from(marks[COUNT + BLOCK * e]));
     let mut sum = numbers[CONSTANT + BLOCK * e];
-    let mut i: usize = 0;
-    while i < count {
-        sum = plus_term(sum, values, n, marks, numbers, e, i);
-        i += 1;
+    for i in 0..count {
+        let value = value_of(values, n, marks[TERM + BLOCK * e + i]);
+        let weight = numbers[WEIGHT + BLOCK * e + i];
+        sum += value * weight;
     }
     sum
-}
-
-// A sum of the task with one more term.
-fn plus_weighed(z: i64, value: i64, weight: i64) -> i64
-    requires { Within 4000000000 z × (nat_abs value ≤ 10000) × (nat_abs weight ≤ most_weight) }
-    ensures { (result ≡ z +ℤ value *ℤ weight) × (nat_abs result ≤ nat_abs z + 400000000) }
-{
-    z + value * weight
 }
 
 // What sum j of the task comes to.
@@ -262,10 +172,9 @@ pub fn sum_of(values: &[i64; VARIABLES], n: usize, sums: &[i64; NUMBERS], j: usi
     ensures { (result ≡ sum_at n sums.now values.now j) × (nat_abs result ≤ VARIABLES * 400000000) }
 {
     let mut sum: i64 = 0;
-    let mut v: usize = 0;
-    while v < n {
-        sum = plus_weighed(sum, values[v], sums[VARIABLES * j + v]);
-        v += 1;
+    for v in 0..n {
+        let weight = sums[VARIABLES * j + v];
+        sum += values[v] * weight;
     }
     sum
 }
@@ -351,8 +260,9 @@ pub fn holds(
     if marks[SUM_COUNT] == 0 {
         return true;
     }
-    let first = wide16(marks[SUM_FIRST]);
-    sums_hold(values, n, sums, first, wide16(marks[SUM_COUNT]))
+    let first = usize::from(marks[SUM_FIRST]);
+    let count = usize::from(marks[SUM_COUNT]);
+    sums_hold(values, n, sums, first, count)
 }
 
 // What effect e gives its target.
@@ -369,7 +279,7 @@ pub fn result_of(
     let constant = numbers[CONSTANT + BLOCK * e];
     let kind = marks[KIND + BLOCK * e];
     if kind == ADD {
-        return sum(value_of(values, n, marks[TARGET + BLOCK * e]), constant);
+        return value_of(values, n, marks[TARGET + BLOCK * e]) + constant;
     }
     if kind == LINEAR {
         return linear_value(values, n, marks, numbers, e);
@@ -436,10 +346,9 @@ fn set_value(values: &mut [i64; VARIABLES], n: usize, variable: u16, value: i64)
     requires { n ≤ VARIABLES }
     ensures { values.new ≡ set_at n values.old variable value }
 {
-    let i = wide16(variable);
+    let i = usize::from(variable);
     if i < n {
         values[i] = value;
-        return;
     }
 }
 
@@ -557,8 +466,9 @@ fn take_any(
     if !ranges_hold(values, modes, n, m, marks, numbers) {
         return false;
     }
-    let first = wide16(marks[SUM_FIRST]);
-    if !sums_hold(values, n, sums, first, wide16(marks[SUM_COUNT])) {
+    let first = usize::from(marks[SUM_FIRST]);
+    let count = usize::from(marks[SUM_COUNT]);
+    if !sums_hold(values, n, sums, first, count) {
         return false;
     }
     let mut results = [0i64; EFFECTS];

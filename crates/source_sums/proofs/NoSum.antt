@@ -1,15 +1,14 @@
 -- Where no byte of a file is a K's none of its commands is one, since a command is read by its first byte; and so its task has no sum.
 -- Assumes nothing.
 use mathlib.Core.Path.{◌≡◌, refl, sym, ap, ◌∙◌, subst}
-use mathlib.Core.Bool.{Bool, true, false, false≢true, cond}
+use mathlib.Core.Bool.{Bool, true, false, false≢true, cond, ◌||◌}
 use mathlib.Core.List.{List, [], ◌∷◌}
-use Prim.Native.Nat.{ℕ, zero, suc, ◌+◌, ◌≤◌, ◌<◌}
+use Prim.Native.Nat.{ℕ, zero, suc}
 use native.Mathlib.Omega.{arith}
-use native.Mathlib.Numerals.{add-one}
 use borrow.Author.Tests.{eq-eqb, ne_eqb}
 use lib.Dec.{eqb}
 use lib.ListN.{length, get_or, drop}
-use lib.Seq.{drop-cons, drop-length}
+use Rattle.std.specs.List.{list_any}
 use Rattle.commands.specs.Table.{size_of_byte, letter_k}
 use Rattle.commands.specs.Encoding.{byte_of, NoRefusal}
 use Rattle.commands.specs.Reading.{command_at}
@@ -26,37 +25,14 @@ use Rattle.model.proofs.SumsAccepted.{task-sums}
 use Rattle.source_sums.specs.Found.{has_byte, task_of}
 use Rattle.source_sums.proofs.Own.{none_of}
 
--- ---- whether a byte was seen before an offset, or stands in what is left, is whether it stands anywhere
-pub record Seeing (b : ℕ) (file : List ℕ) (i : ℕ) (seen : Bool) : Type 0 where
-  pub bound : i ≤ length file
-  pub same : cond seen true (has_byte b (drop i file)) ≡ has_byte b file
-
-pub seeing-start : (b : ℕ) (file : List ℕ) → Seeing b file 0 false
-seeing-start b file = record { bound = omega arith; same = refl }
-
-module _ {b : ℕ} {file : List ℕ} {i : ℕ} {seen : Bool} (h : Seeing b file i seen) where
-  module _ (l : i < length file) where
-    left : cond seen true (cond (eqb (get_or file i 0) b) true (has_byte b (drop (suc i) file))) ≡ has_byte b file
-    left = rw (drop-cons file i 0) at h.same
-
-    pub seen_here : get_or file i 0 ≡ b → Seeing b file (i + 1) true
-    seen_here e = record { bound = omega arith; same = by seen (rw (eq-eqb (get_or file i 0) b e) at left) }
-      where
-        by : (s : Bool) → cond s true true ≡ has_byte b file → true ≡ has_byte b file
-        by true k = k
-        by false k = k
-
-    pub not-here : (get_or file i 0 ≡ b → ⊥) → Seeing b file (i + 1) seen
-    not-here n = record { bound = omega arith; same = rw (add-one i) (rw (ne_eqb (get_or file i 0) b n) at left) }
-
-  pub seen_all : length file ≤ i → seen ≡ has_byte b file
-  seen_all l =
-      let e : i ≡ length file = omega (arith, h.bound) in
-      by seen (ap (λ (s : List ℕ). cond seen true (has_byte b s)) (sym (ap (λ (j : ℕ). drop j file) e ∙ drop-length file)) ∙ h.same)
-    where
-      by : (s : Bool) → cond s true false ≡ has_byte b file → s ≡ has_byte b file
-      by true k = k
-      by false k = k
+-- ---- whether a byte stands among bytes, in the words of a slice's `contains`
+pub byte-contained : (b : ℕ) (file : List ℕ) → list_any (λ x. eqb x b) file ≡ has_byte b file
+byte-contained b [] = refl
+byte-contained b (x ∷ xs) = go (eqb x b) (byte-contained b xs)
+  where
+    go : (t : Bool) → list_any (λ y. eqb y b) xs ≡ has_byte b xs → (t || list_any (λ y. eqb y b) xs) ≡ cond t true (has_byte b xs)
+    go true e = refl
+    go false e = e
 
 -- ---- where no byte is a K's the first is not, and none of those behind
 not_first : (s : List ℕ) → has_byte letter_k s ≡ false → get_or s 0 0 ≡ letter_k → ⊥

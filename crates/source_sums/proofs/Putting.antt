@@ -11,7 +11,9 @@ use lib.ListN.{length, get_or, take, set, length-map, length-take, length-set}
 use lib.Seq.{take_all, get_or-set_same, get_or-set_other}
 use lib.IntN.{ℤ, pos, nat_abs, ◌+ℤ◌, ◌*ℤ◌}
 use borrow.Author.Tests.{eqb-true, eqb-false, ltb-true, ltb-false}
-use Rattle.integers.proofs.Parts.{add_assoc}
+use mir.Syntax.{w64}
+use mir.Val.{SFits}
+use Rattle.integers.proofs.Parts.{ints, abs, add, add_assoc}
 use Rattle.model.specs.Steps.{integer_at, weigh}
 use Rattle.model.proofs.StepBounds.{abs-sum}
 use Rattle.file_actions.specs.declared.Term.{Term}
@@ -36,12 +38,6 @@ row-sum count terms long few =
     let size : length (terms_is count terms) ≤ term_room = omega (arith, length-map (take count terms) term_is, length-take count terms) in
     subst (λ (ts : List (ℕ × ℤ)). Row ts count (λ i. term_is (term_at terms i))) (take_all term_room (terms_is count terms) size)
     (row-terms term_room count count terms no_term long (omega arith))
-
-pub term-small : (count : ℕ) (terms : List Term) → length terms ≡ term_room → count ≤ term_room → TermSmall count terms → (i : ℕ) → i < count
-    → PartSmall (term_is (term_at terms i))
-term-small count terms long few h i l =
-    let r = row-sum count terms long few in
-    subst PartSmall (r.at i (term_is no_term) l) (all-at PartSmall (terms_is count terms) i (term_is no_term) h (omega (arith, r.size)))
 
 -- ---- the first i terms are put as sum j
 pub record Putting (j count : ℕ) (terms : List Term) (sums₀ sums : List ℤ) (i : ℕ) : Type 0 where
@@ -72,46 +68,66 @@ put-start {j} {sums} count terms room long few h = record {
 }
 
 module _ {j count : ℕ} {terms : List Term} {sums₀ sums : List ℤ} {i : ℕ} (h : Putting j count terms sums₀ sums i) (room : j < sum_room) where
-  pub put_next : i < count → PartSmall (term_is (term_at terms i)) → (at : ℕ) (r : ℤ) → at ≡ VARIABLES * j + (term_at terms i).variable
-      → r ≡ integer_at sums at +ℤ (term_at terms i).weight
-      → Putting j count terms sums₀ (set sums at r) (i + 1)
-  put_next l small at r is sum = record {
-    within = omega arith;
-    long = length-set sums at r ∙ h.long;
-    behind = λ k m n. other k (λ s. omega arith) ∙ h.behind k m n;
-    before = λ k m. other k (λ s. omega arith) ∙ h.before k m;
-    ranges = λ k m. other k (λ s. omega arith) ∙ h.ranges k m;
-    near = λ k m n. nears k m n (eqb k at) refl;
-    left = λ f. left-next (h.left f) (λ ts. weigh (weights_in (set sums at r) j) f +ℤ weigh ts f) l (λ rest.
-        ap (λ (z : ℤ). z +ℤ weigh rest f) (grown f) ∙ add_assoc (weigh (weights_in sums j) f) (f x *ℤ w) (weigh rest f));
-  }
-    where
-      x : ℕ
-      x = (term_at terms i).variable
+  module _ (l : i < count) (few : count ≤ term_room) (all_small : TermSmall count terms) where
+    abbrev x : ℕ
+    x = (term_at terms i).variable
 
-      w : ℤ
-      w = (term_at terms i).weight
+    abbrev w : ℤ
+    w = (term_at terms i).weight
 
-      here : at < length sums
-      here = omega (arith, h.long, small.0)
+    -- its entry, and that with the term
+    abbrev at : ℕ
+    at = VARIABLES * j + x
 
-      other : (k : ℕ) → (k ≡ at → ⊥) → integer_at (set sums at r) k ≡ integer_at sums k
-      other k n = get_or-set_other sums at k r (pos 0) n
+    abbrev more : ℤ
+    more = integer_at sums at +ℤ w
 
-      same : integer_at (set sums at r) at ≡ integer_at sums at +ℤ w
-      same = get_or-set_same sums at r (pos 0) here ∙ sum
+    small : PartSmall (x, w)
+    small =
+        let r = (h.left (λ v. pos 0)).row in
+        subst PartSmall (r.at i (term_is no_term) l) (all-at PartSmall (terms_is count terms) i (term_is no_term) all_small (omega (arith, r.size)))
 
-      nears : (k : ℕ) → VARIABLES * j ≤ k → k < VARIABLES * SUMS → (b : Bool) → eqb k at ≡ b → nat_abs (integer_at (set sums at r) k) ≤ (i + 1) * 10_000
-      nears k m n true t =
-          let e : k ≡ at = eqb-true k at t in
-          rw (e, same) (omega (arith, abs-sum (integer_at sums at) w, h.near at (omega arith) (omega arith), small.1))
-      nears k m n false t = rw (other k (eqb-false k at t)) (omega (arith, h.near k m n))
+    pub entry-below : at < VARIABLES * SUMS
+    entry-below = omega (arith, room, small.0)
 
-      grown : (f : ℕ → ℤ) → weigh (weights_in (set sums at r) j) f ≡ weigh (weights_in sums j) f +ℤ f x *ℤ w
-      grown f =
-          weights-grown sums (set sums at r) j x w f small.0
-          (ap (λ (k : ℕ). integer_at (set sums at r) k) (sym is) ∙ same ∙ ap (λ (k : ℕ). integer_at sums k +ℤ w) is)
-          (λ v n. other (VARIABLES * j + v) (λ s. n (omega arith)))
+    pub more-fits : SFits w64 more
+    more-fits = omega (
+      ints,
+      add (integer_at sums at) w,
+      abs (integer_at sums at),
+      abs w,
+      h.near at (omega arith) entry-below,
+      small.1,
+      h.within,
+      few,
+    )
+
+    pub put_next : Putting j count terms sums₀ (set sums at more) (i + 1)
+    put_next = record {
+      within = omega arith;
+      long = length-set sums at more ∙ h.long;
+      behind = λ k m n. other k (λ s. omega (arith, small.0)) ∙ h.behind k m n;
+      before = λ k m. other k (λ s. omega arith) ∙ h.before k m;
+      ranges = λ k m. other k (λ s. omega (arith, entry-below)) ∙ h.ranges k m;
+      near = λ k m n. nears k m n (eqb k at) refl;
+      left = λ f. left-next (h.left f) (λ ts. weigh (weights_in (set sums at more) j) f +ℤ weigh ts f) l (λ rest.
+          ap (λ (z : ℤ). z +ℤ weigh rest f) (grown f) ∙ add_assoc (weigh (weights_in sums j) f) (f x *ℤ w) (weigh rest f));
+    }
+      where
+        other : (k : ℕ) → (k ≡ at → ⊥) → integer_at (set sums at more) k ≡ integer_at sums k
+        other k n = get_or-set_other sums at k more (pos 0) n
+
+        same : integer_at (set sums at more) at ≡ more
+        same = get_or-set_same sums at more (pos 0) (omega (arith, h.long, entry-below))
+
+        nears : (k : ℕ) → VARIABLES * j ≤ k → k < VARIABLES * SUMS → (b : Bool) → eqb k at ≡ b → nat_abs (integer_at (set sums at more) k) ≤ (i + 1) * 10_000
+        nears k m n true t =
+            let e : k ≡ at = eqb-true k at t in
+            rw (e, same) (omega (arith, abs-sum (integer_at sums at) w, h.near at (omega arith) entry-below, small.1))
+        nears k m n false t = rw (other k (eqb-false k at t)) (omega (arith, h.near k m n))
+
+        grown : (f : ℕ → ℤ) → weigh (weights_in (set sums at more) j) f ≡ weigh (weights_in sums j) f +ℤ f x *ℤ w
+        grown f = weights-grown sums (set sums at more) j x w f small.0 same (λ v n. other (VARIABLES * j + v) (λ s. n (omega arith)))
 
   pub put-end : count ≤ term_room → WeightsSmall sums₀ → count ≤ i → TermsPut j (terms_is count terms) sums₀ sums
   put-end few small l = record {

@@ -4,7 +4,7 @@
 // count. What the row means is said in crate source_step, specs/Row.antt. It never takes a step, and decodes nothing of an action but its K.
 #![tactic(auto)]
 
-ghost use Rattle.std.specs.Prelude.{◌≡◌, ◌+◌, ◌≤◌, ◌<◌, length, set, replicate, pos, nat_abs, ◌+ℤ◌};
+ghost use Rattle.std.specs.Prelude.{◌≡◌, ◌+◌, ◌≤◌, ◌<◌, length, set, replicate, pos, nat_abs};
 ghost use Rattle.integers.specs.Relation.{relation_of};
 ghost use Rattle.commands.specs.Table.{letter_k};
 ghost use Rattle.model.specs.Limits.{source_limits};
@@ -28,37 +28,20 @@ pub const PLACES: usize = 33;
 // What no sum of values of a source task passes.
 const FARTHEST: i64 = 4_000_000_000;
 
-fn wide(x: u8) -> usize
-    ensures { result ≡ x }
-{
-    x as usize
-}
-
-// A weight with one more of the same variable.
-fn plus(z: i64, w: i64) -> i64
-    requires { (nat_abs z ≤ 1000000) × (nat_abs w ≤ 1000000) }
-    ensures { result ≡ z +ℤ w }
-{
-    z + w
-}
-
 // Into the row the weights of the first `count` terms, as sum j, of which it has none yet.
 fn put_terms(sums: &mut [i64; NUMBERS], j: usize, count: usize, terms: [Term; TERMS])
     requires { (j < sum_room) × («count» ≤ term_room) × TermSmall «count» terms × Blank j sums.old }
     ensures { TermsPut j (terms_is «count» terms) sums.old sums.new }
 {
-    let mut i: usize = 0;
-    while i < count {
+    for i in 0..count {
         let term = terms[i];
-        let weight = term.weight;
-        let at = VARIABLES * j + wide(term.variable);
-        sums[at] = plus(sums[at], weight);
-        i += 1;
+        let at = VARIABLES * j + usize::from(term.variable);
+        sums[at] += term.weight;
     }
 }
 
 // The least and the most sum of which a condition holds.
-#[derive(Drop)]
+#[derive(Clone, Copy)]
 struct Range {
     least: i64,
     most: i64,
@@ -98,13 +81,10 @@ fn put_sum(sums: &mut [i64; NUMBERS], j: usize, place: SumCondition)
     requires { (j < sum_room) × SumSmall place × Blank j sums.old }
     ensures { SumPut j (sum_is place) sums.old sums.new }
 {
-    let terms = place.terms;
-    put_terms(sums, j, place.term_count, terms);
+    put_terms(sums, j, place.term_count, place.terms);
     let range = range_of(place.relation, place.constant);
-    let least = range.least;
-    let most = range.most;
-    sums[SUM_LEAST + j] = least;
-    sums[SUM_MOST + j] = most;
+    sums[SUM_LEAST + j] = range.least;
+    sums[SUM_MOST + j] = range.most;
 }
 
 // Those of an action or of the goal, behind so many.
@@ -112,12 +92,8 @@ pub fn put_sums(sums: &mut [i64; NUMBERS], from: usize, own: SumConditions)
     requires { (from + own.count ≤ sum_room) × OwnSmall own × Blank from sums.old }
     ensures { SumsPut from own sums.old sums.new }
 {
-    let count = own.count;
-    let mut i: usize = 0;
-    while i < count {
-        let place = own.places[i];
-        put_sum(sums, from + i, place);
-        i += 1;
+    for i in 0..own.count {
+        put_sum(sums, from + i, own.places[i]);
     }
 }
 
@@ -135,10 +111,7 @@ pub fn action_sums(file: &[u8], places: &[usize; PLACES], count: usize, k: usize
     requires { PlacesOf file.now count places.now × (k < count) × (count ≤ ACTIONS) }
     ensures { SumsDecoded (sum_conditions_of (decode_action (action_part file.now k))) result }
 {
-    let start = places[k];
-    let next = k + 1;
-    let end = places[next];
-    file_actions::decode_sums(file_actions::part(file, start, end))
+    file_actions::decode_sums(file_actions::part(file, places[k], places[k + 1]))
 }
 
 // The K's of the goal, which stands at this place.
@@ -152,15 +125,7 @@ pub fn goal_sums(file: &[u8], place: usize) -> SumConditions
 fn has_sum(file: &[u8]) -> bool
     ensures { result ≡ has_byte letter_k file.now }
 {
-    let mut seen = false;
-    let mut i: usize = 0;
-    while i < file.len() {
-        if file[i] == b'K' {
-            seen = true;
-        }
-        i += 1;
-    }
-    seen
+    file.contains(&b'K')
 }
 
 // All conditions on sums of an accepted file with so many actions, into a row of zeros; how many they are. Where no byte of the file is a K's,
@@ -178,12 +143,10 @@ pub fn find_sums(
         return 0;
     }
     let mut total: usize = 0;
-    let mut k: usize = 0;
-    while k < count {
+    for k in 0..count {
         let own = action_sums(file, places, count, k);
         put_sums(sums, total, own);
         total += own.count;
-        k += 1;
     }
     let own = goal_sums(file, places[count]);
     put_sums(sums, total, own);

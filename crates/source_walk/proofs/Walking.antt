@@ -9,12 +9,15 @@ use mathlib.Core.List.{List, [], ◌∷◌}
 use lib.Dec.{ltb}
 use lib.ListN.{length}
 use borrow.Author.Tests.{lt-ltb, ltb-true}
-use Rattle.lists.specs.Answer.{Answer, given, refused}
+use Rattle.answers.specs.Answer.{Answer, given, refused}
 use Rattle.model.specs.Tasks.{SourceTask, State}
 use Rattle.model.specs.Steps.{step_source}
 use Rattle.model.specs.Expansion.{price_from}
 use Rattle.model.specs.Judging.{judge, prices_from}
-use Rattle.source_walk.specs.declared.Progress.TheVariants.{Through, Stopped}
+use Rattle.std.specs.Prelude.{Result, Ok, Err, ⊤}
+use Rattle.answers.specs.declared.Refusal.{Refusal}
+use Rattle.answers.specs.declared.Reason.{Reason}
+use Rattle.answers.specs.declared.Reason.TheVariants.{NoAction, DoesNotApply}
 use Rattle.source_step.specs.Step.{Kept}
 use Rattle.source_walk.specs.Answers.{on_progress}
 use Rattle.source_step.proofs.Trying.{kept_same, kept_then}
@@ -46,15 +49,15 @@ one_more true sum more passing i rest = go (ltb most sum) (ltb most (sum + more)
     go false true e f = refl
     go false false e f = refl
 
-not_through : (number place : ℕ) → Stopped number place ≡ Through → ⊥
-not_through number place e = let z : ◌≡◌ {A = ℕ} 0 1 = cc in absurd (omega arith)
+not_through : (r : Refusal) → ◌≡◌ {A = Result ⊤ Refusal} (Err r) (Ok tt) → ⊥
+not_through r e = cc
 
 module _ {t : SourceTask} {T : Table} (R : RowsOf t T) where
   count-is : length t.actions ≡ T.count
   count-is = sym R.ready.counted
 
-  abbrev stops : ℕ → ℕ → ℕ → ℕ → State → Walk
-  stops number i price passing x = record { progress = Stopped number i; price = price; passing = passing; state = x }
+  abbrev stops : Reason → ℕ → ℕ → ℕ → State → Walk
+  stops reason i price passing x = record { progress = Err (record { reason = reason; place = i }); price = price; passing = passing; state = x }
 
   module _ (priced : Bool) where
     -- ---- where it ends
@@ -69,7 +72,8 @@ module _ {t : SourceTask} {T : Table} (R : RowsOf t T) where
       where
         go : (a : Bool) → ltb k T.count ≡ a → (b : Bool) → takes_by T x k ≡ b
             → ((c d : ℕ) → Inside R (after_by T x k) → EndsIn (after_by T x k) (walk_from T priced (suc i) c d ks (after_by T x k)).state)
-            → (c d : ℕ) → EndsIn x (cond a (cond b (walk_from T priced (suc i) c d ks (after_by T x k)) (stops 12 i price passing x)) (stops 11 i price passing x)).state
+            → (c d : ℕ) → EndsIn x (cond a (cond b (walk_from T priced (suc i) c d ks (after_by T x k)) (stops DoesNotApply i price passing x))
+            (stops NoAction i price passing x)).state
         go true e true f ih c d =
             let l : k < T.count = ltb-true k T.count e in
             let (J, K) = ih c d (inside-after R x I k l f) in
@@ -92,13 +96,17 @@ module _ {t : SourceTask} {T : Table} (R : RowsOf t T) where
           (price + cost_by T priced x k) (first_passing passing price (price + cost_by T priced x k) i)
         where
           go : (a : Bool) → ltb k T.count ≡ a → (b : Bool) → takes_by T x k ≡ b
-              → ((c d : ℕ) → Inside R (after_by T x k) → Judges (suc i) (suc i + length ks) ks (after_by T x k) (walk_from T priced (suc i) c d ks (after_by T x k)))
-              → (c d : ℕ) → Judges i (i + suc (length ks)) (k ∷ ks) x (cond a (cond b (walk_from T priced (suc i) c d ks (after_by T x k)) (stops 12 i price passing x)) (stops 11 i price passing x))
+              → ((c d : ℕ) → Inside R (after_by T x k)
+              → Judges (suc i) (suc i + length ks) ks (after_by T x k) (walk_from T priced (suc i) c d ks (after_by T x k)))
+              → (c d : ℕ) → Judges i (i + suc (length ks)) (k ∷ ks) x
+              (cond a (cond b (walk_from T priced (suc i) c d ks (after_by T x k)) (stops DoesNotApply i price passing x))
+              (stops NoAction i price passing x))
           go true e true f ih c d =
               let l : k < T.count = ltb-true k T.count e in
               let w = walk_from T priced (suc i) c d ks (after_by T x k) in
               let there : suc i + length ks ≡ i + suc (length ks) = omega arith in
-              rw (count-is, e, step-agrees R x I k l, f) (ih c d (inside-after R x I k l f) ∙ ap (λ (j : ℕ). on_progress w.progress (judging j [] (declared_by T w.state))) there)
+              rw (count-is, e, step-agrees R x I k l, f)
+              (ih c d (inside-after R x I k l f) ∙ ap (λ (j : ℕ). on_progress w.progress (judging j [] (declared_by T w.state))) there)
           go true e false f ih c d = rw (count-is, e, step-agrees R x I k (ltb-true k T.count e), f) refl
           go false e b f ih c d = rw (count-is, e) refl
 
@@ -109,21 +117,26 @@ module _ {t : SourceTask} {T : Table} (R : RowsOf t T) where
   abbrev Prices : Bool → ℕ → ℕ → ℕ → List ℕ → State → Walk → Type 0
   Prices limited i sum passing p x w = from_sum limited sum passing (pricing limited i sum p (declared_by T x)) ≡ within_price limited w.price w.passing
 
-  pub walk-prices : (limited : Bool) (p : List ℕ) (i sum passing : ℕ) (x : State) → Inside R x → (walk_from T true i sum passing p x).progress ≡ Through
+  pub walk-prices : (limited : Bool) (p : List ℕ) (i sum passing : ℕ) (x : State) → Inside R x → (walk_from T true i sum passing p x).progress ≡ Ok tt
       → Prices limited i sum passing p x (walk_from T true i sum passing p x)
   unfolding prices_from walk_from
   walk-prices limited [] i sum passing x I h = refl
-  walk-prices limited (k ∷ ks) i sum passing x I h = go (ltb k T.count) refl (takes_by T x k) refl (λ c d J. walk-prices limited ks (suc i) c d (after_by T x k) J) h
+  walk-prices limited (k ∷ ks) i sum passing x I h =
+      go (ltb k T.count) refl (takes_by T x k) refl (λ c d J. walk-prices limited ks (suc i) c d (after_by T x k) J) h
     where
       go : (a : Bool) → ltb k T.count ≡ a → (b : Bool) → takes_by T x k ≡ b
-          → ((c d : ℕ) → Inside R (after_by T x k) → (walk_from T true (suc i) c d ks (after_by T x k)).progress ≡ Through
+          → ((c d : ℕ) → Inside R (after_by T x k) → (walk_from T true (suc i) c d ks (after_by T x k)).progress ≡ Ok tt
           → Prices limited (suc i) c d ks (after_by T x k) (walk_from T true (suc i) c d ks (after_by T x k)))
-          → (cond a (cond b (walk_from T true (suc i) (sum + price_by T x k) (first_passing passing sum (sum + price_by T x k) i) ks (after_by T x k)) (stops 12 i sum passing x)) (stops 11 i sum passing x)).progress ≡ Through
-          → Prices limited i sum passing (k ∷ ks) x (cond a (cond b (walk_from T true (suc i) (sum + price_by T x k) (first_passing passing sum (sum + price_by T x k) i) ks (after_by T x k)) (stops 12 i sum passing x)) (stops 11 i sum passing x))
+          → (cond a (cond b (walk_from T true (suc i) (sum + price_by T x k) (first_passing passing sum (sum + price_by T x k) i) ks (after_by T x k))
+          (stops DoesNotApply i sum passing x)) (stops NoAction i sum passing x)).progress ≡ Ok tt
+          → Prices limited i sum passing (k ∷ ks) x
+          (cond a (cond b (walk_from T true (suc i) (sum + price_by T x k) (first_passing passing sum (sum + price_by T x k) i) ks (after_by T x k))
+          (stops DoesNotApply i sum passing x)) (stops NoAction i sum passing x))
       go true e true f ih h =
           let l : k < T.count = ltb-true k T.count e in
           let y = after_by T x k in
           rw (price-agrees R x k l, step-agrees R x I k l, f)
-          (one_more limited sum (price_by T x k) passing i (pricing limited (suc i) (sum + price_by T x k) ks (declared_by T y)) ∙ ih (sum + price_by T x k) (first_passing passing sum (sum + price_by T x k) i) (inside-after R x I k l f) h)
-      go true e false f ih h = absurd (not_through 12 i h)
-      go false e b f ih h = absurd (not_through 11 i h)
+          (one_more limited sum (price_by T x k) passing i (pricing limited (suc i) (sum + price_by T x k) ks (declared_by T y))
+          ∙ ih (sum + price_by T x k) (first_passing passing sum (sum + price_by T x k) i) (inside-after R x I k l f) h)
+      go true e false f ih h = absurd (not_through _ h)
+      go false e b f ih h = absurd (not_through _ h)

@@ -1,7 +1,7 @@
 -- A file and a plan, both read, and the task made ready for its steps.
 -- Assumes nothing.
-use Rattle.std.specs.Prelude.{◌≡◌, ℕ, ◌≤◌, List, length, replicate, ℤ, pos}
-use Rattle.lists.specs.Answer.{Answer, given, refused, then}
+use Rattle.std.specs.Prelude.{◌≡◌, ℕ, ◌≤◌, List, length, replicate, ℤ, pos, Result, Ok, Err}
+use Rattle.answers.specs.Answer.{Answer, given, then}
 use Rattle.model.specs.Tasks.{SourceTask}
 use Rattle.model.specs.Steps.{source_start}
 use Rattle.model.specs.Decoding.{read_source}
@@ -10,8 +10,8 @@ use Rattle.source_step.specs.Sizes.{VARIABLES, MODES}
 use Rattle.source_step.specs.Step.{state, Kept}
 use Rattle.source_step.specs.Table.{Table, table, declared_by, RowsOf, Inside}
 use Rattle.source_walk.specs.declared.Task.{Task}
-use Rattle.source_walk.specs.declared.Opened.{Opened}
-use Rattle.source_walk.specs.declared.Opened.TheVariants.{Ready, Refused}
+use Rattle.answers.specs.Refusals.{refusal_is}
+use Rattle.answers.specs.declared.Refusal.{Refusal}
 
 -- what the two readers find: the file's refusals come first, then that of the plan's bytes
 abbrev pub opened : List ℕ → List ℕ → Answer (SourceTask × List ℕ)
@@ -37,7 +37,8 @@ pub record Started (file plan : List ℕ) (r : Task) (marks : List (List ℕ)) (
   pub kept : Kept r.variables r.modes (replicate VARIABLES (pos 0)) (replicate MODES 0) values modes
 
 -- the arrays before and after
-abbrev pub OpenedTo : List ℕ → List ℕ → List (List ℕ) → List (List ℤ) → List ℤ → List ℕ → Opened → List (List ℕ) → List (List ℤ) → List ℤ → List ℕ → Type 0
-OpenedTo file plan marks₀ numbers₀ values₀ modes₀ (Ready r) marks numbers values modes = Started file plan r marks numbers values modes
-OpenedTo file plan marks₀ numbers₀ values₀ modes₀ (Refused number place) marks numbers values modes =
-    (opened file plan ≡ refused number place) × (marks ≡ marks₀) × (numbers ≡ numbers₀) × (values ≡ values₀) × (modes ≡ modes₀)
+abbrev pub OpenedTo : List ℕ → List ℕ → List (List ℕ) → List (List ℤ) → List ℤ → List ℕ → Result Task Refusal → List (List ℕ) → List (List ℤ)
+    → List ℤ → List ℕ → Type 0
+OpenedTo file plan marks₀ numbers₀ values₀ modes₀ (Ok r) marks numbers values modes = Started file plan r marks numbers values modes
+OpenedTo file plan marks₀ numbers₀ values₀ modes₀ (Err r) marks numbers values modes =
+    (opened file plan ≡ refusal_is r) × (marks ≡ marks₀) × (numbers ≡ numbers₀) × (values ≡ values₀) × (modes ≡ modes₀)

@@ -5,7 +5,7 @@
 #![tactic(auto)]
 
 ghost use Rattle.std.specs.Prelude.{◌≡◌, ◌≤◌, length, replicate, pos};
-ghost use Rattle.lists.specs.Answer.{refused};
+ghost use Rattle.answers.specs.Refusals.{refusal_is, answer_of};
 ghost use Rattle.model.specs.Judging.{judge_source, price_plan};
 ghost use Rattle.model.specs.Plans.{plan_numbers};
 ghost use Rattle.model.specs.Limits.{source_limits};
@@ -15,15 +15,15 @@ ghost use Rattle.source_step.specs.Accepted.{AcceptedWith};
 ghost use Rattle.source_step.specs.Row.{Usable};
 ghost use Rattle.source_step.specs.Ready.{blank_marks, blank_numbers};
 ghost use Rattle.source_step.specs.Table.{table, Usables};
-ghost use Rattle.source_state.specs.Priced.{priced_is};
-ghost use Rattle.source_walk.specs.Answers.{last_verdict, judgement_is, judgement_of, with_state, priced_by};
+ghost use Rattle.source_walk.specs.Answers.{last_verdict, judgement_is, judgement_of, with_state};
 ghost use Rattle.source_walk.specs.Opening.{PlanOf, OpenedTo, Started};
 ghost use Rattle.source_walk.specs.Walk.{first_passing, walk_is, walk_from, judged_is, judge_by, stopped_at, TurnOf};
 ghost use Rattle.source_step.specs.Sizes.{VARIABLES, MODES};
 ghost use Rattle.plan_strokes.specs.Strokes.{STAGES};
 
-use plan_strokes::{STAGES, Turn};
-use source_state::{Priced, State};
+use answers::{Reason, Refusal};
+use plan_strokes::STAGES;
+use source_state::State;
 use source_step::{MARKS, MODES, NUMBERS, ROWS, SUMS_ROW, VARIABLES};
 
 // The most steps that an expansion has.
@@ -36,13 +36,6 @@ pub struct Task {
     pub variables: usize,
     pub modes: usize,
     pub steps: usize,
-}
-
-// A file and a plan that were read, or the refusal of the first that is refused.
-#[derive(Drop)]
-pub enum Opened {
-    Ready(Task),
-    Refused(u8, u64),
 }
 
 // What an accepted file with so many actions declares: its start, and its rows, into arrays and tables of zeros.
@@ -79,7 +72,7 @@ fn make_ready(
 }
 
 // Reads a file, then the bytes of a plan, and makes the task ready: its rows and its start, in the place of zeros. The arrays are as they
-// were where one of the two is refused.
+// were where one of the two is refused, which is then the answer.
 pub fn open(
     file: &[u8],
     plan: &[u8],
@@ -87,27 +80,23 @@ pub fn open(
     numbers: &mut [[i64; NUMBERS]],
     values: &mut [i64; VARIABLES],
     modes: &mut [u16; MODES],
-) -> Opened
+) -> Result<Task, Refusal>
     requires { (marks.old ≡ blank_marks) × (numbers.old ≡ blank_numbers) × (values.old ≡ replicate VARIABLES (pos 0)) × (modes.old ≡ replicate MODES 0) }
     ensures { OpenedTo file.now plan.now marks.old numbers.old values.old modes.old
         result marks.new numbers.new values.new modes.new }
 {
-    match file_check::check_source(file) {
-        file_check::Verdict::Rejected(number, place) => Opened::Refused(number, place),
-        file_check::Verdict::Accepted(_, _, actions) => match plan_bytes::count_steps(plan) {
-            plan_bytes::Counted::Refused(number, place) => Opened::Refused(number, place),
-            plan_bytes::Counted::Steps(steps) => Opened::Ready(make_ready(
-                file,
-                plan,
-                actions as usize,
-                steps,
-                marks,
-                numbers,
-                values,
-                modes,
-            )),
-        },
-    }
+    let accepted = file_check::check_source(file)?;
+    let steps = plan_bytes::count_steps(plan)?;
+    Ok(make_ready(
+        file,
+        plan,
+        accepted.actions as usize,
+        steps,
+        marks,
+        numbers,
+        values,
+        modes,
+    ))
 }
 
 // The first step with which a sum passes 1,000,000, once step i has brought it to `after`.
@@ -123,32 +112,27 @@ fn first_passing(passing: u64, sum: u64, after: u64, i: u64) -> u64
     passing
 }
 
-// How far a plan goes: through, or it is refused at a step.
-#[derive(Drop)]
-pub enum Progress {
-    Through,
-    Stopped(u8, u64),
-}
-
-// How far the steps of a plan go, the sum of their prices where they are priced, else 0, and the first step with which it passes 1,000,000.
-#[derive(Drop)]
+// Whether all steps of a plan apply, or which one is refused; the sum of their prices where they are priced, else 0, and the first step with
+// which it passes 1,000,000.
+#[derive(Clone, Copy)]
 struct Walked {
-    progress: Progress,
+    progress: Result<(), Refusal>,
     price: u64,
     passing: u64,
 }
 
-fn stopped(number: u8, place: u64, price: u64, passing: u64) -> Walked
-    ensures { stopped_at number place price passing result }
+// A walk that stops at a step.
+fn stopped(refusal: Refusal, price: u64, passing: u64) -> Walked
+    ensures { stopped_at refusal price passing result }
 {
     Walked {
-        progress: Progress::Stopped(number, place),
+        progress: Err(refusal),
         price,
         passing,
     }
 }
 
-// Takes a step in a lent state, priced or at no price.
+// Takes a step in a lent state, priced or at no price: its price, if it applies.
 fn take_turn(
     values: &mut [i64; VARIABLES],
     modes: &mut [u16; MODES],
@@ -159,7 +143,7 @@ fn take_turn(
     sums: &[i64; NUMBERS],
     priced: bool,
     times: &mut [i64; STAGES],
-) -> Turn
+) -> Option<u64>
     requires n_bound { (n ≤ VARIABLES) × (m ≤ MODES) × (length modes.old ≡ MODES) × (length times.old ≡ STAGES) }
     requires usable { Usable n marks.now numbers.now sums.now }
     ensures turn_of { TurnOf priced n m marks.now numbers.now sums.now values.old modes.old result
@@ -169,8 +153,7 @@ fn take_turn(
     if priced {
         return plan_strokes::take_priced(values, modes, n, m, marks, numbers, sums, times);
     }
-    let applied = source_step::take(values, modes, n, m, marks, numbers, sums);
-    Turn { applied, price: 0 }
+    source_step::take(values, modes, n, m, marks, numbers, sums).then_some(0)
 }
 
 // Takes the steps of a plan in a lent state, and sums their prices where they are asked for.
@@ -195,13 +178,12 @@ fn walk(
     let mut times = [0i64; STAGES];
     let mut price: u64 = 0;
     let mut passing: u64 = 0;
-    let mut i: usize = 0;
-    while i < steps {
-        let k = source_step::wide16(plan_bytes::action_of(plan, i));
+    for i in 0..steps {
+        let k = plan_bytes::action_of(plan, i) as usize;
         if count <= k {
-            return stopped(11, i as u64, price, passing);
+            return stopped(Reason::NoAction.at(i as u64), price, passing);
         }
-        let turn = take_turn(
+        let Some(cost) = take_turn(
             values,
             modes,
             n,
@@ -211,50 +193,38 @@ fn walk(
             &numbers[SUMS_ROW],
             priced,
             &mut times,
-        );
-        if !turn.applied {
-            return stopped(12, i as u64, price, passing);
-        }
+        ) else {
+            return stopped(Reason::DoesNotApply.at(i as u64), price, passing);
+        };
         let sum = price;
-        price = sum + turn.price;
+        price = sum + cost;
         passing = first_passing(passing, sum, price, i as u64);
-        i += 1;
     }
     Walked {
-        progress: Progress::Through,
+        progress: Ok(()),
         price,
         passing,
     }
 }
 
-// What judging a plan answers: the count of its steps, or a refusal.
-#[derive(Drop)]
-pub enum Verdict {
-    Valid(u64),
-    Refused(u8, u64),
-}
-
-// With it the sum of the prices of the steps that were taken, 0 where they are not priced, and the first step with which it passes 1,000,000.
-#[derive(Drop)]
+// What judging a plan answers, the count of its steps where it is valid; the sum of the prices of the steps that were taken, 0 where they are not
+// priced, and the first step with which it passes 1,000,000.
+#[derive(Clone, Copy)]
 pub struct Judged {
-    pub verdict: Verdict,
+    pub verdict: Result<u64, Refusal>,
     pub price: u64,
     pub passing: u64,
 }
 
 // The verdict on a plan of so many steps, from how far it goes and whether the goal is met then.
-fn last_verdict(progress: Progress, met: bool, steps: usize) -> Verdict
+fn last_verdict(progress: Result<(), Refusal>, met: bool, steps: usize) -> Result<u64, Refusal>
     ensures { result ≡ last_verdict progress met steps }
 {
-    match progress {
-        Progress::Stopped(number, place) => Verdict::Refused(number, place),
-        Progress::Through => {
-            if met {
-                return Verdict::Valid(steps as u64);
-            }
-            Verdict::Refused(13, steps as u64)
-        }
+    progress?;
+    if met {
+        return Ok(steps as u64);
     }
+    Err(Reason::GoalNotMet.at(steps as u64))
 }
 
 // Judges a plan of so many steps from a lent state on, by the rows of a task's actions and of its goal: per step 11 and 12, then 13. The state
@@ -289,41 +259,44 @@ pub fn judge_steps(
         &numbers[count],
         &numbers[SUMS_ROW],
     );
-    let progress = walked.progress;
     Judged {
-        verdict: last_verdict(progress, met, steps),
+        verdict: last_verdict(walked.progress, met, steps),
         price: walked.price,
         passing: walked.passing,
     }
 }
 
-// What judging a plan answers, and the end state in front of zeros; on a refusal, zeros.
-#[derive(Drop)]
+// What judging a plan answers, the count of its steps where it is valid, and the end state in front of zeros; on a refusal, zeros.
+#[derive(Clone, Copy)]
 pub struct Judgement {
-    pub verdict: Verdict,
+    pub verdict: Result<u64, Refusal>,
     pub state: State,
 }
 
 // The judgement of a plan that is refused.
-fn refuse(number: u8, place: u64) -> Judgement
-    ensures { judgement_is result ≡ judgement_of (refused number place) }
+fn refuse(refusal: Refusal) -> Judgement
+    ensures { judgement_is result ≡ judgement_of (refusal_is refusal) }
 {
     let values = [0i64; VARIABLES];
     let modes = [0u16; MODES];
     Judgement {
-        verdict: Verdict::Refused(number, place),
+        verdict: Err(refusal),
         state: State { values, modes },
     }
 }
 
 // The judgement of a plan with a verdict, over the arrays at its end.
-fn conclude(verdict: Verdict, values: [i64; VARIABLES], modes: [u16; MODES]) -> Judgement
+fn conclude(
+    verdict: Result<u64, Refusal>,
+    values: [i64; VARIABLES],
+    modes: [u16; MODES],
+) -> Judgement
     ensures { judgement_is result ≡ with_state verdict (state values modes) }
 {
     match verdict {
-        Verdict::Refused(number, place) => refuse(number, place),
-        Verdict::Valid(steps) => Judgement {
-            verdict: Verdict::Valid(steps),
+        Err(refusal) => refuse(refusal),
+        Ok(steps) => Judgement {
+            verdict: Ok(steps),
             state: State { values, modes },
         },
     }
@@ -345,8 +318,8 @@ pub fn judge(file: &[u8], plan: &[u8]) -> Judgement
         &mut values,
         &mut modes,
     ) {
-        Opened::Refused(number, place) => refuse(number, place),
-        Opened::Ready(t) => {
+        Err(refusal) => refuse(refusal),
+        Ok(t) => {
             let judged = judge_steps(
                 plan,
                 t.steps,
@@ -359,54 +332,39 @@ pub fn judge(file: &[u8], plan: &[u8]) -> Judgement
                 &mut values,
                 &mut modes,
             );
-            let verdict = judged.verdict;
-            conclude(verdict, values, modes)
+            conclude(judged.verdict, values, modes)
         }
     }
 }
 
-// The price of a plan with a verdict.
-fn price_with(verdict: Verdict, price: u64) -> Priced
-    ensures { priced_is result ≡ priced_by verdict price }
-{
-    match verdict {
-        Verdict::Refused(number, place) => Priced::Refused(number, place),
-        Verdict::Valid(_) => Priced::Price(price),
-    }
-}
-
 // The price of a plan, from the file's start on. It is refused as by judging it.
-pub fn price_plan(file: &[u8], plan: &[u8]) -> Priced
-    ensures { priced_is result ≡ price_plan file.now plan.now }
+pub fn price_plan(file: &[u8], plan: &[u8]) -> Result<u64, Refusal>
+    ensures { answer_of result ≡ price_plan file.now plan.now }
 {
     let mut marks = [[0u16; MARKS]; ROWS];
     let mut numbers = [[0i64; NUMBERS]; ROWS];
     let mut values = [0i64; VARIABLES];
     let mut modes = [0u16; MODES];
-    match open(
+    let t = open(
         file,
         plan,
         &mut marks,
         &mut numbers,
         &mut values,
         &mut modes,
-    ) {
-        Opened::Refused(number, place) => Priced::Refused(number, place),
-        Opened::Ready(t) => {
-            let judged = judge_steps(
-                plan,
-                t.steps,
-                t.actions,
-                &marks,
-                &numbers,
-                t.variables,
-                t.modes,
-                true,
-                &mut values,
-                &mut modes,
-            );
-            let verdict = judged.verdict;
-            price_with(verdict, judged.price)
-        }
-    }
+    )?;
+    let judged = judge_steps(
+        plan,
+        t.steps,
+        t.actions,
+        &marks,
+        &numbers,
+        t.variables,
+        t.modes,
+        true,
+        &mut values,
+        &mut modes,
+    );
+    judged.verdict?;
+    Ok(judged.price)
 }

@@ -1,75 +1,62 @@
 // Makes the call of each entry and prints what it answered; calls that write are made in `outputs`.
 use crate::{lines, outputs, states};
+use answers::Refusal;
+use file_check::Accepted;
 use std::io;
+use std::ops::Range;
 
 // What reading a file answered: its counts.
-fn tell_counts(rt: &impl Print, verdict: file_check::Verdict) -> io::Result<()> {
-    match verdict {
-        file_check::Verdict::Rejected(number, place) => lines::refusal(rt, number, place),
-        file_check::Verdict::Accepted(variables, modes, actions) => {
-            lines::natural(rt, variables as u64)?;
-            lines::natural(rt, modes as u64)?;
-            lines::natural(rt, actions as u64)
+fn tell_counts(rt: &impl Print, checked: Result<Accepted, Refusal>) -> io::Result<()> {
+    match checked {
+        Err(refusal) => lines::refusal(rt, refusal),
+        Ok(accepted) => {
+            print!(rt;
+                " {} {} {}",
+                accepted.variables, accepted.modes, accepted.actions
+            )
         }
     }
 }
 
 // What finding an action answered: the start and end of its bytes.
-fn tell_place(rt: &impl Print, placed: file_actions::Placed) -> io::Result<()> {
+fn tell_place(rt: &impl Print, placed: Result<Range<usize>, Refusal>) -> io::Result<()> {
     match placed {
-        file_actions::Placed::Refused(number, place) => lines::refusal(rt, number, place),
-        file_actions::Placed::At(start, end) => {
-            lines::natural(rt, start as u64)?;
-            lines::natural(rt, end as u64)
-        }
+        Err(refusal) => lines::refusal(rt, refusal),
+        Ok(range) => print!(rt; " {} {}", range.start, range.end),
     }
 }
 
-fn tell_price(rt: &impl Print, priced: source_state::Priced) -> io::Result<()> {
+fn tell_price(rt: &impl Print, priced: Result<u64, Refusal>) -> io::Result<()> {
     match priced {
-        source_state::Priced::Refused(number, place) => lines::refusal(rt, number, place),
-        source_state::Priced::Price(price) => lines::natural(rt, price),
+        Err(refusal) => lines::refusal(rt, refusal),
+        Ok(price) => lines::natural(rt, price),
     }
 }
 
-fn tell_values(rt: &impl Print, values: [i64; 8]) -> io::Result<()> {
-    lines::integers(rt, &values)
-}
-
-fn tell_source_state(rt: &impl Print, state: source_state::State) -> io::Result<()> {
-    let values = state.values;
-    let modes = state.modes;
-    lines::integers(rt, &values)?;
-    lines::modes(rt, &modes)
-}
-
-fn tell_restricted_state(rt: &impl Print, state: restricted_state::State) -> io::Result<()> {
-    let values = state.values;
-    let modes = state.modes;
-    lines::integers(rt, &values)?;
-    lines::modes(rt, &modes)
+// A state: its values, then its modes.
+fn tell_state(rt: &impl Print, values: &[i64], modes: &[u16]) -> io::Result<()> {
+    lines::numbers(rt, values)?;
+    lines::numbers(rt, modes)
 }
 
 fn judge_source(rt: &impl Print, task: &[u8], plan: &[u8]) -> io::Result<()> {
     let judgement = source_walk::judge(task, plan);
-    let verdict = judgement.verdict;
-    match verdict {
-        source_walk::Verdict::Refused(number, place) => lines::refusal(rt, number, place),
-        source_walk::Verdict::Valid(steps) => {
+    match judgement.verdict {
+        Err(refusal) => lines::refusal(rt, refusal),
+        Ok(steps) => {
             lines::natural(rt, steps)?;
-            tell_source_state(rt, judgement.state)
+            tell_state(rt, &judgement.state.values, &judgement.state.modes)
         }
     }
 }
 
 fn judge_restricted(rt: &impl Print, task: &[u8], plan: &[u8]) -> io::Result<()> {
     let judgement = restricted_judge::judge(task, plan);
-    let verdict = judgement.verdict;
-    match verdict {
-        restricted_judge::Verdict::Refused(number, place) => lines::refusal(rt, number, place),
-        restricted_judge::Verdict::Valid(steps) => {
+    match judgement.verdict {
+        Err(refusal) => lines::refusal(rt, refusal),
+        Ok(steps) => {
             lines::natural(rt, steps)?;
-            tell_restricted_state(rt, judgement.state)
+            tell_state(rt, &judgement.state.values, &judgement.state.modes)
         }
     }
 }
@@ -77,22 +64,18 @@ fn judge_restricted(rt: &impl Print, task: &[u8], plan: &[u8]) -> io::Result<()>
 // The state stands in the line of a refusal too: it comes back as it was handed in.
 fn step_source(rt: &impl Print, task: &[u8], record: &[u8], k: usize) -> io::Result<()> {
     let answer = source_state::step_alone(task, states::source(record), k);
-    let verdict = answer.verdict;
-    match verdict {
-        source_state::StepVerdict::Refused(number, place) => lines::refusal(rt, number, place)?,
-        source_state::StepVerdict::Applied => {}
+    if let Err(refusal) = answer.verdict {
+        lines::refusal(rt, refusal)?;
     }
-    tell_source_state(rt, answer.state)
+    tell_state(rt, &answer.state.values, &answer.state.modes)
 }
 
 fn step_restricted(rt: &impl Print, task: &[u8], record: &[u8], k: usize) -> io::Result<()> {
     let answer = restricted_state::step_alone(task, states::restricted(record), k);
-    let verdict = answer.verdict;
-    match verdict {
-        restricted_state::StepVerdict::Refused(number, place) => lines::refusal(rt, number, place)?,
-        restricted_state::StepVerdict::Applied => {}
+    if let Err(refusal) = answer.verdict {
+        lines::refusal(rt, refusal)?;
     }
-    tell_restricted_state(rt, answer.state)
+    tell_state(rt, &answer.state.values, &answer.state.modes)
 }
 
 // The start, the lower bounds, the upper bounds and the sizes. The arrays hold a state before the call, and stand in the line of a refusal too.
@@ -114,15 +97,9 @@ fn start_source(rt: &impl Print, task: &[u8], record: &[u8]) -> io::Result<()> {
         &mut place,
     );
     lines::answer(rt, number, place)?;
-    tell_source_state(rt, source_state::State { values, modes })?;
-    tell_values(rt, lower)?;
-    tell_source_state(
-        rt,
-        source_state::State {
-            values: upper,
-            modes: sizes,
-        },
-    )
+    tell_state(rt, &values, &modes)?;
+    lines::numbers(rt, &lower)?;
+    tell_state(rt, &upper, &sizes)
 }
 
 fn start_restricted(rt: &impl Print, task: &[u8], record: &[u8]) -> io::Result<()> {
@@ -132,7 +109,7 @@ fn start_restricted(rt: &impl Print, task: &[u8], record: &[u8]) -> io::Result<(
     let mut place: u64 = 0;
     let number = ruphenqo::ruphenqo_restricted_start(task, &mut values, &mut modes, &mut place);
     lines::answer(rt, number, place)?;
-    tell_restricted_state(rt, restricted_state::State { values, modes })
+    tell_state(rt, &values, &modes)
 }
 
 // The entries that read a file.

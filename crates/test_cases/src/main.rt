@@ -7,7 +7,7 @@ mod lines;
 mod outputs;
 mod states;
 
-ghost use Rattle.std.specs.Prelude.{◌≡◌, ◌≤◌, IfOk, length};
+ghost use Rattle.std.specs.Prelude.{◌≤◌, IfOk, length};
 
 use std::fs::File;
 use std::io;
@@ -15,6 +15,9 @@ use std::io::Read;
 
 // The bytes in front of a record's name.
 const HEAD: usize = 16;
+
+// Room for the file.
+const ROOM: usize = 300_000;
 
 // Runs the record at the start of s, and answers how many bytes it has: 0 where no whole record is left.
 fn run_record(rt: &impl Print, s: &[u8], number: u64) -> io::Result<usize>
@@ -60,13 +63,6 @@ fn run_all(rt: &impl Print, s: &[u8]) -> io::Result<()> {
     Ok(())
 }
 
-// Zeros for the file. The contract gives only the length, so that no proof looks into the array.
-fn room() -> [u8; 300000]
-    ensures { 300000 ≡ length result }
-{
-    [0; 300000]
-}
-
 // Reads until the buffer is full or the input ends, and answers how many bytes stand at the front of the buffer.
 fn read_full(file: &mut impl Read, buffer: &mut [u8]) -> io::Result<usize>
     ensures { IfOk result (λ size. size ≤ length buffer.new) }
@@ -84,7 +80,7 @@ fn read_full(file: &mut impl Read, buffer: &mut [u8]) -> io::Result<usize>
 
 fn main(rt: HostRuntime) -> io::Result<()> {
     let mut file = File::open(&rt, "cases.bin")?;
-    let mut buffer = room();
+    let mut buffer = test_lent::room::<ROOM>();
     let size = read_full(&mut file, &mut buffer)?;
     run_all(&rt, &buffer[..size])
 }

@@ -37,44 +37,29 @@ fn mode_at(record: &[u8], place: usize) -> u16 {
     (integers::number_at(record, place, 2) % 65536) as u16
 }
 
-// Fills the values from the start of the record.
-fn read_values(record: &[u8], values: &mut [i64]) {
-    let mut place = 0;
-    let mut i = 0;
-    while i < values.len() {
-        values[i] = value_at(record, place);
-        place += 8;
-        i += 1;
-    }
-}
-
-// Fills the modes from a place of the record on.
-fn read_modes(record: &[u8], start: usize, modes: &mut [u16])
-    requires { start ≤ 512 }
+// The values from the start of the record, and behind them the modes.
+fn arrays<const N: usize, const M: usize>(record: &[u8]) -> ([i64; N], [u16; M])
+    requires { (N ≤ 64) × (M ≤ 8) }
 {
-    let mut place = start;
-    let mut i = 0;
-    while i < modes.len() {
-        modes[i] = mode_at(record, place);
-        place += 2;
-        i += 1;
+    let mut values = [0; N];
+    let mut modes = [0; M];
+    for (i, value) in values.iter_mut().enumerate() {
+        *value = value_at(record, 8 * i);
     }
+    for (i, mode) in modes.iter_mut().enumerate() {
+        *mode = mode_at(record, 8 * N + 2 * i);
+    }
+    (values, modes)
 }
 
 // The state of a step in a source task.
 pub(crate) fn source(record: &[u8]) -> source_state::State {
-    let mut values = [0i64; 8];
-    let mut modes = [0u16; 4];
-    read_values(record, &mut values);
-    read_modes(record, 64, &mut modes);
+    let (values, modes) = arrays(record);
     source_state::State { values, modes }
 }
 
 // The same in a restricted task.
 pub(crate) fn restricted(record: &[u8]) -> restricted_state::State {
-    let mut values = [0i64; 64];
-    let mut modes = [0u16; 8];
-    read_values(record, &mut values);
-    read_modes(record, 512, &mut modes);
+    let (values, modes) = arrays(record);
     restricted_state::State { values, modes }
 }

@@ -1,7 +1,6 @@
 -- `file_actions::take_addition` meets its contract: a + is pushed behind the others, where there is room. Assumes nothing.
 use mathlib.Core.Path.{sym, ◌∙◌}
 use mathlib.Core.Bool.{true}
-use native.Mathlib.Omega.{arith}
 use lib.Dec.{lit<}
 use mir.Facts.{to_z-of_z}
 use mir.Syntax.{w64}
@@ -13,17 +12,18 @@ use Rattle.file_actions.proofs.take_addition.Goals as goal
 
 pub returns-in_default : goal.returns-in_default
 returns-in_default c =
-    cut-passed true _ _ _ (cut_short c.args.rest.now 7 (lit< tt) c.requires.0 c.requires.1 c.read_add.result c.read_add.ensures c.in_default.in_default-own.keys2)
+    cut-passed true _ _ _ (cut_short c.args.rest.now 7 (lit< tt) c.requires.0 c.requires.1
+    c.read_add.result c.read_add.ensures c.in_default.in_default-own.keys2)
 
-pub returns-then-wide-lt-ADDITIONS : goal.returns-then-wide-lt-ADDITIONS
-returns-then-wide-lt-ADDITIONS c =
+pub returns-then-marks-lt-ADDITIONS : goal.returns-then-marks-lt-ADDITIONS
+returns-then-marks-lt-ADDITIONS c =
     let z : SFits w64 c.signed-amount.result = search rules in
     rw (sym c.read_add.ensures ∙ c.in-Add.is)
     (addition-taken _ _ c.in-Add.variable _
-    (omega (arith, c.wide.ensures, c.if-wide-lt-ADDITIONS.true))
+    c.if-marks-lt-ADDITIONS.true
     (rw (← c.signed-amount.ensures) (rw (to_z-of_z z) at c.push_addition.ensures)))
 
-pub returns-else-wide-lt-ADDITIONS : goal.returns-else-wide-lt-ADDITIONS
-returns-else-wide-lt-ADDITIONS c =
+pub returns-else-marks-lt-ADDITIONS : goal.returns-else-marks-lt-ADDITIONS
+returns-else-marks-lt-ADDITIONS c =
     rw (sym c.read_add.ensures ∙ c.in-Add.is)
-    (addition-dropped _ _ c.in-Add.variable _ (omega (arith, c.wide.ensures, c.if-wide-lt-ADDITIONS.false)))
+    (addition-dropped _ _ c.in-Add.variable _ c.if-marks-lt-ADDITIONS.false)

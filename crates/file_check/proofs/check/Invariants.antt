@@ -8,7 +8,7 @@ use Rattle.file_check.proofs.Runs.{Runs}
 use Rattle.file_check.proofs.check.Given as goal
 
 abbrev pub invariant-loop-at : goal.invariant-loop-at
-invariant-loop-at l = Runs (limits_of l.l) l.file (state_of l.p l.sizes l.modes_set l.targets_seen l.terms_seen) l.at
+invariant-loop-at l = Runs (limits_of l.l) l.file (state_of l.reading) l.at
 
 abbrev pub decreases-loop-at : goal.decreases-loop-at
 decreases-loop-at l = length l.file - l.at

@@ -1,15 +1,13 @@
--- `file_declarations::read` meets its contract: what the commands passed so far declare is stored, and those passed and those from here on are the declarations. Assumes nothing.
-use mathlib.Core.Path.{◌≡◌, refl, sym, ap, ◌∙◌}
+-- `file_declarations::read` meets its contract: what the commands passed so far declare is stored, and those passed and those
+-- from here on are the declarations.
+-- Assumes nothing.
+use mathlib.Core.Path.{sym, ap, ◌∙◌}
 use mathlib.Core.Logic.{◌⊎◌, inl, inr}
-use mathlib.Core.Bool.{Bool, true, false, not, false≢true}
+use mathlib.Core.Bool.{false≢true}
 use Rattle.commands.specs.Table.{size_of_byte}
-use Rattle.file_declarations.proofs.Walk.{remains, walk_begins, walk_ends, walk-stops, walk-mode, walk-variable, walk_start, mode-room, variable-room, start-room, lengths}
+use Rattle.file_declarations.proofs.Walk.{remains, walk_begins, walk_ends, walk-stops, walk-mode, walk-variable, walk_start}
+use Rattle.file_declarations.proofs.Walk.{mode-room, variable-room, start-room}
 use Rattle.file_declarations.proofs.read.Goals as goal
-
--- `!restricted`
-bounded : (restricted : Bool) → not restricted ≡ true → restricted ≡ false
-bounded false e = refl
-bounded true e = absurd (false≢true e)
 
 neither : {A B : Type 0} → (A → ⊥) → (B → ⊥) → A ⊎ B → ⊥
 neither f g (inl a) = f a
@@ -25,16 +23,19 @@ put_mode-modes-requires c =
 
 pub loop-at-preserved-then-byte-eq77 : goal.loop-at-preserved-then-byte-eq77
 loop-at-preserved-then-byte-eq77 c =
-    walk-mode c.loop-at.invariant c.loop-at-test.true (c.size_of-at.ensures.0 ∙ ap size_of_byte (sym c.if-byte-eq77.true)) c.size_of-at.ensures.1 c.if-byte-eq77.true c.put_mode-modes.ensures
+    let size = c.size_of-at.ensures.0 ∙ ap size_of_byte (sym c.if-byte-eq77.true) in
+    walk-mode c.loop-at.invariant c.loop-at-test.true size c.size_of-at.ensures.1 c.if-byte-eq77.true c.put_mode-modes.ensures
 
 pub put_variable-variables-requires : goal.put_variable-variables-requires
 put_variable-variables-requires c =
-    let r = variable-room c.loop-at.invariant (bounded c.args.restricted (ap not c.if-not-restricted.true)) c.requires.0 in
+    let r = variable-room c.loop-at.invariant c.if-not-restricted.true c.requires.0 in
     (remains c.args.file.now c.loop-at.at c.loop-at-test.true, c.if-byte-eq86.true, r.0, r.1, r.2)
 
 pub loop-at-preserved-then-not-restricted : goal.loop-at-preserved-then-not-restricted
 loop-at-preserved-then-not-restricted c =
-    walk-variable c.loop-at.invariant c.loop-at-test.true (c.size_of-at-then-not-restricted.ensures.0 ∙ ap size_of_byte (sym c.if-byte-eq86.true)) c.size_of-at-then-not-restricted.ensures.1 (bounded c.args.restricted (ap not c.if-not-restricted.true)) c.if-byte-eq86.true c.put_variable-variables.ensures
+    let size = c.size_of-at-then-not-restricted.ensures.0 ∙ ap size_of_byte (sym c.if-byte-eq86.true) in
+    walk-variable c.loop-at.invariant c.loop-at-test.true size c.size_of-at-then-not-restricted.ensures.1 c.if-not-restricted.true
+    c.if-byte-eq86.true c.put_variable-variables.ensures
 
 pub put_start-variables-requires : goal.put_start-variables-requires
 put_start-variables-requires c =
@@ -42,40 +43,12 @@ put_start-variables-requires c =
 
 pub loop-at-preserved : goal.loop-at-preserved
 loop-at-preserved c =
-    walk_start c.loop-at.invariant c.loop-at-test.true (c.size_of-at-then-restricted.ensures.0 ∙ ap size_of_byte (sym c.if-byte-eq85.true)) c.size_of-at-then-restricted.ensures.1 c.if-restricted.true c.if-byte-eq85.true c.put_start-variables.ensures
-
-pub shape_of-lower-after-loop-at : goal.shape_of-lower-after-loop-at
-shape_of-lower-after-loop-at c = (lengths c.loop-at.invariant).0
-
-pub shape_of-upper-after-loop-at : goal.shape_of-upper-after-loop-at
-shape_of-upper-after-loop-at c = (lengths c.loop-at.invariant).1
-
-pub shape_of-start-after-loop-at : goal.shape_of-start-after-loop-at
-shape_of-start-after-loop-at c = (lengths c.loop-at.invariant).2
-
-pub shape_of-sizes-after-loop-at : goal.shape_of-sizes-after-loop-at
-shape_of-sizes-after-loop-at c = (lengths c.loop-at.invariant).3
-
-pub shape_of-values-after-loop-at : goal.shape_of-values-after-loop-at
-shape_of-values-after-loop-at c = (lengths c.loop-at.invariant).4
+    let size = c.size_of-at-then-restricted.ensures.0 ∙ ap size_of_byte (sym c.if-byte-eq85.true) in
+    walk_start c.loop-at.invariant c.loop-at-test.true size c.size_of-at-then-restricted.ensures.1 c.if-restricted.true c.if-byte-eq85.true
+    c.put_start-variables.ensures
 
 pub returns-after-loop-at : goal.returns-after-loop-at
 returns-after-loop-at c = walk_ends c.loop-at.invariant c.loop-at-test.false
-
-pub shape_of-lower-else-byte-eq85 : goal.shape_of-lower-else-byte-eq85
-shape_of-lower-else-byte-eq85 c = (lengths c.loop-at.invariant).0
-
-pub shape_of-upper-else-byte-eq85 : goal.shape_of-upper-else-byte-eq85
-shape_of-upper-else-byte-eq85 c = (lengths c.loop-at.invariant).1
-
-pub shape_of-start-else-byte-eq85 : goal.shape_of-start-else-byte-eq85
-shape_of-start-else-byte-eq85 c = (lengths c.loop-at.invariant).2
-
-pub shape_of-sizes-else-byte-eq85 : goal.shape_of-sizes-else-byte-eq85
-shape_of-sizes-else-byte-eq85 c = (lengths c.loop-at.invariant).3
-
-pub shape_of-values-else-byte-eq85 : goal.shape_of-values-else-byte-eq85
-shape_of-values-else-byte-eq85 c = (lengths c.loop-at.invariant).4
 
 pub returns-else-byte-eq85 : goal.returns-else-byte-eq85
 returns-else-byte-eq85 c =

@@ -1,12 +1,7 @@
--- `integers::number_at` meets its contract. The loop's invariant: the number is that of the bytes from i on, and below 256 to their
--- count. Assumes nothing.
-use mathlib.Core.Path.{◌≡◌}
-use Prim.Native.Nat.{◌+◌, ◌-◌, ◌^◌, ◌≤◌, ◌<◌}
-use Rattle.integers.specs.Numbers.{number_at}
+-- `integers::number_at` meets its contract: the bytes are read from the last on. Assumes nothing.
+use lib.ListN.{take, drop}
+use Rattle.integers.proofs.Numbers.{Backward}
 use Rattle.integers.proofs.number_at.Given as goal
 
-abbrev pub invariant-loop-i : goal.invariant-loop-i
-invariant-loop-i l = (l.i ≤ l.width) × (l.number ≡ number_at l.s (l.place + l.i) (l.width - l.i)) × (l.number < 256 ^ (l.width - l.i))
-
-abbrev pub decreases-loop-i : goal.decreases-loop-i
-decreases-loop-i l = l.i
+abbrev pub invariant-loop-byte : goal.invariant-loop-byte
+invariant-loop-byte l = Backward (take l.width (drop l.place l.s)) l.byte-iterator.iter.rest.now l.number

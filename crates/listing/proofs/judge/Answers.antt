@@ -4,12 +4,12 @@ use Rattle.source_walk.specs.Walk.{Judging}
 use Rattle.listing.specs.Parts.{rest_by}
 use Rattle.listing.proofs.judge.Goals as goal
 
-pub returns-in-Refused : goal.returns-in-Refused
-returns-in-Refused c =
+pub returns-in-Err : goal.returns-in-Err
+returns-in-Err c =
     let t = c.args.task in
-    rw c.in-Refused.is at (ap (λ (judging : Judging). rest_by t judging.verdict) c.judge_steps-judged.ensures)
+    rw c.in-Err.is at (ap (λ (judging : Judging). rest_by t judging.verdict) c.judge_steps-judged.ensures)
 
-pub returns-in-Valid : goal.returns-in-Valid
-returns-in-Valid c =
+pub returns-in-Ok : goal.returns-in-Ok
+returns-in-Ok c =
     let t = c.args.task in
-    rw c.in-Valid.is at (ap (λ (judging : Judging). rest_by t judging.verdict) c.judge_steps-judged.ensures)
+    rw c.in-Ok.is at (ap (λ (judging : Judging). rest_by t judging.verdict) c.judge_steps-judged.ensures)

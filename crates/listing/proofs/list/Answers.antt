@@ -7,11 +7,12 @@ use Rattle.listing.proofs.list.Goals as goal
 
 pub returns-then-out-need : goal.returns-then-out-need
 returns-then-out-need c =
-    listing-short c.args.out.now c.begin-rest.ensures c.needed-need.ensures c.if-out-need.true
+    rw c.at.ensures (listing-short c.args.out.now c.begin-rest.ensures c.needed-need.ensures c.if-out-need.true)
 
 pub put_rest-part-requires : goal.put_rest-part-requires
 put_rest-part-requires c =
-    let room = listing-room c.args.out.now c.begin-rest.ensures c.needed-need.ensures c.if-out-need.false in record { most_nonzero = (omega arith, c.begin-rest.ensures.pending); room_for = for_these room }
+    let room = listing-room c.args.out.now c.begin-rest.ensures c.needed-need.ensures c.if-out-need.false in
+    record { most_nonzero = (omega arith, c.begin-rest.ensures.pending); room_for = for_these room }
 
 pub returns : goal.returns
 returns c =

@@ -1,60 +1,44 @@
--- `lists::fill_run` meets its contract. The loop's invariant: what is left to write is a run of `left`. Assumes nothing.
-use mathlib.Core.Path.{refl, sym, ap, ◌∙◌}
-use mathlib.Core.List.{[], ◌∷◌, ◌++◌, append-nil}
-use Prim.Native.Nat.{ℕ, ◌+◌, ◌-◌, ◌≤◌}
+-- `lists::fill_run` meets its contract: what is left to write is a shorter run. Assumes nothing.
+use mathlib.Core.Path.{◌≡◌, refl, sym, ap, ◌∙◌}
+use mathlib.Core.List.{[], ◌++◌, append-nil}
+use Prim.Native.Nat.{◌+◌, ◌*◌, ◌-◌, ◌≤◌}
 use native.Mathlib.Omega.{arith}
-use lib.ListN.{length, replicate, length-set}
+use borrow.Author.Rules.{rules}
+use lib.ListN.{length, replicate}
 use Rattle.integers.specs.Numbers.{bytes_of}
 use Rattle.lists.specs.Numbers.{numbers_bytes}
 use Rattle.lists.proofs.Numbers.{length_run, run_more, run_none}
-use Rattle.lists.proofs.Writing.{Left, start, step, done, recast, room, long, room-some, room-wide, wrote_none}
+use Rattle.lists.proofs.Writing.{start, step, done, recast, room-some, room-wide, wrote_none, wrote_part}
 use Rattle.lists.proofs.fill_run.Goals as goal
-use Rattle.lists.proofs.fill_run.Lts as lts
-use Rattle.lists.proofs.fill_run.Reads as reads
 
-module _ (c : lts.In-loop reads.Pre reads.Post goal.the-invariant-loop-left goal.the-decreases-loop-left) where
-  abbrev number : ℕ
-  number = c.args.number
+pub overflow_mul-end : goal.overflow_mul-end
+overflow_mul-end c = omega (arith, room-wide c.requires (omega arith), length_run 2 c.args.count c.args.number)
 
-  -- a turn has the number to write, and then a shorter run
-  more : Left c.args.out.now c.args.at (numbers_bytes 2 (replicate c.args.count number))
-      c.loop-left.out c.loop-left.place (bytes_of 2 number ∷ numbers_bytes 2 (replicate (c.loop-left.left - 1) number) ∷ [])
-  more = recast (ap (λ z. z ++ []) (run_more 2 c.loop-left.left number (omega arith))) c.loop-left.invariant
+pub overflow_add-end : goal.overflow_add-end
+overflow_add-end c = omega (arith, room-wide c.requires (omega arith), length_run 2 c.args.count c.args.number)
 
-  fits : c.loop-left.place + 2 ≤ length c.loop-left.out
-  fits = room-some (room c.requires more) (omega (arith, long more))
+pub returns-then-is_empty : goal.returns-then-is_empty
+returns-then-is_empty c = wrote_none (search rules) (omega (arith, length_run 2 c.args.count c.args.number))
 
-pub overflow_mul-result : goal.overflow_mul-result
-overflow_mul-result c = omega (arith, room-wide c.requires (omega arith), length_run 2 c.args.count c.args.number)
+pub slice_bounds-run-end : goal.slice_bounds-run-end
+slice_bounds-run-end c =
+    let fits : c.args.at + 2 * c.args.count ≤ length c.args.out.now = omega (arith, room-some c.requires (search rules), length_run 2 c.args.count c.args.number) in
+    search rules
 
-pub overflow_add-result : goal.overflow_add-result
-overflow_add-result c = omega (arith, room-wide c.requires (omega arith), length_run 2 c.args.count c.args.number)
+pub loop-i-init : goal.loop-i-init
+loop-i-init c =
+    let all : c.args.count - 0 ≡ c.args.count = omega arith in
+    start _ 0 (ap (λ m. numbers_bytes 2 (replicate m c.args.number)) (sym all) ∙ sym (append-nil _))
 
-pub returns-then-out-eq0 : goal.returns-then-out-eq0
-returns-then-out-eq0 c = wrote_none (omega arith) (omega (arith, length_run 2 c.args.count c.args.number))
-
-pub loop-left-init : goal.loop-left-init
-loop-left-init c = start _ _ (sym (append-nil _))
-
-pub bounds-out-place : goal.bounds-out-place
-bounds-out-place c = omega (arith, fits c)
-
-pub overflow_add-second : goal.overflow_add-second
-overflow_add-second c = omega (arith, fits c, long (more c))
-
-pub bounds-out-second : goal.bounds-out-second
-bounds-out-second c = simp length-set (omega (arith, fits c))
-
-pub overflow_add-place : goal.overflow_add-place
-overflow_add-place c = omega (arith, fits c, long (more c))
-
-pub loop-left-preserved : goal.loop-left-preserved
-loop-left-preserved c = step {xs = bytes_of 2 (number c)} (more c) (record { place = omega arith; bytes = refl })
-
-pub shape_of-out : goal.shape_of-out
-shape_of-out c = long c.loop-left.invariant
+pub loop-i-preserved : goal.loop-i-preserved
+loop-i-preserved c =
+    let left = c.args.count - c.loop-i.i in
+    let less : left - 1 ≡ c.args.count - (c.loop-i.i + 1) = omega arith in
+    let more = run_more 2 left c.args.number (omega arith) ∙ ap (λ m. bytes_of 2 c.args.number ++ numbers_bytes 2 (replicate m c.args.number)) less in
+    step {xs = bytes_of 2 c.args.number} (recast (ap (λ z. z ++ []) more) c.loop-i.invariant) (record { place = omega arith; bytes = rw c.to_le_bytes.ensures refl })
 
 pub returns : goal.returns
 returns c =
-    let a = c.args in
-    done (recast (append-nil _ ∙ run_none 2 c.loop-left.left a.number (omega arith)) c.loop-left.invariant)
+    let same : length (numbers_bytes 2 (replicate c.args.count c.args.number)) ≡ 2 * c.args.count = length_run 2 c.args.count c.args.number in
+    let fits : c.args.at + 2 * c.args.count ≤ length c.args.out.now = omega (arith, room-some c.requires (search rules), same) in
+    wrote_part (sym same) (omega arith) fits (done (recast (append-nil _ ∙ run_none 2 _ c.args.number (omega arith)) c.loop-i.invariant))

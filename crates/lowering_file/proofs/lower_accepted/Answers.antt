@@ -2,7 +2,7 @@
 use mathlib.Core.Path.{refl, sym}
 use native.Mathlib.Omega.{arith}
 use Rattle.lists.proofs.Writing.{room-count, room_as, wrote_as}
-use Rattle.lists.proofs.Lent.{counted-short, counted-room, counted-written}
+use Rattle.answers.proofs.Lent.{counted-short, counted-room, counted-written}
 use Rattle.lowering_file.proofs.Sums.{few-variables, kept_of_lem}
 use Rattle.lowering_file.proofs.File.{file-is, same-long, task-short, accepted-lowers}
 use Rattle.lowering_file.proofs.lower_accepted.Goals as goal
@@ -28,8 +28,8 @@ count_task-counted-requires c =
 pub returns-then-out-need : goal.returns-then-out-need
 returns-then-out-need c =
     let file = c.args.file.now in
-    counted-short _ (accepted-lowers file c.read_declarations-declared.ensures.held.is) (same-long file)
-    c.count_task-counted.ensures.rows.wrote c.if-out-need.true
+    rw c.at.ensures (counted-short _ (accepted-lowers file c.read_declarations-declared.ensures.held.is) (same-long file)
+    c.count_task-counted.ensures.rows.wrote c.if-out-need.true)
 
 pub put_task-requires : goal.put_task-requires
 put_task-requires c =

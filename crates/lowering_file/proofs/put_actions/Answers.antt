@@ -58,10 +58,6 @@ some_several-several-requires c =
     let decoded = c.decode_action-effects.ensures in
     record { few = decoded.few; terms_few = decoded.terms_few }
 
-pub overflow_add-k : goal.overflow_add-k
-overflow_add-k c =
-    omega (arith, c.loop-k-test.true, few-actions c.loop-k.invariant.0.walk.held)
-
 pub loop-k-preserved : goal.loop-k-preserved
 loop-k-preserved c =
     let h = c.args.shape in

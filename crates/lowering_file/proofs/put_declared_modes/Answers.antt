@@ -7,18 +7,6 @@ use Rattle.lowering_file.proofs.put_declared_modes.Goals as goal
 pub loop-i-init : goal.loop-i-init
 loop-i-init c = writing_start
 
-pub offset_bounds-sizes-i : goal.offset_bounds-sizes-i
-offset_bounds-sizes-i c = search (rules, arith)
-
-pub bounds-sizes-i : goal.bounds-sizes-i
-bounds-sizes-i c = search (rules, arith)
-
-pub offset_bounds-values-i : goal.offset_bounds-values-i
-offset_bounds-values-i c = search (rules, arith)
-
-pub bounds-values-i : goal.bounds-values-i
-bounds-values-i c = search (rules, arith)
-
 pub put_mode-place-requires : goal.put_mode-place-requires
 put_mode-place-requires c = writing-room c.loop-i.invariant c.loop-i-test.true c.requires.room
 

@@ -7,7 +7,7 @@ use Rattle.lists.proofs.Loops.{length-mapped}
 use Rattle.lowering_file.proofs.Sums.{several-is}
 use Rattle.lowering_file.proofs.some_several.Goals as goal
 
-pub returns : goal.returns
-returns c =
+pub returns-else-before : goal.returns-else-before
+returns-else-before c =
     let l : length c.args.effects.places ≡ 3 = search (rules, length-mapped) in
     rw c.if-before.false (several-is c.args.effects (omega (arith, l, c.requires.few)))

@@ -1,5 +1,5 @@
 -- `lowering_rows::put_conditions` meets its contract: the loop writes each C. Assumes nothing.
-use mathlib.Core.Path.{sym}
+use mathlib.Core.Path.{refl, sym}
 use Prim.Native.Nat.{◌+◌, ◌<◌}
 use native.Mathlib.Omega.{arith}
 use mir.Syntax.{w64}
@@ -13,70 +13,31 @@ use Rattle.lowering_rows.proofs.Writing.{four_coded, four-all}
 use Rattle.lowering_rows.proofs.Loops.{writing_start, writing-room, writing-next, writing-end, writing-long}
 use Rattle.lowering_rows.proofs.put_conditions.Goals as goal
 
-pub bounds-marks-0 : goal.bounds-marks-0
-bounds-marks-0 c = search (rules, arith)
-
-pub wide-count-requires : goal.wide-count-requires
-wide-count-requires c = search (rules, arith)
-
 pub loop-i-init : goal.loop-i-init
-loop-i-init c = (c.wide-count.ensures, omega (arith, c.requires.writable.few.conditions), writing_start)
-
-pub overflow_add-i : goal.overflow_add-i
-overflow_add-i c = search (rules, arith)
-
-pub offset_bounds-marks-i : goal.offset_bounds-marks-i
-offset_bounds-marks-i c = search (rules, arith)
-
-pub bounds-marks-i : goal.bounds-marks-i
-bounds-marks-i c = search (rules, arith)
-
-pub low-variable-requires : goal.low-variable-requires
-low-variable-requires c = search (rules, arith)
-
-pub overflow_add-i-in-loop-i : goal.overflow_add-i-in-loop-i
-overflow_add-i-in-loop-i c = search (rules, arith)
-
-pub offset_bounds-marks-i-in-loop-i : goal.offset_bounds-marks-i-in-loop-i
-offset_bounds-marks-i-in-loop-i c = search (rules, arith)
-
-pub bounds-marks-i-in-loop-i : goal.bounds-marks-i-in-loop-i
-bounds-marks-i-in-loop-i c = search (rules, arith)
-
-pub offset_bounds-numbers-i : goal.offset_bounds-numbers-i
-offset_bounds-numbers-i c = search (rules, arith)
-
-pub bounds-numbers-i : goal.bounds-numbers-i
-bounds-numbers-i c = search (rules, arith)
+loop-i-init c = (omega (arith, c.requires.writable.few.conditions), writing_start)
 
 pub put_condition-place-requires : goal.put_condition-place-requires
 put_condition-place-requires c =
     let i = c.loop-i.i in
     let b : SFits w64 (integer_at c.args.numbers.now i) = search rules in
-    let k : i < natural_at c.args.marks.now 0 = omega (arith, c.loop-i-test.true, c.loop-i.invariant.0) in
-    let e = four_coded (natural_at c.args.marks.now (1 + i)) (natural_at c.args.marks.now (25 + i)) (integer_at c.args.numbers.now i) _ c.low-variable.ensures in
+    let k : i < natural_at c.args.marks.now 0 = omega (arith, c.loop-i-test.true) in
+    let e = four_coded (natural_at c.args.marks.now (1 + i)) (natural_at c.args.marks.now (25 + i)) (integer_at c.args.numbers.now i) _ refl in
     rw (to_z-of_z b) (record {
       constant = c.requires.writable.constants i k;
-      room = room_as e (writing-room c.loop-i.invariant.2 k (room_as (four-all (conditions_in c.args.marks.now c.args.numbers.now)) c.requires.room));
+      room = room_as e (writing-room c.loop-i.invariant.1 k (room_as (four-all (conditions_in c.args.marks.now c.args.numbers.now)) c.requires.room));
     })
-
-pub overflow_add-i-in-loop-i-2 : goal.overflow_add-i-in-loop-i-2
-overflow_add-i-in-loop-i-2 c = search (rules, arith)
-
-pub loop-i-smaller : goal.loop-i-smaller
-loop-i-smaller c = search (rules, arith)
 
 pub loop-i-preserved : goal.loop-i-preserved
 loop-i-preserved c =
     let i = c.loop-i.i in
     let b : SFits w64 (integer_at c.args.numbers.now i) = search rules in
-    let k : i < natural_at c.args.marks.now 0 = omega (arith, c.loop-i-test.true, c.loop-i.invariant.0) in
-    let e = four_coded (natural_at c.args.marks.now (1 + i)) (natural_at c.args.marks.now (25 + i)) (integer_at c.args.numbers.now i) _ c.low-variable.ensures in
-    (c.loop-i.invariant.0, c.loop-i.invariant.1, writing-next c.loop-i.invariant.2 k (wrote_as (sym e) (rw (to_z-of_z b) at c.put_condition-place.ensures)))
+    let k : i < natural_at c.args.marks.now 0 = omega (arith, c.loop-i-test.true) in
+    let e = four_coded (natural_at c.args.marks.now (1 + i)) (natural_at c.args.marks.now (25 + i)) (integer_at c.args.numbers.now i) _ refl in
+    (c.loop-i.invariant.0, writing-next c.loop-i.invariant.1 k (wrote_as (sym e) (rw (to_z-of_z b) at c.put_condition-place.ensures)))
 
 pub shape_of-out : goal.shape_of-out
-shape_of-out c = writing-long c.loop-i.invariant.2
+shape_of-out c = writing-long c.loop-i.invariant.1
 
 pub returns : goal.returns
 returns c = wrote_as (sym (four-all (conditions_in c.args.marks.now c.args.numbers.now)))
-    (writing-end c.loop-i.invariant.2 (omega (arith, c.loop-i-test.false, c.loop-i.invariant.0)))
+    (writing-end c.loop-i.invariant.1 (omega (arith, c.loop-i-test.false)))

@@ -1,6 +1,6 @@
 -- `lowering_rows::put_conditions` meets its contract: the loop writes each C. Assumes nothing.
 use mathlib.Core.Path.{◌≡◌}
-use Prim.Native.Nat.{◌-◌, ◌≤◌}
+use Prim.Native.Nat.{◌≤◌}
 use Rattle.model.specs.Steps.{natural_at}
 use Rattle.file_parts.specs.Row.{condition_in}
 use Rattle.lowering_rows.specs.Bytes.{four_bytes}
@@ -9,7 +9,4 @@ use Rattle.lowering_rows.proofs.put_conditions.Given as goal
 
 abbrev pub invariant-loop-i : goal.invariant-loop-i
 invariant-loop-i l =
-    (l.count ≡ natural_at l.marks 0) × (natural_at l.marks 0 ≤ 24) × Writing four_bytes (condition_in l.marks l.numbers) (natural_at l.marks 0) l.initial.out l.at l.out l.place l.i
-
-abbrev pub decreases-loop-i : goal.decreases-loop-i
-decreases-loop-i l = l.count - l.i
+    (natural_at l.marks 0 ≤ 24) × Writing four_bytes (condition_in l.marks l.numbers) (natural_at l.marks 0) l.initial.out l.at l.out l.place l.i

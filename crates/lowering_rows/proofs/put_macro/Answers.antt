@@ -28,10 +28,10 @@ abbrev opened : lts.Start tie.the-claims reads.Pre reads.Post tie.handed_clauses
 opened s next = opening_in s.args.shape next (effects_is s.args.effects) (row_is s.args.marks.now s.args.numbers.now)
 
 abbrev sums : lts.Start tie.the-claims reads.Pre reads.Post tie.handed_clauses → List (List (ℕ × ℤ))
-sums s = sums_in s.args.sums s.args.weights.now
+sums s = sums_in s.args.kept.sums s.args.kept.weights.now
 
 abbrev bytes : lts.Start tie.the-claims reads.Pre reads.Post tie.handed_clauses → RestrictedAction → List ℕ
-bytes s = kept_bytes s.args.first (sums s)
+bytes s = kept_bytes s.args.kept.first (sums s)
 
 -- as many stages as it has, and the opening that is written is that of the macro
 counted : (c : lts.After-stage_count tie.the-claims reads.Pre reads.Post tie.handed_clauses) → c.stage_count-count.result ≡ length (stages_in c.args.shape c.args.effects)
@@ -45,7 +45,7 @@ opening c =
 
 opening-wrote : (c : lts.After-put_opening tie.the-claims reads.Pre reads.Post tie.handed_clauses) → let s = c.before.before.before.before.before.before.before in
     let next = first_stage s.args.from (stages_in s.args.shape s.args.effects) in
-    Wrote s.args.out.now s.args.at (restricted_action_bytes (in_four (with_kept s.args.first (sums s) (opened s next))))
+    Wrote s.args.out.now s.args.at (restricted_action_bytes (in_four (with_kept s.args.kept.first (sums s) (opened s next))))
     c.put_opening-place.new.out c.put_opening-place.result
 opening-wrote c =
     wrote_as (ap (bytes c.before.before.before.before.before.before.before) (opening c.before.before.before.before) ∙ action-row _) c.put_opening-place.ensures.wrote
@@ -56,7 +56,7 @@ put_opening-place-requires c =
     let same = opening c.before.before.before in
     record {
       lowerable = (s.requires.lowerable.0, s.requires.lowerable.1);
-      fit = subst (λ (x : RestrictedAction). Fit (with_kept s.args.first (sums s) x)) (sym same) (fit-of-four s.requires.lowerable.4.0);
+      fit = subst (λ (x : RestrictedAction). Fit (with_kept s.args.kept.first (sums s) x)) (sym same) (fit-of-four s.requires.lowerable.4.0);
       room = room_as (sym (ap (bytes s) same ∙ action-row _)) (room s.requires.room (macro-begun _ _ _ _));
     }
 

@@ -32,13 +32,13 @@ abbrev turn : lts.Start tie.the-claims reads.Pre reads.Post tie.handed_clauses �
 turn s = turn_is s.args.a s.args.control s.args.number s.args.next s.args.s
 
 abbrev sums : lts.Start tie.the-claims reads.Pre reads.Post tie.handed_clauses → List (List (ℕ × ℤ))
-sums s = sums_in s.args.sums s.args.weights.now
+sums s = sums_in s.args.kept.sums s.args.kept.weights.now
 
 abbrev follows : lts.Start tie.the-claims reads.Pre reads.Post tie.handed_clauses → RestrictedAction → List ℕ
-follows s = follow_bytes s.args.first (sums s)
+follows s = follow_bytes s.args.kept.first (sums s)
 
 abbrev rows : lts.Start tie.the-claims reads.Pre reads.Post tie.handed_clauses → List RestrictedAction
-rows s = map (with_kept s.args.first (sums s)) (stage_rows s.args.a s.args.control s.args.number s.args.next s.args.s)
+rows s = map (with_kept s.args.kept.first (sums s)) (stage_rows s.args.a s.args.control s.args.number s.args.next s.args.s)
 
 abbrev ToWrite : lts.Start tie.the-claims reads.Pre reads.Post tie.handed_clauses → List ℕ → ℕ → List (List ℕ) → Type 0
 ToWrite s out place parts = Left s.args.out.now s.args.at (flat_map (row_bytes letter_a) (rows s)) out place parts
@@ -50,7 +50,7 @@ abbrev from_rise : lts.Start tie.the-claims reads.Pre reads.Post tie.handed_clau
 from_rise s = plain_bytes (rising s) ∷ follows s (rising s) ∷ from_turn s
 
 begun : (s : lts.Start tie.the-claims reads.Pre reads.Post tie.handed_clauses) → ToWrite s s.args.out.now s.args.at (plain_bytes (falling s) ∷ follows s (falling s) ∷ from_rise s)
-begun s = stage-begun s.args.first (sums s) _ _ s.args.a s.args.control s.args.number s.args.next s.args.s
+begun s = stage-begun s.args.kept.first (sums s) _ _ s.args.a s.args.control s.args.number s.args.next s.args.s
 
 abbrev s₂ : lts.After-follow tie.the-claims reads.Pre reads.Post tie.handed_clauses → lts.Start tie.the-claims reads.Pre reads.Post tie.handed_clauses
 s₂ c = c.before.before.before.before.before.before.before.before.before.before.before
@@ -75,7 +75,7 @@ fell : (c : lts.After-follow tie.the-claims reads.Pre reads.Post tie.handed_clau
 fell c =
     let s = s₂ c in
     step (fallen c.before.before.before.before.before)
-    (follow-written s.args.first s.args.sums s.args.weights.now (falling s) c.added_by.ensures c.follow-second.ensures)
+    (follow-written s.args.kept.first s.args.kept.sums s.args.kept.weights.now (falling s) c.added_by.ensures c.follow-second.ensures)
 
 risen : (c : lts.After-put_row2 tie.the-claims reads.Pre reads.Post tie.handed_clauses) → ToWrite (s₃ c) c.put_row-risen.new.out c.put_row-risen.result (follows (s₃ c) (rising (s₃ c)) ∷ from_turn (s₃ c))
 risen c = step (fell c.before.before.before.before.before.before.before)
@@ -85,7 +85,7 @@ rose : (c : lts.After-follow2 tie.the-claims reads.Pre reads.Post tie.handed_cla
 rose c =
     let s = s₄ c in
     step (risen c.before.before.before.before.before)
-    (follow-written s.args.first s.args.sums s.args.weights.now (rising s) c.added_by-2.ensures c.follow-third.ensures)
+    (follow-written s.args.kept.first s.args.kept.sums s.args.kept.weights.now (rising s) c.added_by-2.ensures c.follow-third.ensures)
 
 turned : (c : lts.After-put_row3 tie.the-claims reads.Pre reads.Post tie.handed_clauses) → ToWrite (s₅ c) c.put_row-turned.new.out c.put_row-turned.result (follows (s₅ c) (turn (s₅ c)) ∷ [])
 turned c = step (rose c.before.before.before.before.before.before.before)
@@ -99,18 +99,18 @@ all-written : (c : lts.After-follow3 tie.the-claims reads.Pre reads.Post tie.han
 all-written c =
     let s = s₆ c.before in
     step (turned c.before.before.before.before.before.before)
-    (follow-written s.args.first s.args.sums s.args.weights.now (turn s) (given c.before) c.follow.ensures)
+    (follow-written s.args.kept.first s.args.kept.sums s.args.kept.weights.now (turn s) (given c.before) c.follow.ensures)
 
 pub put_row-fallen-requires : goal.put_row-fallen-requires
 put_row-fallen-requires c =
     let s = c.before.before.before.before.before in
     let ready = row-ready c.push_stroke.ensures (stroke-sized s.args.s s.requires.marks_len.2 s.args.control s.args.number true)
-    (plain-fit s.args.first (sums s) (falling s) s.requires.all_fit.0) (room s.requires.room (begun s)) in
+    (plain-fit s.args.kept.first (sums s) (falling s) s.requires.all_fit.0) (room s.requires.room (begun s)) in
     record { writable = ready.0; room = ready.1 }
 
 pub follow-second-requires : goal.follow-second-requires
 follow-second-requires c =
-    let ready = follow-ready c.args.first c.args.sums c.args.weights.now (falling c.before.before.before.before.before.before.before.before.before.before)
+    let ready = follow-ready c.args.kept.first c.args.kept.sums c.args.kept.weights.now (falling c.before.before.before.before.before.before.before.before.before.before)
     c.added_by.ensures c.requires.marks_len.3 c.requires.all_fit.0 (room c.requires.room (fallen c.before.before.before.before)) in
     record { keeps = ready.0; room = ready.1 }
 
@@ -119,7 +119,7 @@ put_row-risen-requires c =
     let f = c.before.before.before.before.before.before in
     let s = s₂ f in
     let ready = row-ready c.push_stroke-2.ensures (stroke-sized s.args.s s.requires.marks_len.2 s.args.control s.args.number false)
-    (plain-fit s.args.first (sums s) (rising s) s.requires.all_fit.1.0) (room s.requires.room (fell f)) in
+    (plain-fit s.args.kept.first (sums s) (rising s) s.requires.all_fit.1.0) (room s.requires.room (fell f)) in
     record { writable = ready.0; room = ready.1 }
 
 pub added_by-requires-2 : goal.added_by-requires-2
@@ -128,7 +128,7 @@ added_by-requires-2 c = (s₃ c.before.before.before).requires.marks_len.2
 pub follow-third-requires : goal.follow-third-requires
 follow-third-requires c =
     let s = s₃ c.before.before.before.before in
-    let ready = follow-ready s.args.first s.args.sums s.args.weights.now (rising s) c.added_by-2.ensures s.requires.marks_len.3 s.requires.all_fit.1.0
+    let ready = follow-ready s.args.kept.first s.args.kept.sums s.args.kept.weights.now (rising s) c.added_by-2.ensures s.requires.marks_len.3 s.requires.all_fit.1.0
     (room s.requires.room (risen c.before.before.before.before)) in
     record { keeps = ready.0; room = ready.1 }
 
@@ -143,7 +143,7 @@ put_row-turned-requires c =
     let s = s₄ r in
     let ready = row-ready c.push_turn.ensures
     (turn-sized s.args.s s.requires.marks_len.2 s.args.control s.args.number s.args.a s.args.next)
-    (plain-fit s.args.first (sums s) (turn s) s.requires.all_fit.1.1.0) (room s.requires.room (rose r)) in
+    (plain-fit s.args.kept.first (sums s) (turn s) s.requires.all_fit.1.1.0) (room s.requires.room (rose r)) in
     record { writable = ready.0; room = ready.1 }
 
 pub added_once-requires : goal.added_once-requires
@@ -154,7 +154,7 @@ added_once-requires c =
 pub follow-requires : goal.follow-requires
 follow-requires c =
     let s = s₆ c in
-    let ready = follow-ready s.args.first s.args.sums s.args.weights.now (turn s) (given c) s.requires.marks_len.3 s.requires.all_fit.1.1.0
+    let ready = follow-ready s.args.kept.first s.args.kept.sums s.args.kept.weights.now (turn s) (given c) s.requires.marks_len.3 s.requires.all_fit.1.1.0
     (room s.requires.room (turned c.before.before.before.before.before)) in
     record { keeps = ready.0; room = ready.1 }
 

@@ -24,9 +24,6 @@ stage_at-stage-requires c =
     let p = c.requires in
     (p.bounded.0.variables_few, p.bounded.1, p.bounded.0, omega (arith, c.loop-j-test.true, p.count_value.0))
 
-pub overflow_add-j : goal.overflow_add-j
-overflow_add-j c = omega (arith, c.loop-j-test.true, c.requires.count_value.1)
-
 pub overflow_sub-count : goal.overflow_sub-count
 overflow_sub-count c = omega (arith, c.loop-j-test.true)
 
@@ -55,11 +52,11 @@ put_stage-place-requires c =
     let on : next ≡ next_number n (length ds - (j + 1)) = c.next_stage-next.ensures ∙ ap (λ (z : ℕ). next_number n (z - (j + 1))) size in
     let high : 0 < n = omega (arith, loop.invariant.0.number_is, c.requires.count_value.2) in
     let turns = subst (λ (z : ℕ). eqb n z ≡ false) (sym c.next_stage-next.ensures) (turns-on n (c.args.count - (j + 1)) high) in
-    let sums = sums_in c.args.sums c.args.weights.now in
+    let sums = sums_in c.args.kept.sums c.args.kept.weights.now in
     record {
       marks_len = (loop.invariant.1, loop.invariant.2, stands.small, c.requires.bounded.2);
-      all_fit = subst AllFit (sym (rows_are_lem c.args.first sums h.variables h.modes n next stands turns)) (staging-fit loop.invariant.0 d is below next on);
-      room = room_as (sym (stage_is c.args.first sums h.variables h.modes n next stands turns))
+      all_fit = subst AllFit (sym (rows_are_lem c.args.kept.first sums h.variables h.modes n next stands turns)) (staging-fit loop.invariant.0 d is below next on);
+      room = room_as (sym (stage_is c.args.kept.first sums h.variables h.modes n next stands turns))
           (staging-room loop.invariant.0 d is below next on c.requires.room);
     }
 
@@ -71,9 +68,6 @@ overflow_add-number c = omega (
   c.requires.count_value.1,
   c.requires.count_value.3,
 )
-
-pub loop-j-smaller : goal.loop-j-smaller
-loop-j-smaller c = omega (arith, c.loop-j-test.true)
 
 pub loop-j-preserved : goal.loop-j-preserved
 loop-j-preserved c =
@@ -93,7 +87,7 @@ loop-j-preserved c =
     let high : 0 < n = omega (arith, loop.invariant.0.number_is, c.requires.count_value.2) in
     let turns = subst (λ (z : ℕ). eqb n z ≡ false) (sym c.next_stage-next.ensures)
     (turns-on n (c.args.count - (j + 1)) high) in
-    let wrote = wrote_as (stage_is c.args.first (sums_in c.args.sums c.args.weights.now) h.variables h.modes n next stands turns)
+    let wrote = wrote_as (stage_is c.args.kept.first (sums_in c.args.kept.sums c.args.kept.weights.now) h.variables h.modes n next stands turns)
     c.put_stage-place.ensures.wrote in
     (staging-next loop.invariant.0 d is below next on wrote, c.put_stage-place.ensures.marks_long, c.put_stage-place.ensures.numbers_long)
 

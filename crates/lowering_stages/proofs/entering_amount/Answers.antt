@@ -5,17 +5,8 @@ use mir.Facts.{to_z-of_z}
 use borrow.Author.Rules.{rules}
 use Rattle.lowering_stages.proofs.entering_amount.Goals as goal
 
-pub returns-in-None : goal.returns-in-None
-returns-in-None c = rw c.in-None.is
-
 pub returns-in-Add : goal.returns-in-Add
 returns-in-Add c = let k : SFits w64 c.in-Add.c = search rules in rw (c.in-Add.is, to_z-of_z k)
 
 pub returns-in-Linear : goal.returns-in-Linear
 returns-in-Linear c = let k : SFits w64 c.in-Linear.w = search rules in rw (c.in-Linear.is, to_z-of_z k)
-
-pub returns-in-Quotient : goal.returns-in-Quotient
-returns-in-Quotient c = rw c.in-Quotient.is
-
-pub returns-in-Residue : goal.returns-in-Residue
-returns-in-Residue c = rw c.in-Residue.is

@@ -1,13 +1,14 @@
 -- `lowering_stages::find_stage` meets its contract: the loop goes from effect to effect until the stage stands in its stages. Assumes nothing.
-use mathlib.Core.Path.{◌≡◌}
-use Prim.Native.Nat.{◌<◌}
+use mathlib.Core.Path.{◌≡◌, subst}
+use Prim.Native.Nat.{ℕ, ◌<◌}
 use native.Mathlib.Omega.{arith}
 use lib.ListN.{length, get_or}
 use borrow.Author.Rules.{rules}
 use Rattle.lists.proofs.Loops.{length-mapped}
-use Rattle.file_actions.specs.Views.{numeric_is}
+use Rattle.file_actions.specs.Views.{numeric_is, effects_is}
 use Rattle.lowering_stages.proofs.Effects.{no_place, effects-length, effects-from, terms-few}
 use Rattle.lowering_stages.proofs.Holds.{search-start, search-found, search-next, search-end}
+use Rattle.lowering_stages.specs.Stages.{FoundAt}
 use Rattle.lowering_stages.proofs.find_stage.Goals as goal
 
 pub loop-e-init : goal.loop-e-init
@@ -40,4 +41,7 @@ loop-e-preserved c =
 
 pub returns : goal.returns
 returns c =
-    search-end c.loop-e.invariant (omega (arith, effects-length c.args.effects, c.loop-e-test.false))
+    let n : c.loop-e.e ≡ c.args.effects.count = omega (arith, c.loop-e.auto.e-end, c.loop-e-test.false) in
+    let end = search-end c.loop-e.invariant (omega (arith, effects-length c.args.effects, c.loop-e-test.false)) in
+    let At : ℕ → Type 0 = λ e. FoundAt (effects_is c.args.effects) c.args.j (record { effect = e; stage = c.loop-e.left }) in
+    subst At n end

@@ -6,5 +6,5 @@ use Rattle.lowering_stages.proofs.hold_of.Goals as goal
 pub returns : goal.returns
 returns c =
     let g = to_z-of_z c.ranges.gives in
-    rw g (hold-stands c.args.a c.args.e c.args.v c.hold_number-hold.result c.args.gives
-    c.hold_number-hold.ensures c.requires.2)
+    rw g (hold-stands c.args.a c.args.e c.args.v c.hold_number.result c.args.gives
+    c.hold_number.ensures c.requires.2)

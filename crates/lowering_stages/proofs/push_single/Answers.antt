@@ -1,5 +1,6 @@
 -- `lowering_stages::push_single` meets its contract: effect by effect. Assumes nothing.
 use mathlib.Core.Path.{◌≡◌}
+use mathlib.Core.Logic.{inl, inr}
 use mathlib.Core.List.{[], ◌∷◌}
 use native.Mathlib.Omega.{arith}
 use lib.Dec.{lit≤}
@@ -34,9 +35,9 @@ unchanged s f g =
 pub push_bound-requires : goal.push_bound-requires
 push_bound-requires c =
     let k : SFits w64 c.in-Add.c = search rules in
-    let l : SFits w64 c.lower_of-lower.result = search rules in
-    let m : SFits w64 c.upper_of-upper.result = search rules in
-    rw (to_z-of_z k, to_z-of_z l, to_z-of_z m, c.lower_of-lower.ensures, c.upper_of-upper.ensures) (
+    let l : SFits w64 c.bounds_of-lower.result.0 = search rules in
+    let m : SFits w64 c.bounds_of-lower.result.1 = search rules in
+    rw (to_z-of_z k, to_z-of_z l, to_z-of_z m, c.bounds_of-lower.ensures.0, c.bounds_of-lower.ensures.1) (
       room-less c.requires.0 (lit≤ tt) (lit≤ tt) (lit≤ tt) (lit≤ tt),
       c.requires.1,
       (c.requires.2.lower_in c.in-Add.t, c.requires.2.upper_in c.in-Add.t),
@@ -55,14 +56,14 @@ returns-in-None c =
 pub returns-in-Add : goal.returns-in-Add
 returns-in-Add c =
     let k : SFits w64 c.in-Add.c = search rules in
-    let l : SFits w64 c.lower_of-lower.result = search rules in
-    let m : SFits w64 c.upper_of-upper.result = search rules in
+    let l : SFits w64 c.bounds_of-lower.result.0 = search rules in
+    let m : SFits w64 c.bounds_of-lower.result.1 = search rules in
     let one = rw (
       to_z-of_z k,
       to_z-of_z l,
       to_z-of_z m,
-      c.lower_of-lower.ensures,
-      c.upper_of-upper.ensures,
+      c.bounds_of-lower.ensures.0,
+      c.bounds_of-lower.ensures.1,
     ) at c.push_bound.ensures in
     rw c.in-Add.is
     (said (add-more c.args.a (lower_of c.args.shape) (upper_of c.args.shape) c.in-Add.t c.in-Add.c
@@ -79,7 +80,5 @@ returns-in-Linear c =
     (rw (to_z-of_z k) at c.push_given.ensures))
 
 pub returns-in-Quotient : goal.returns-in-Quotient
-returns-in-Quotient c = unchanged c.before (rw c.in-Quotient.is) (rw c.in-Quotient.is)
-
-pub returns-in-Residue : goal.returns-in-Residue
-returns-in-Residue c = unchanged c.before (rw c.in-Residue.is) (rw c.in-Residue.is)
+returns-in-Quotient c =
+    elim c.in-Quotient.is [ inl (x, y, z, e) ↦ unchanged c.before (rw e) (rw e) | inr (x, y, z, e) ↦ unchanged c.before (rw e) (rw e) ]

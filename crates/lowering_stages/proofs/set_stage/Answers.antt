@@ -13,14 +13,14 @@ returns-then-j-eq0 c a name p = rw c.if-j-eq0.true (given (c.empty_of.ensures a 
 
 pub move_of-requires : goal.move_of-requires
 move_of-requires c =
-    let k : SFits w64 c.lower_of-lower.result = search rules in
-    let m : SFits w64 c.upper_of-upper.result = search rules in
-    rw (to_z-of_z k, to_z-of_z m, c.lower_of-lower.ensures, c.upper_of-upper.ensures) (c.requires.lower_in c.args.t, c.requires.upper_in c.args.t)
+    let k : SFits w64 c.bounds_of-lower.result.0 = search rules in
+    let m : SFits w64 c.bounds_of-lower.result.1 = search rules in
+    rw (to_z-of_z k, to_z-of_z m, c.bounds_of-lower.ensures.0, c.bounds_of-lower.ensures.1) (c.requires.lower_in c.args.t, c.requires.upper_in c.args.t)
 
 pub returns : goal.returns
 returns c a name p =
-    let k : SFits w64 c.lower_of-lower.result = search rules in
-    let m : SFits w64 c.upper_of-upper.result = search rules in
+    let k : SFits w64 c.bounds_of-lower.result.0 = search rules in
+    let m : SFits w64 c.bounds_of-lower.result.1 = search rules in
     second (clear c.args.t)
-    (rw (to_z-of_z k, to_z-of_z m, c.lower_of-lower.ensures, c.upper_of-upper.ensures) at (c.move_of.ensures a name p)) c.args.j
+    (rw (to_z-of_z k, to_z-of_z m, c.bounds_of-lower.ensures.0, c.bounds_of-lower.ensures.1) at (c.move_of.ensures a name p)) c.args.j
     c.if-j-eq0.false

@@ -18,15 +18,6 @@ result_count-requires c =
     let l : length c.args.effects.places ≡ 3 = search (rules, length-mapped) in
     terms-few c.args.effects c.loop-e.e (omega (arith, c.loop-e-test.true, c.requires.few)) c.requires
 
-pub overflow_add-total-in-loop-e : goal.overflow_add-total-in-loop-e
-overflow_add-total-in-loop-e c = omega (arith, c.loop-e.invariant.most, c.loop-e-test.true, c.requires.few)
-
-pub overflow_add-e : goal.overflow_add-e
-overflow_add-e c = omega (arith, c.loop-e-test.true, c.requires.few)
-
-pub loop-e-smaller : goal.loop-e-smaller
-loop-e-smaller c = omega (arith, c.loop-e-test.true)
-
 pub loop-e-preserved : goal.loop-e-preserved
 loop-e-preserved c =
     let r = c.args.effects in

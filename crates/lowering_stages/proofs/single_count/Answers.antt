@@ -12,12 +12,6 @@ use Rattle.file_actions.specs.Views.{terms_is}
 use Rattle.lowering_stages.proofs.Effects.{linear-length, result-length}
 use Rattle.lowering_stages.proofs.single_count.Goals as goal
 
-pub returns-in-None : goal.returns-in-None
-returns-in-None c = ((λ lower upper. rw c.in-None.is), lit≤ tt)
-
-pub returns-in-Add : goal.returns-in-Add
-returns-in-Add c = ((λ lower upper. rw c.in-Add.is), lit≤ tt)
-
 pub returns-in-Linear : goal.returns-in-Linear
 returns-in-Linear c =
     let p = c.args.place in
@@ -32,9 +26,3 @@ returns-in-Linear c =
           ))),
       omega (arith, c.requires),
     )
-
-pub returns-in-Quotient : goal.returns-in-Quotient
-returns-in-Quotient c = ((λ lower upper. rw c.in-Quotient.is), lit≤ tt)
-
-pub returns-in-Residue : goal.returns-in-Residue
-returns-in-Residue c = ((λ lower upper. rw c.in-Residue.is), lit≤ tt)

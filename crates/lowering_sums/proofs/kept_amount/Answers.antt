@@ -2,34 +2,28 @@
 use native.Mathlib.Omega.{arith}
 use mir.Facts.{to_z-of_z}
 use mir.Syntax.{w64}
-use mir.Val.{SFits}
+use mir.Val.{SFits, to_z}
 use borrow.Author.Rules.{rules}
 use Rattle.model.specs.Steps.{integer_at}
-use Rattle.lowering_sums.proofs.Weighing.{adding-start, adding-next, adding-small, adding-end}
+use Rattle.lowering_sums.proofs.Weighing.{sum_fits, adding-start, adding-next, adding-small, adding-end}
 use Rattle.lowering_sums.proofs.kept_amount.Goals as goal
 
 pub loop-e-init : goal.loop-e-init
 loop-e-init c = adding-start _ _ _ _ _
 
-pub kept_part-part-requires : goal.kept_part-part-requires
-kept_part-part-requires c =
+pub kept_part-total-requires : goal.kept_part-total-requires
+kept_part-total-requires c =
     let d : SFits w64 (integer_at c.args.added.amounts c.loop-e.e) = search rules in
     rw (to_z-of_z d) (c.requires.0, c.requires.1, c.requires.2.amounts c.loop-e.e c.loop-e-test.true)
 
-pub plus-total-requires : goal.plus-total-requires
-plus-total-requires c =
-    let r : SFits w64 c.kept_part-part.result = search rules in
-    rw (to_z-of_z r) (omega (arith, adding-small c.loop-e.invariant c.requires.2.few), omega (arith, c.kept_part-part.ensures.1))
-
 pub loop-e-preserved : goal.loop-e-preserved
 loop-e-preserved c =
-    let k = c.kept_part-part in
+    let k = c.kept_part-total in
     let d : SFits w64 (integer_at c.args.added.amounts c.loop-e.e) = search rules in
     let p : SFits w64 k.result = search rules in
-    let r : SFits w64 c.plus-total.result = search rules in
     let e = rw (to_z-of_z d) at k.ensures in
-    rw (to_z-of_z r, rw (to_z-of_z p) at c.plus-total.ensures)
-    (adding-next c.loop-e.invariant c.loop-e-test.true k.result e.0 e.1)
+    let fits = sum_fits (to_z w64 c.loop-e.total-bits) k.result (adding-small c.loop-e.invariant c.requires.2.few) e.1 in
+    rw (to_z-of_z p, to_z-of_z fits) (adding-next c.loop-e.invariant c.loop-e-test.true k.result e.0 e.1)
 
 pub returns : goal.returns
 returns c =

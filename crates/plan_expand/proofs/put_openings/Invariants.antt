@@ -1,12 +1,8 @@
 -- `plan_expand::put_openings` meets its contract. The loop's invariant is `Opening`: what is left to write are the openings of what is left of the plan.
 -- Assumes nothing.
-use Prim.Native.Nat.{◌-◌}
 use Rattle.model.specs.Plans.{plan_numbers}
 use Rattle.plan_expand.proofs.Writing.{Opening}
 use Rattle.plan_expand.proofs.put_openings.Given as goal
 
 abbrev pub invariant-loop-i : goal.invariant-loop-i
 invariant-loop-i l = Opening (plan_numbers l.plan) l.openings l.initial.out l.out l.place l.i
-
-abbrev pub decreases-loop-i : goal.decreases-loop-i
-decreases-loop-i l = l.steps - l.i

@@ -1,6 +1,5 @@
 -- `plan_expand::put_plan` meets its contract. The loop's invariant: what is left to write is the expansion of what is left of the plan, from the
 -- state reached. Assumes nothing.
-use Prim.Native.Nat.{◌-◌}
 use mathlib.Core.Path.{◌≡◌}
 use lib.ListN.{length}
 use Rattle.model.specs.Plans.{plan_numbers}
@@ -11,8 +10,6 @@ use Rattle.plan_expand.proofs.put_plan.Given as goal
 
 abbrev pub invariant-loop-i : goal.invariant-loop-i
 invariant-loop-i l =
-    Going (table l.count l.marks l.numbers l.n l.m) l.openings (plan_numbers l.plan) (state l.initial.values l.initial.modes) l.initial.out l.values l.modes l.out l.place l.i × (length l.times ≡ 33)
-
-abbrev pub decreases-loop-i : goal.decreases-loop-i
-decreases-loop-i l =
-    l.steps - l.i
+    Going (table l.count l.marks l.numbers l.n l.m) l.openings (plan_numbers l.plan) (state l.initial.values l.initial.modes) l.initial.out
+    l.values l.modes l.out l.place l.i
+    × (length l.times ≡ 33)

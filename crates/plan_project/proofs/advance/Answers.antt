@@ -31,12 +31,12 @@ returns-then-take_single c = record {
 }
 
 pub returns-then-not-makes_macro : goal.returns-then-not-makes_macro
-returns-then-not-makes_macro c = record {
+returns-then-not-makes_macro c = rw c.at.ensures (record {
   advanced = one-refused c.args.n c.args.m c.args.marks.now c.args.numbers.now c.args.sums.now c.args.values.now
-      c.args.modes.now c.args.total c.args.at (plan_numbers c.args.plan.now) c.args.opening (stays c.before.before.before.before.before)
+      c.args.modes.now c.args.total c.args.at (plan_numbers c.args.plan.now) c.args.opening (stays c.before.before.before.before.before.before)
       c.take_single.ensures c.if-take_single.false;
   times_len = c.requires.n_bound.3;
-}
+})
 
 pub advance_macro-requires : goal.advance_macro-requires
 advance_macro-requires c =

@@ -36,12 +36,12 @@ abbrev strokes_in : lts.Start tie.the-claims reads.Pre reads.Post tie.handed_cla
 strokes_in s = strokes_of (effects_at s.args.marks.now s.args.numbers.now) (integer_at (take s.args.n s.args.values.now))
 
 pub returns-then-not-holds : goal.returns-then-not-holds
-returns-then-not-holds c = record {
+returns-then-not-holds c = rw c.at.ensures (record {
   advanced = macro-refused c.args.n c.args.m c.args.marks.now c.args.numbers.now c.args.sums.now c.args.values.now
-      c.args.modes.now c.args.total c.args.at (plan_of c.before.before.before.before) c.args.opening c.requires.macro_is.0
+      c.args.modes.now c.args.total c.args.at (plan_of c.before.before.before.before.before) c.args.opening c.requires.macro_is.0
       (sym c.holds.ensures ∙ not-true _ (ap not c.if-not-holds.true));
   times_len = c.requires.n_bound.3;
-}
+})
 
 -- the rows' test passed
 module _ (c : lts.Else1 tie.the-claims reads.Pre reads.Post tie.handed_clauses) where

@@ -10,7 +10,9 @@ use Rattle.plan_project.proofs.follow.Given as goal
 
 abbrev pub invariant-loop-at : goal.invariant-loop-at
 invariant-loop-at l =
-    Going (table l.count l.marks l.numbers l.n l.m) l.total l.sources (plan_numbers l.plan) (state l.initial.values l.initial.modes) l.values l.modes l.noted l.at l.found × (length l.times ≡ 33)
+    Going (table l.count l.marks l.numbers l.n l.m) l.total l.sources (plan_numbers l.plan) (state l.initial.values l.initial.modes)
+    l.values l.modes l.noted l.at l.found
+    × (length l.times ≡ 33)
 
 abbrev pub decreases-loop-at : goal.decreases-loop-at
 decreases-loop-at l = l.steps - l.at

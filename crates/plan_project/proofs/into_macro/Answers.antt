@@ -6,4 +6,6 @@ use Rattle.plan_project.specs.Following.{strayed_at}
 use Rattle.plan_project.proofs.into_macro.Goals as goal
 
 pub returns : goal.returns
-returns c = let q = plan_numbers c.args.plan.now in record { answers = (λ onward. sym c.astray.ensures ∙ ap (λ (d : ℕ). strayed_at c.args.total q (c.args.at + d)) c.lesser.ensures); further = tt }
+returns c =
+    let strayed_after = λ (d : ℕ). strayed_at c.args.total (plan_numbers c.args.plan.now) (c.args.at + d) in
+    record { answers = λ onward. sym c.astray.ensures ∙ ap strayed_after c.min.ensures; further = tt }

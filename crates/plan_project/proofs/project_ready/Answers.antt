@@ -25,17 +25,17 @@ project_rows-requires c =
     let P = c.requires.posed in record {
       usables = (
         usables P.rows,
-        below P.rows c.openings_of-openings.ensures c.put_openers.ensures c.wide16-total.ensures,
+        below P.rows c.openings_of-openings.ensures c.put_openers.ensures refl,
         c.requires.steps_value.0,
         P.inside.shaped.modes_long,
       );
-      kept = kept P.rows c.openings_of-openings.ensures c.put_openers.ensures c.wide16-total.ensures P.inside P.start (plan_numbers c.args.plan.now)
+      kept = kept P.rows c.openings_of-openings.ensures c.put_openers.ensures refl P.inside P.start (plan_numbers c.args.plan.now)
           (omega (arith, c.requires.steps_value));
     }
 
 pub returns : goal.returns
 returns c =
     record {
-      meets = λ P. projected-so P.rows c.openings_of-openings.ensures c.put_openers.ensures c.wide16-total.ensures P.inside P.start
+      meets = λ P. projected-so P.rows c.openings_of-openings.ensures c.put_openers.ensures refl P.inside P.start
           (plan_numbers c.args.plan.now) c.project_rows.ensures;
     }

@@ -1,20 +1,20 @@
--- `plan_project::put_noted` meets its contract. The loop's invariant is `Copying`: of the numbers found, those not passed are left to write. Assumes nothing.
-use native.Mathlib.Omega.{arith}
+-- `plan_project::put_noted` meets its contract. The loop's invariant is `Copying`: of the numbers found, those not passed are left to write.
+-- Assumes nothing.
 use Rattle.lists.proofs.Writing.{long}
 use Rattle.plan_project.proofs.Putting.{copying, copied, copy-room, copies}
 use Rattle.plan_project.proofs.put_noted.Goals as goal
 
-pub loop-i-init : goal.loop-i-init
-loop-i-init c = copying c.args.noted.now c.args.found c.args.out.now (omega (arith, c.requires.1, c.requires.2))
+pub loop-source-init : goal.loop-source-init
+loop-source-init c = copying _
 
 pub put_number-place-requires : goal.put_number-place-requires
-put_number-place-requires c = copy-room c.loop-i.invariant c.word.ensures c.loop-i-test.true c.requires.0
+put_number-place-requires c = copy-room _ c.loop-source.invariant c.loop-source-test.true c.requires.0
 
-pub loop-i-preserved : goal.loop-i-preserved
-loop-i-preserved c = copies c.loop-i.invariant c.word.ensures c.loop-i-test.true c.put_number-place.ensures
+pub loop-source-preserved : goal.loop-source-preserved
+loop-source-preserved c = copies _ c.loop-source.invariant c.loop-source-test.true c.put_number-place.ensures
 
 pub shape_of-out : goal.shape_of-out
-shape_of-out c = long c.loop-i.invariant.left
+shape_of-out c = long c.loop-source.invariant
 
 pub returns : goal.returns
-returns c = copied c.loop-i.invariant c.loop-i-test.false
+returns c = copied _ c.loop-source.invariant c.loop-source-test.false

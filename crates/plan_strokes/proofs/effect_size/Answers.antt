@@ -8,7 +8,7 @@ returns-then-kind-eq-ADD c = add-size c.args.marks.now c.args.e c.if-kind-eq-ADD
 
 pub returns-then-kind-eq-LINEAR : goal.returns-then-kind-eq-LINEAR
 returns-then-kind-eq-LINEAR c =
-    linear-size c.args.marks.now c.args.e c.if-kind-eq-LINEAR.true c.lesser.result (rw c.wide16.ensures at c.lesser.ensures)
+    linear-size c.args.marks.now c.args.e c.if-kind-eq-LINEAR.true c.min.result c.min.ensures
 
 pub returns : goal.returns
 returns c = division-size c.args.marks.now c.args.e (omega (arith, c.if-kind-eq-LINEAR.false, c.if-kind-eq-ADD.false))

@@ -29,7 +29,9 @@ module _ (c : lts.After-matches_run tie.the-claims reads.Pre reads.Post) where
   there = run-there is xs s.args.at c.matches_run-strokes.result c.matches_run-strokes.ensures s.requires.1
 
 pub returns-then-strokes-run : goal.returns-then-strokes-run
-returns-then-strokes-run c = let m = c.before.before.before in run-differs (is m) (xs m) (s m).args.at m.matches_run-strokes.result m.matches_run-strokes.ensures c.if-strokes-run.true
+returns-then-strokes-run c =
+    let m = c.before.before.before in
+    run-differs (is m) (xs m) (s m).args.at m.matches_run-strokes.result m.matches_run-strokes.ensures c.if-strokes-run.true
 
 pub overflow_add-at : goal.overflow_add-at
 overflow_add-at c = let m = c.before.before.before in omega (arith, there m, length-halves (s m).args.plan.now)
@@ -38,7 +40,13 @@ pub matches_run-requires : goal.matches_run-requires
 matches_run-requires c = there c.before.before.before
 
 pub overflow_add-result : goal.overflow_add-result
-overflow_add-result c = let m = c.before.before.before.before in omega (arith, there m, length-halves (s m).args.plan.now, c.matches_run.ensures, agreeing-few (((s m).args.first + 2) ∷ []) (drop ((s m).args.at + m.matches_run-strokes.result) (xs m)))
+overflow_add-result c =
+    let m = c.before.before.before.before in
+    let turn = agreeing-few (((s m).args.first + 2) ∷ []) (drop ((s m).args.at + m.matches_run-strokes.result) (xs m)) in
+    omega (arith, there m, length-halves (s m).args.plan.now, c.matches_run.ensures, turn)
 
 pub returns : goal.returns
-returns c = let m = c.before.before.before.before in run-whole (is m) (xs m) (s m).args.at m.matches_run-strokes.result m.matches_run-strokes.ensures c.matches_run.result c.if-strokes-run.false c.matches_run.ensures
+returns c =
+    let m = c.before.before.before.before in
+    run-whole (is m) (xs m) (s m).args.at
+    m.matches_run-strokes.result m.matches_run-strokes.ensures c.matches_run.result c.if-strokes-run.false c.matches_run.ensures

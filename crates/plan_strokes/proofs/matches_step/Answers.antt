@@ -26,7 +26,10 @@ module _ (c : lts.After-matches_run tie.the-claims reads.Pre reads.Post) where
   there h = opened-there s.args.opening (take s.args.count s.args.times.now) xs s.args.at c.matches_run-opened.result c.matches_run-opened.ensures h
 
 pub returns-then-opened-eq0 : goal.returns-then-opened-eq0
-returns-then-opened-eq0 c = let m = c.before.before in not_opened_lem (s m).args.opening (take (s m).args.count (s m).args.times.now) (xs m) (s m).args.at m.matches_run-opened.result m.matches_run-opened.ensures c.if-opened-eq0.true
+returns-then-opened-eq0 c =
+    let m = c.before.before in
+    not_opened_lem (s m).args.opening (take (s m).args.count (s m).args.times.now) (xs m)
+    (s m).args.at m.matches_run-opened.result m.matches_run-opened.ensures c.if-opened-eq0.true
 
 pub overflow_add-at : goal.overflow_add-at
 overflow_add-at c = omega (arith, there c.before.before c.if-opened-eq0.false, length-halves (s c.before.before).args.plan.now)
@@ -37,7 +40,12 @@ matches_stages-requires c = let m = c.before.before in (omega (arith, (s m).requ
 pub overflow_add-result : goal.overflow_add-result
 overflow_add-result c =
     let m = c.before.before.before in
-    omega (arith, c.matches_stages.ensures, there m c.if-opened-eq0.false, length-halves (s m).args.plan.now, agreeing-there (macro_steps ((s m).args.opening + 1) (take (s m).args.count (s m).args.times.now)) (drop ((s m).args.at + 1) (xs m)), length-drop ((s m).args.at + 1) (xs m))
+    let rest = macro_steps ((s m).args.opening + 1) (take (s m).args.count (s m).args.times.now) in
+    let few = agreeing-there rest (drop ((s m).args.at + 1) (xs m)) in
+    omega (arith, c.matches_stages.ensures, there m c.if-opened-eq0.false, length-halves (s m).args.plan.now, few, length-drop ((s m).args.at + 1) (xs m))
 
 pub returns : goal.returns
-returns c = let m = c.before.before.before in opened (s m).args.opening (take (s m).args.count (s m).args.times.now) (xs m) (s m).args.at m.matches_run-opened.result m.matches_run-opened.ensures c.if-opened-eq0.false c.matches_stages.result c.matches_stages.ensures
+returns c =
+    let m = c.before.before.before in
+    opened (s m).args.opening (take (s m).args.count (s m).args.times.now) (xs m)
+    (s m).args.at m.matches_run-opened.result m.matches_run-opened.ensures c.if-opened-eq0.false c.matches_stages.result c.matches_stages.ensures

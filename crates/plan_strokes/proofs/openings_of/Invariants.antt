@@ -1,10 +1,6 @@
 -- `plan_strokes::openings_of` meets its contract. Assumes nothing.
-use Prim.Native.Nat.{◌-◌}
 use Rattle.plan_strokes.proofs.Counting.{Counting}
 use Rattle.plan_strokes.proofs.openings_of.Given as goal
 
 abbrev pub invariant-loop-k : goal.invariant-loop-k
 invariant-loop-k l = Counting l.marks l.count l.o.numbers l.next l.k
-
-abbrev pub decreases-loop-k : goal.decreases-loop-k
-decreases-loop-k l = l.count - l.k

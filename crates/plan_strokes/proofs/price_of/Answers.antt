@@ -3,42 +3,40 @@
 use mathlib.Core.Path.{◌≡◌}
 use Prim.Native.Nat.{◌≤◌}
 use native.Mathlib.Omega.{arith}
+use borrow.Author.Rules.{rules}
 use mir.Facts.{to_z-of_z}
 use mir.Syntax.{w64}
 use mir.Val.{SFits}
 use lib.IntN.{pos, nat_abs}
-use lib.ListN.{get_or}
-use Rattle.plan_strokes.proofs.Prices.{pricing-start, stroke-few, pricing-next, pricing-end}
-use borrow.Author.Rules.{rules}
+use lib.ListN.{get_or, take, length-take}
+use Rattle.plan_strokes.proofs.Prices.{pricing-start, pricing-next, pricing-end}
 use Rattle.plan_strokes.proofs.price_of.Goals as goal
-use Rattle.plan_strokes.proofs.price_of.Lts as lts
-use Rattle.plan_strokes.proofs.price_of.Reads as reads
-use Rattle.plan_strokes.proofs.price_of.Tie as tie
+use Rattle.plan_strokes.proofs.price_of.Goals.{After-unsigned_abs}
 
-pub loop-i-init : goal.loop-i-init
-loop-i-init c = pricing-start c.args.times.now c.args.count (omega (arith, c.requires.0, c.requires.1))
+pub loop-z-init : goal.loop-z-init
+loop-z-init c = pricing-start (take c.args.count c.args.times.now)
 
 -- what one turn adds
-module _ (c : lts.After-magnitude tie.the-claims reads.Pre reads.Post goal.the-invariant-loop-i goal.the-decreases-loop-i) where
-  abbrev l : lts.At-loop tie.the-claims reads.Pre reads.Post goal.the-invariant-loop-i goal.the-decreases-loop-i
-  l = c.before.before.before
-
-  added : c.magnitude.result ≡ nat_abs (get_or l.args.times.now l.loop-i.i (pos 0))
+module _ (c : After-unsigned_abs) where
+  added : c.unsigned_abs.result ≡ nat_abs (get_or (take c.args.count c.args.times.now) c.loop-z.z-index (pos 0))
   added =
-      let a : SFits w64 (get_or l.args.times.now l.loop-i.i (pos 0)) = search rules in
-      simp (to_z-of_z, a) at c.magnitude.ensures
+      let a : SFits w64 (get_or (take c.args.count c.args.times.now) c.loop-z.z-index (pos 0)) = search rules in
+      simp (to_z-of_z, a) at c.unsigned_abs.ensures.value
 
-  few : c.magnitude.result ≤ 1000000000
-  few = omega (arith, added, stroke-few l.loop-i.invariant c.loop-i-test.true l.requires.2)
+  few : c.unsigned_abs.result ≤ 1000000000
+  few = omega (arith, added, (c.requires.2 c.loop-z.z-index).within)
 
 pub overflow_add-price : goal.overflow_add-price
 overflow_add-price c = omega (arith, few c)
 
-pub overflow_add-price-in-loop-i : goal.overflow_add-price-in-loop-i
-overflow_add-price-in-loop-i c = let g = (l c).loop-i.invariant in omega (arith, few c, g.few, g.bound, (l c).before.requires.0)
+pub overflow_add-price-in-loop-z : goal.overflow_add-price-in-loop-z
+overflow_add-price-in-loop-z c =
+    let g = c.loop-z.invariant in omega (arith, few c, g.few, g.bound, length-take c.args.count c.args.times.now, c.requires.0)
 
-pub loop-i-preserved : goal.loop-i-preserved
-loop-i-preserved c = pricing-next (l c).loop-i.invariant c.loop-i-test.true (l c).before.requires.2 c.magnitude.result (added c)
+pub loop-z-preserved : goal.loop-z-preserved
+loop-z-preserved c = pricing-next c.loop-z.invariant c.loop-z-test.true c.requires.2 c.unsigned_abs.result (added c)
 
 pub returns : goal.returns
-returns c = let g = c.loop-i.invariant in (pricing-end g c.loop-i-test.false, omega (arith, g.few, g.bound, c.requires.0))
+returns c =
+    let g = c.loop-z.invariant in
+    (pricing-end g c.loop-z-test.false, omega (arith, g.few, g.bound, length-take c.args.count c.args.times.now, c.requires.0))

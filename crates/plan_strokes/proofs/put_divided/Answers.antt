@@ -124,7 +124,8 @@ returns-then-marks-block-eq-QUOTIENT c =
     let x : SFits w64 c.quotient-quotient.result = search rules in
     let y : SFits w64 r.residue-residue.result = search rules in
     let m = more-as (ap₂ (λ (a b : ℤ). a ∷ b ∷ []) (residue-is r) (quotient_is r)) (simp (to_z-of_z, x, y) at c.put_two.ensures) in
-    more-as (quotient-strokes s.args.marks.now s.args.numbers.now s.args.e _ c.if-marks-block-eq-QUOTIENT.true) (then (divided c.before.before.before.before.before) m)
+    more-as (quotient-strokes s.args.marks.now s.args.numbers.now s.args.e _ c.if-marks-block-eq-QUOTIENT.true)
+    (then (divided c.before.before.before.before.before) m)
 
 pub put_two-requires-2 : goal.put_two-requires-2
 put_two-requires-2 c = room c.before.before.before.before
@@ -136,4 +137,5 @@ returns c =
     let x : SFits w64 c.quotient-quotient.result = search rules in
     let y : SFits w64 r.residue-residue.result = search rules in
     let m = more-as (ap₂ (λ (a b : ℤ). a ∷ b ∷ []) (quotient_is r) (residue-is r)) (simp (to_z-of_z, x, y) at c.put_two-2.ensures) in
-    more-as (residue-strokes s.args.marks.now s.args.numbers.now s.args.e _ (omega (arith, s.requires.4, c.if-marks-block-eq-QUOTIENT.false))) (then (divided c.before.before.before.before.before) m)
+    more-as (residue-strokes s.args.marks.now s.args.numbers.now s.args.e _ (omega (arith, s.requires.4, c.if-marks-block-eq-QUOTIENT.false)))
+    (then (divided c.before.before.before.before.before) m)

@@ -10,9 +10,7 @@ use lib.ListN.{get_or}
 use Rattle.plan_strokes.proofs.Making.{holding-start, holding-last, holding-next, holding-end}
 use borrow.Author.Rules.{rules}
 use Rattle.plan_strokes.proofs.put_held.Goals as goal
-use Rattle.plan_strokes.proofs.put_held.Lts as lts
-use Rattle.plan_strokes.proofs.put_held.Reads as reads
-use Rattle.plan_strokes.proofs.put_held.Tie as tie
+use Rattle.plan_strokes.proofs.put_held.Goals.{After-put_result-place}
 
 pub loop-e-init : goal.loop-e-init
 loop-e-init c =
@@ -24,7 +22,7 @@ put_result-place-requires c =
     (omega (arith, g.few, c.loop-e-test.true, c.requires.3), g.long, c.requires.2, omega (arith, c.loop-e-test.true, c.requires.3))
 
 -- the last stroke is one of the times
-last : (c : lts.After-put_result tie.the-claims reads.Pre reads.Post goal.the-invariant-loop-e goal.the-decreases-loop-e) → (1 ≤ c.put_result-place.result) × (c.put_result-place.result ≤ 33)
+last : (c : After-put_result-place) → (1 ≤ c.put_result-place.result) × (c.put_result-place.result ≤ 33)
 last c =
     holding-last c.loop-e.invariant (omega (arith, c.loop-e-test.true, c.requires.3)) c.put_result-place.ensures
 

@@ -4,6 +4,9 @@ use native.Mathlib.Omega.{arith}
 use mir.Facts.{to_z-of_z}
 use mir.Syntax.{w64}
 use mir.Val.{SFits}
+use mathlib.Core.Path.{refl}
+use lib.IntN.{pos}
+use lib.ListN.{get_or}
 use Rattle.plan_strokes.proofs.Making.{setting-start, setting-next, setting-end}
 use borrow.Author.Rules.{rules}
 use Rattle.plan_strokes.proofs.put_sets.Goals as goal
@@ -19,10 +22,9 @@ put_two-place-requires c =
 pub loop-e-preserved : goal.loop-e-preserved
 loop-e-preserved c =
     let v = c.value_of-before in
-    let r = c.held_in in
     let a : SFits w64 v.result = search rules in
-    let b : SFits w64 r.result = search rules in
-    setting-next c.loop-e.invariant (omega (arith, c.requires.4, c.loop-e-test.true)) v.ensures r.ensures
+    let b : SFits w64 (get_or c.args.results.now c.loop-e.e (pos 0)) = search rules in
+    setting-next c.loop-e.invariant (omega (arith, c.requires.4, c.loop-e-test.true)) v.ensures refl
     (simp (to_z-of_z, a, b) at c.put_two-place.ensures)
 
 pub returns : goal.returns

@@ -58,7 +58,9 @@ returns c =
     let at = p.put_result-behind.result - 1 in
     let a : SFits w64 (get_or times at (pos 0)) = search rules in
     let b : SFits w64 v.result = search rules in
-    let set_first = setting-next (setting-start (s p).args.marks.now (set results 0 (get_or times at (pos 0))) (integer_at (take (s p).args.n (s p).args.values.now))
-    times at (made p).long) (omega (arith, (s p).requires.4)) v.ensures (sym (get_or-set_same results 0 (get_or times at (pos 0)) (pos 0) (omega (arith, (s p).requires.1))))
+    let held = sym (get_or-set_same results 0 (get_or times at (pos 0)) (pos 0) (omega (arith, (s p).requires.1))) in
+    let none_set = setting-start (s p).args.marks.now (set results 0 (get_or times at (pos 0)))
+    (integer_at (take (s p).args.n (s p).args.values.now)) times at (made p).long in
+    let set_first = setting-next none_set (omega (arith, (s p).requires.4)) v.ensures held
     (simp (to_z-of_z, a, b) at c.put_two.ensures) in
     rw (to_z-of_z a) (one-made (s p).requires.2 (made p) (s p).requires.3 (s p).requires.4 (setting-end set_first (omega (arith, (s p).requires.4))))

@@ -11,8 +11,7 @@ use Rattle.plan_strokes.proofs.put_terms.Goals as goal
 pub loop-i-init : goal.loop-i-init
 loop-i-init c = (
   draining-start c.args.marks.now c.args.e _ c.args.times.now c.args.at c.requires.1,
-  rw c.wide16.ensures at
-      c.lesser-k.ensures,
+  c.min-k.ensures,
 )
 
 pub put_two-count-requires : goal.put_two-count-requires

@@ -10,7 +10,8 @@ use Rattle.restricted_judge.proofs.judge_runs.Given as goal
 
 abbrev pub invariant-loop-i : goal.invariant-loop-i
 invariant-loop-i l =
-    Walking l.file l.plan l.places l.count l.steps (state_of l.initial.values l.initial.modes) l.i (state_of l.values l.modes) × Held l.file l.count l.tags l.marks l.numbers × (length l.tags ≡ length l.initial.tags)
+    Walking l.file l.plan l.places l.count l.steps (state_of l.initial.values l.initial.modes) l.i (state_of l.values l.modes)
+    × Held l.file l.count l.tags l.marks l.numbers × (length l.tags ≡ length l.initial.tags)
 
 abbrev pub decreases-loop-i : goal.decreases-loop-i
 decreases-loop-i l = l.steps - l.i

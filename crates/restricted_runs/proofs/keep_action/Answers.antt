@@ -5,11 +5,8 @@ use Rattle.restricted_runs.proofs.keep_action.Goals as goal
 pub returns-then-tags-slot : goal.returns-then-tags-slot
 returns-then-tags-slot c = kept-already c.requires.3 c.requires.2 c.requires.1 c.if-tags-slot.true
 
-pub decode_restricted-requires : goal.decode_restricted-requires
-decode_restricted-requires c = c.requires.3.rows_long c.args.slot c.requires.2
-
 pub returns : goal.returns
 returns c =
     let says = c.decode_restricted.ensures in
     kept_put c.args.k c.requires.3 c.requires.2 _ _ says.marks_long says.numbers_long
-    (decoded-action c.args.k c.requires.0 c.requires.1 (rw c.wide-number.ensures at c.part-bytes.ensures) says)
+    (decoded-action c.args.k c.requires.0 c.requires.1 c.part-bytes.ensures says)

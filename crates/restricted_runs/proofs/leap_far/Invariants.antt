@@ -6,7 +6,8 @@ use Rattle.restricted_runs.specs.Repeats.{Leapt}
 use Rattle.restricted_runs.proofs.leap_far.Given as goal
 
 abbrev pub invariant-loop-times : goal.invariant-loop-times
-invariant-loop-times l = Leapt (row_is l.marks l.numbers) (state_of l.initial.values l.initial.modes) l.most l.taken (state_of l.values l.modes) × (l.taken + l.times ≤ l.most)
+invariant-loop-times l =
+    Leapt (row_is l.marks l.numbers) (state_of l.initial.values l.initial.modes) l.most l.taken (state_of l.values l.modes) × (l.taken + l.times ≤ l.most)
 
 abbrev pub decreases-loop-times : goal.decreases-loop-times
 decreases-loop-times l = l.times

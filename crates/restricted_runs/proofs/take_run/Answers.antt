@@ -10,7 +10,8 @@ use Rattle.restricted_runs.proofs.take_run.Goals as goal
 pub returns-then-not-take : goal.returns-then-not-take
 returns-then-not-take c =
     let can = c.requires in
-    run-stops (run-start (omega (arith, can.more)) can.can_take.within) can.more can.takes (sym (rw (not-true c.take.result (ap not c.if-not-take.true)) at c.take.ensures))
+    run-stops (run-start (omega (arith, can.more)) can.can_take.within) can.more can.takes
+    (sym (rw (not-true c.take.result (ap not c.if-not-take.true)) at c.take.ensures))
 
 pub returns-then-next-steps : goal.returns-then-next-steps
 returns-then-next-steps c =

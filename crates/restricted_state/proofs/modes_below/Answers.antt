@@ -1,31 +1,17 @@
--- `restricted_state::modes_below` meets its contract: the modes not yet tested decide what all of them do. Assumes nothing.
-use mathlib.Core.Path.{refl}
-use borrow.Author.Tests.{lt-ltb, le-ltb}
-use Rattle.restricted_state.proofs.Tests.{below-every}
-use Rattle.restricted_step.proofs.Loops.{test-start, test-next, test-stop, test-end}
-use native.Mathlib.Omega.{arith}
+-- `restricted_state::modes_below` meets its contract. Assumes nothing.
+use mathlib.Core.Path.{sym, ◌∙◌}
+use lib.ListN.{take}
 use borrow.Author.Rules.{rules}
+use Rattle.std.proofs.Common.{tests}
+use Rattle.std.proofs.lemmas.Iterator.{YieldsList-from_slice, YieldsList-from_zip}
+use Rattle.std.proofs.lemmas.Iterator.Search.{all_from_yields_List}
+use Rattle.restricted_state.proofs.Tests.{is_below, below-every}
 use Rattle.restricted_state.proofs.modes_below.Goals as goal
-
-pub loop-i-init : goal.loop-i-init
-loop-i-init c = test-start refl
-
-pub offset_bounds-modes-i : goal.offset_bounds-modes-i
-offset_bounds-modes-i c = search (rules, arith)
-
-pub offset_bounds-sizes-i : goal.offset_bounds-sizes-i
-offset_bounds-sizes-i c = search (rules, arith)
-
-pub returns-then-modes-i : goal.returns-then-modes-i
-returns-then-modes-i c =
-    rw (below-every c.args.m c.args.sizes.now c.args.modes.now c.requires.2 c.requires.1) (test-stop c.loop-i.invariant c.loop-i-test.true (le-ltb _ _ c.if-modes-i.true))
-
-pub overflow_add-i : goal.overflow_add-i
-overflow_add-i c = search (rules, arith)
-
-pub loop-i-preserved : goal.loop-i-preserved
-loop-i-preserved c = test-next c.loop-i.invariant c.loop-i-test.true (lt-ltb _ _ c.if-modes-i.false)
 
 pub returns : goal.returns
 returns c =
-    rw (below-every c.args.m c.args.sizes.now c.args.modes.now c.requires.2 c.requires.1) (test-end c.loop-i.invariant c.loop-i-test.false)
+    let modes = take c.args.m c.args.modes.now in
+    let sizes = take c.args.m c.args.sizes.now in
+    all_from_yields_List is_below c.all.new.self _ _ c.all.ensures.ran
+    (YieldsList-from_zip (YieldsList-from_slice modes (search rules)) (YieldsList-from_slice sizes (search rules))) (λ x b q k. search (rules, tests))
+    ∙ sym (below-every sizes modes)

@@ -1,23 +1,27 @@
 -- `restricted_state::step_accepted` meets its contract: the rows are those of the action that has the bytes, the counts and sizes are the task's.
 -- Assumes nothing.
-use native.Mathlib.Omega.{arith}
-use Rattle.integers.specs.Numbers.{Bytes}
+use mathlib.Core.Path.{◌∙◌}
+use mathlib.Core.Bool.{true, false}
+use borrow.Author.Rules.{rules}
 use Rattle.file_actions.proofs.Accepted.{bytes-of}
 use Rattle.restricted_state.proofs.Accepting.{row-for, step-taken}
 use Rattle.restricted_state.proofs.step_accepted.Goals as goal
-use Rattle.restricted_state.proofs.step_accepted.Lts as lts
-use Rattle.restricted_state.proofs.step_accepted.Reads as reads
-use Rattle.restricted_state.proofs.step_accepted.Tie as tie
 
-file-bytes : (r : lts.After-read_restricted tie.the-claims reads.Pre reads.Post) → Bytes r.args.file.now
-file-bytes r = bytes-of r.args.file.now (λ i. omega (arith, r.shared_slice_known-1.given i))
+pub step-requires : goal.step-requires
+step-requires c =
+    let bytes = bytes-of c.args.file.now (λ i. search rules) in
+    row-for c.args.file.now bytes c.requires.number c.requires.are c.read_restricted-declared.ensures c.decode_restricted.ensures
 
-pub step-stepped-requires : goal.step-stepped-requires
-step-stepped-requires c =
-    row-for c.args.file.now (file-bytes c.before.before.before.before.before.before.before) c.requires.number c.requires.are c.read_restricted-declared.ensures c.decode_restricted.ensures
+pub returns-in-Some : goal.returns-in-Some
+returns-in-Some c =
+    let bytes = bytes-of c.args.file.now (λ i. search rules) in
+    record { meets = λ k of. step-taken c.args.file.now bytes k of c.read_restricted-declared.ensures c.decode_restricted.ensures _ _ true c.in-Some.ensures }
 
-pub returns : goal.returns
-returns c =
+pub returns-in-None : goal.returns-in-None
+returns-in-None c =
+    let bytes = bytes-of c.args.file.now (λ i. search rules) in
     record {
-      meets = λ k of. rw c.step_verdict.ensures (step-taken c.args.file.now (file-bytes c.before.before.before.before.before.before.before.before.before.before) k of c.read_restricted-declared.ensures c.decode_restricted.ensures _ _ _ c.step-stepped.ensures);
+      meets = λ k of.
+          rw c.at.ensures at c.answer_refused.ensures
+          ∙ step-taken c.args.file.now bytes k of c.read_restricted-declared.ensures c.decode_restricted.ensures _ _ false c.in-None.ensures;
     }

@@ -23,11 +23,13 @@ below e = sym e.modes_below.ensures ∙ not-false _ (ap not e.if-not-modes_below
 
 pub returns-then-not-values_within : goal.returns-then-not-values_within
 returns-then-not-values_within c =
-    values-stop c.requires.2 c.args.values.now c.args.modes.now c.requires.0 c.requires.1 (sym c.values_within.ensures ∙ not-true _ (ap not c.if-not-values_within.true))
+    values-stop c.requires.2 c.args.values.now c.args.modes.now c.requires.0 c.requires.1
+    (sym c.values_within.ensures ∙ not-true _ (ap not c.if-not-values_within.true))
 
 pub returns-then-not-modes_below : goal.returns-then-not-modes_below
 returns-then-not-modes_below c =
-    modes-stop c.requires.2 c.args.values.now c.args.modes.now c.requires.0 c.requires.1 (sym c.modes_below.ensures ∙ not-true _ (ap not c.if-not-modes_below.true))
+    modes-stop c.requires.2 c.args.values.now c.args.modes.now c.requires.0 c.requires.1
+    (sym c.modes_below.ensures ∙ not-true _ (ap not c.if-not-modes_below.true))
 
 pub take-requires : goal.take-requires
 take-requires c =
@@ -40,16 +42,23 @@ returns-then-not-take c =
     (rw c.copy_front.ensures at (rw (not-true c.take.result (ap not c.if-not-take.true)) at c.take.ensures))
 
 -- the step by rows was taken
-went : (c : lts.Else3 tie.the-claims reads.Pre reads.Post) → some (state_of c.take.new.values c.take.new.modes) ≡ step_by (row_is c.args.marks.now c.args.numbers.now) (state_of (front c.args.n c.args.values.now) c.args.modes.now)
+went : (c : lts.Else3 tie.the-claims reads.Pre reads.Post)
+    → some (state_of c.take.new.values c.take.new.modes) ≡ step_by (row_is c.args.marks.now c.args.numbers.now)
+    (state_of (front c.args.n c.args.values.now) c.args.modes.now)
 went c =
     rw c.copy_front.ensures at (rw (not-false c.take.result (ap not c.if-not-take.false)) at c.take.ensures)
 
 pub copy_front-requires-2 : goal.copy_front-requires-2
 copy_front-requires-2 c =
-    let e = c.before.before.before.before.before.before.before.before in
-    (c.requires.2.variables_few, c.requires.0, front_long c.requires.2 c.args.values.now c.args.modes.now c.requires.0 c.requires.1 (within e) (below e) (went c.before.before))
+    let e = c.before.before.before.before.before.before.before.before in (
+      c.requires.2.variables_few,
+      c.requires.0,
+      front_long c.requires.2 c.args.values.now c.args.modes.now c.requires.0 c.requires.1 (within e)
+          (below e) (went c.before.before),
+    )
 
 pub returns : goal.returns
 returns c =
     let e = c.before.before.before.before.before.before.before.before.before in
-    rw c.copy_front-2.ensures (step-goes c.requires.2 c.args.values.now c.args.modes.now c.requires.0 c.requires.1 (within e) (below e) (went c.before.before.before))
+    rw c.copy_front-2.ensures
+    (step-goes c.requires.2 c.args.values.now c.args.modes.now c.requires.0 c.requires.1 (within e) (below e) (went c.before.before.before))

@@ -5,11 +5,7 @@ use Rattle.restricted_step.proofs.Effects.{put_mode}
 use Rattle.file_parts.specs.Layout.{mode_effect_count}
 use Rattle.file_parts.specs.Row.{mode_effect_in}
 use Rattle.restricted_step.proofs.Loops.{Changing}
-use Prim.Native.Nat.{◌-◌}
 use Rattle.restricted_step.proofs.set_all.Given as goal
 
 abbrev pub invariant-loop-i : goal.invariant-loop-i
 invariant-loop-i l = Changing put_mode (natural_at l.marks mode_effect_count) (mode_effect_in l.marks) l.count l.i l.initial.modes l.modes
-
-abbrev pub decreases-loop-i : goal.decreases-loop-i
-decreases-loop-i l = l.count - l.i

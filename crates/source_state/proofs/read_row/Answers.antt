@@ -16,7 +16,7 @@ use Rattle.source_state.proofs.read_row.Goals as goal
 pub put_sums-requires : goal.put_sums-requires
 put_sums-requires c =
     let file = c.args.file.now in
-    let bytes = bytes-of file (λ i. omega (arith, c.shared_slice_known-1.given i)) in
+    let bytes = bytes-of file (λ i. omega (arith, c.type_inv.file i)) in
     let k = c.requires.bytes_of_some.0.number in
     let of = c.requires.bytes_of_some.0.are in
     let g = given-of source_limits file k of in
@@ -30,7 +30,7 @@ name_sums-requires c =
 pub put_row-requires : goal.put_row-requires
 put_row-requires c =
     let file = c.args.file.now in
-    let bytes = bytes-of file (λ i. omega (arith, c.shared_slice_known-1.given i)) in
+    let bytes = bytes-of file (λ i. omega (arith, c.type_inv.file i)) in
     let k = c.requires.bytes_of_some.0.number in
     let of = c.requires.bytes_of_some.0.are in
     let g = given-of source_limits file k of in
@@ -46,7 +46,7 @@ put_row-requires c =
 pub returns : goal.returns
 returns c =
     let file = c.args.file.now in
-    let bytes = bytes-of file (λ i. omega (arith, c.shared_slice_known-1.given i)) in
+    let bytes = bytes-of file (λ i. omega (arith, c.type_inv.file i)) in
     let held = source-held zero_room c.read_source-declared.ensures in
     let h = held (task-of file 0) (task-by file c.requires.bytes_of_some.0.number c.requires.bytes_of_some.0.are) in
     let own = c.decode_sums-own in

@@ -6,14 +6,13 @@ use Prim.Native.Nat.{ℕ}
 use mir.Facts.{to_z-of_z}
 use mir.Syntax.{w64}
 use mir.Val.{SFits}
-use borrow.Author.Tests.{not-false}
 use Rattle.model.specs.Steps.{integer_at}
 use Rattle.source_step.proofs.Results.{Passed, none_passed, one-passed, stopped}
 use borrow.Author.Rules.{rules}
-use mathlib.Core.Path.{ap}
-use mathlib.Core.Bool.{not}
 use Rattle.source_step.proofs.first_outside.Goals as goal
-use Rattle.source_step.proofs.first_outside.Goals.{then-count-lt1-via-then-count-lt1, then-count-lt1-via-else-count-lt1+then-not-stays, then-count-lt2-via-then-count-lt2, then-count-lt2-via-else-count-lt2+then-not-stays-2, then-count-lt3-via-then-count-lt3, then-count-lt3-via-else-count-lt3+then-not-stays-3}
+use Rattle.source_step.proofs.first_outside.Goals.{then-count-lt1-via-then-count-lt1, then-count-lt1-via-else-count-lt1+then-not-stays}
+use Rattle.source_step.proofs.first_outside.Goals.{then-count-lt2-via-then-count-lt2, then-count-lt2-via-else-count-lt2+then-not-stays-2}
+use Rattle.source_step.proofs.first_outside.Goals.{then-count-lt3-via-then-count-lt3, then-count-lt3-via-else-count-lt3+then-not-stays-3}
 use Rattle.source_step.proofs.first_outside.Lts as lts
 use Rattle.source_step.proofs.first_outside.Reads as reads
 use Rattle.source_step.proofs.first_outside.Tie as tie
@@ -39,7 +38,7 @@ one : (c : lts.Else2 tie.the-claims reads.Pre reads.Post) → Are-passed c.befor
 one c =
     let x : SFits w64 (integer_at c.args.results.now 0) = search rules in
     one-passed (none c.before.before.before.before) (omega (arith, c.if-count-lt1.false))
-    (sym (rw (to_z-of_z x) at c.stays.ensures) ∙ not-false _ (ap not c.if-not-stays.false))
+    (sym (rw (to_z-of_z x) at c.stays.ensures) ∙ c.if-not-stays.false)
 
 pub returns-then-count-lt2 : goal.returns-then-count-lt2
 returns-then-count-lt2 c =
@@ -54,7 +53,8 @@ returns-then-count-lt2 c =
 two : (c : lts.Else4 tie.the-claims reads.Pre reads.Post) → Are-passed c.before.before.before.before.before.before.before.before 2
 two c =
     let x : SFits w64 (integer_at c.args.results.now 1) = search rules in
-    one-passed (one c.before.before.before.before) (omega (arith, c.if-count-lt2.false)) (sym (rw (to_z-of_z x) at c.stays-else-count-lt2.ensures) ∙ not-false _ (ap not c.if-not-stays-2.false))
+    let stays = sym (rw (to_z-of_z x) at c.stays-else-count-lt2.ensures) ∙ c.if-not-stays-2.false in
+    one-passed (one c.before.before.before.before) (omega (arith, c.if-count-lt2.false)) stays
 
 pub returns-then-count-lt3 : goal.returns-then-count-lt3
 returns-then-count-lt3 c =
@@ -69,5 +69,6 @@ returns-then-count-lt3 c =
 pub returns : goal.returns
 returns c =
     let x : SFits w64 (integer_at c.args.results.now 2) = search rules in
-    stopped (one-passed (two c.before.before.before.before) (omega (arith, c.if-count-lt3.false)) (sym (rw (to_z-of_z x) at c.stays-else-count-lt3.ensures) ∙ not-false _ (ap not c.if-not-stays-3.false)))
+    let stays = sym (rw (to_z-of_z x) at c.stays-else-count-lt3.ensures) ∙ c.if-not-stays-3.false in
+    stopped (one-passed (two c.before.before.before.before) (omega (arith, c.if-count-lt3.false)) stays)
     (λ l. absurd (omega (arith, l, c.effect_count-count.ensures)))

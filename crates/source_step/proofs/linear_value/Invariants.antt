@@ -1,6 +1,6 @@
 -- `source_step::linear_value` meets its contract. The loop's invariant: the sum with the terms that are left is the sum of all terms, and each
 -- term adds 100,000,000 at most. Assumes nothing.
-use Prim.Native.Nat.{◌+◌, ◌*◌, ◌-◌, ◌≤◌}
+use Prim.Native.Nat.{◌+◌, ◌*◌, ◌≤◌}
 use lib.IntN.{nat_abs}
 use lib.ListN.{take}
 use Rattle.model.specs.Steps.{integer_at, linear}
@@ -14,6 +14,3 @@ invariant-loop-i l =
     Left (terms_at l.marks l.numbers l.e) l.count (λ j. (variable_at l.marks l.e j, weight_at l.numbers l.e j)) l.i (λ ts. linear l.sum ts v)
     (linear (constant_at l.numbers l.e) (terms_at l.marks l.numbers l.e) v)
     × (nat_abs l.sum ≤ 10000 + l.i * 100000000) × (l.count ≤ 4)
-
-abbrev pub decreases-loop-i : goal.decreases-loop-i
-decreases-loop-i l = l.count - l.i

@@ -1,7 +1,7 @@
 -- `source_step::modes_in` meets its contract. Assumes nothing.
 use mathlib.Core.Bool.{Bool, ◌&&◌}
 use mathlib.Core.List.{List}
-use Prim.Native.Nat.{ℕ, ◌+◌, ◌-◌}
+use Prim.Native.Nat.{ℕ, ◌+◌}
 use lib.Dec.{leb}
 use Rattle.lists.specs.Each.{tabulate}
 use Rattle.lists.specs.Loops.{every}
@@ -15,6 +15,3 @@ test marks modes j = leb (natural_at marks j) (natural_at modes j) && leb (natur
 
 abbrev pub invariant-loop-i : goal.invariant-loop-i
 invariant-loop-i l = Left (tabulate l.m (test l.marks l.modes)) l.m (test l.marks l.modes) l.i (every (λ b. b)) (modes_in l.m l.marks l.modes)
-
-abbrev pub decreases-loop-i : goal.decreases-loop-i
-decreases-loop-i l = l.m - l.i

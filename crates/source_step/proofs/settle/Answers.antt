@@ -5,11 +5,8 @@ use mir.Facts.{to_z-of_z}
 use mir.Syntax.{w64}
 use mir.Val.{SFits}
 use borrow.Author.Rules.{rules}
-use borrow.Author.Tests.{not-true, not-false}
 use Rattle.source_step.specs.Row.{effect_count_at, result_at, stays_at}
 use Rattle.source_step.proofs.Single.{none-settles, one-leaves, one-settles}
-use mathlib.Core.Path.{ap}
-use mathlib.Core.Bool.{not}
 use Rattle.source_step.proofs.settle.Goals as goal
 use Rattle.source_step.proofs.settle.Lts as lts
 use Rattle.source_step.proofs.settle.Reads as reads
@@ -33,10 +30,10 @@ tests c =
 
 pub returns-then-not-stays : goal.returns-then-not-stays
 returns-then-not-stays c =
-    one-leaves _ _ _ _ (one c.before.before) (tests c.before ∙ not-true _ (ap not c.if-not-stays.true))
+    one-leaves _ _ _ _ (one c.before.before) (tests c.before ∙ c.if-not-stays.true)
 
 pub returns : goal.returns
 returns c =
     let e = c.before.before.before.before.before.before.before in
     let x : SFits w64 c.args.res = search rules in
-    one-settles _ _ _ _ (one e) (tests c.before.before.before.before.before.before ∙ not-false _ (ap not c.if-not-stays.false)) (rw (to_z-of_z x, given e) at c.set_value.ensures)
+    one-settles _ _ _ _ (one e) (tests c.before.before.before.before.before.before ∙ c.if-not-stays.false) (rw (to_z-of_z x, given e) at c.set_value.ensures)

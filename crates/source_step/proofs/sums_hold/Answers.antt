@@ -3,11 +3,8 @@ use mathlib.Core.Path.{sym, ◌∙◌}
 use native.Mathlib.Nat.{add-zero}
 use native.Mathlib.Omega.{arith}
 use Prim.Native.Nat.{ℕ}
-use borrow.Author.Tests.{not-true, not-false}
 use Rattle.source_step.proofs.Sums.{SumsLeft, all_left, none_left, sum-passes, sum-fails, last-decides}
 use borrow.Author.Rules.{rules}
-use mathlib.Core.Path.{ap}
-use mathlib.Core.Bool.{not}
 use Rattle.source_step.proofs.sums_hold.Goals as goal
 use Rattle.source_step.proofs.sums_hold.Lts as lts
 use Rattle.source_step.proofs.sums_hold.Reads as reads
@@ -30,12 +27,12 @@ sum_holds-requires c =
 pub returns-then-not-sum_holds : goal.returns-then-not-sum_holds
 returns-then-not-sum_holds c =
     sum-fails (from_first c.before.before.before) (omega (arith, c.if-count-lt1.false))
-    (rw (add-zero c.args.first) (sym c.sum_holds.ensures ∙ not-true _ (ap not c.if-not-sum_holds.true)))
+    (rw (add-zero c.args.first) (sym c.sum_holds.ensures ∙ c.if-not-sum_holds.true))
 
 from_second : (c : lts.Else2 tie.the-claims reads.Pre reads.Post) → Are-left c.before.before.before 1
 from_second c =
     sum-passes (from_first c.before.before.before) (omega (arith, c.if-count-lt1.false))
-    (rw (add-zero c.args.first) (sym c.sum_holds.ensures ∙ not-false _ (ap not c.if-not-sum_holds.false)))
+    (rw (add-zero c.args.first) (sym c.sum_holds.ensures ∙ c.if-not-sum_holds.false))
 
 pub returns-then-count-lt2 : goal.returns-then-count-lt2
 returns-then-count-lt2 c = none_left (from_second c.before) (omega (arith, c.if-count-lt2.true))
@@ -49,11 +46,11 @@ sum_holds-requires-2 c =
 
 pub returns-then-not-sum_holds-2 : goal.returns-then-not-sum_holds-2
 returns-then-not-sum_holds-2 c =
-    sum-fails (from_second c.before.before.before) (omega (arith, c.if-count-lt2.false)) (sym c.sum_holds-2.ensures ∙ not-true _ (ap not c.if-not-sum_holds-2.true))
+    sum-fails (from_second c.before.before.before) (omega (arith, c.if-count-lt2.false)) (sym c.sum_holds-2.ensures ∙ c.if-not-sum_holds-2.true)
 
 from-third : (c : lts.Else4 tie.the-claims reads.Pre reads.Post) → Are-left c.before.before.before.before.before.before 2
 from-third c =
-    sum-passes (from_second c.before.before.before) (omega (arith, c.if-count-lt2.false)) (sym c.sum_holds-2.ensures ∙ not-false _ (ap not c.if-not-sum_holds-2.false))
+    sum-passes (from_second c.before.before.before) (omega (arith, c.if-count-lt2.false)) (sym c.sum_holds-2.ensures ∙ c.if-not-sum_holds-2.false)
 
 pub returns-then-count-lt3 : goal.returns-then-count-lt3
 returns-then-count-lt3 c = none_left (from-third c.before) (omega (arith, c.if-count-lt3.true))
@@ -67,11 +64,11 @@ sum_holds-requires-3 c =
 
 pub returns-then-not-sum_holds-3 : goal.returns-then-not-sum_holds-3
 returns-then-not-sum_holds-3 c =
-    sum-fails (from-third c.before.before.before) (omega (arith, c.if-count-lt3.false)) (sym c.sum_holds-3.ensures ∙ not-true _ (ap not c.if-not-sum_holds-3.true))
+    sum-fails (from-third c.before.before.before) (omega (arith, c.if-count-lt3.false)) (sym c.sum_holds-3.ensures ∙ c.if-not-sum_holds-3.true)
 
 from-fourth : (c : lts.Else6 tie.the-claims reads.Pre reads.Post) → Are-left c.before.before.before.before.before.before.before.before.before 3
 from-fourth c =
-    sum-passes (from-third c.before.before.before) (omega (arith, c.if-count-lt3.false)) (sym c.sum_holds-3.ensures ∙ not-false _ (ap not c.if-not-sum_holds-3.false))
+    sum-passes (from-third c.before.before.before) (omega (arith, c.if-count-lt3.false)) (sym c.sum_holds-3.ensures ∙ c.if-not-sum_holds-3.false)
 
 pub returns-then-count-lt4 : goal.returns-then-count-lt4
 returns-then-count-lt4 c = none_left (from-fourth c.before) (omega (arith, c.if-count-lt4.true))

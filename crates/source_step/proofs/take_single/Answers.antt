@@ -6,13 +6,10 @@ use native.Mathlib.Omega.{arith}
 use mir.Facts.{to_z-of_z}
 use mir.Syntax.{w64}
 use mir.Val.{SFits}
-use borrow.Author.Tests.{not-true, not-false}
 use borrow.Author.Rules.{rules}
 use Rattle.source_step.specs.Row.{held}
 use Rattle.source_step.proofs.Sums.{no-sums}
 use Rattle.source_step.proofs.Taking.{RangesHold, out_of_range, sums-decide, read-in-range, not-held, behind-the-test}
-use mathlib.Core.Path.{ap}
-use mathlib.Core.Bool.{not}
 use Rattle.source_step.proofs.take_single.Goals as goal
 use Rattle.source_step.proofs.take_single.Lts as lts
 use Rattle.source_step.proofs.take_single.Reads as reads
@@ -22,12 +19,12 @@ pub returns-then-not-ranges_hold : goal.returns-then-not-ranges_hold
 returns-then-not-ranges_hold c =
     let sums = c.args.sums.now in
     not-held sums (out_of_range c.args.n c.args.m c.args.marks.now c.args.numbers.now sums c.args.values.now
-    c.args.modes.now (sym c.ranges_hold.ensures ∙ not-true _ (ap not c.if-not-ranges_hold.true)))
+    c.args.modes.now (sym c.ranges_hold.ensures ∙ c.if-not-ranges_hold.true))
 
 -- the ranges hold, and there is no condition on a sum
 in-range : (c : lts.Else2 tie.the-claims reads.Pre reads.Post) → RangesHold c.args.n c.args.m c.args.marks.now
     c.args.numbers.now c.args.values.now c.args.modes.now
-in-range c = record { passes = sym c.ranges_hold.ensures ∙ not-false _ (ap not c.if-not-ranges_hold.false) }
+in-range c = record { passes = sym c.ranges_hold.ensures ∙ c.if-not-ranges_hold.false }
 
 passed : (c : lts.Else2 tie.the-claims reads.Pre reads.Post) → held c.args.n c.args.m c.args.marks.now
     c.args.numbers.now c.args.sums.now c.args.values.now c.args.modes.now ≡ true

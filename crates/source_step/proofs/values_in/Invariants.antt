@@ -1,7 +1,7 @@
 -- `source_step::values_in` meets its contract. Assumes nothing.
 use mathlib.Core.Bool.{Bool}
 use mathlib.Core.List.{List}
-use Prim.Native.Nat.{ℕ, ◌+◌, ◌-◌}
+use Prim.Native.Nat.{ℕ, ◌+◌}
 use lib.IntN.{ℤ}
 use Rattle.integers.specs.Relation.{between}
 use Rattle.lists.specs.Each.{tabulate}
@@ -16,6 +16,3 @@ test numbers values j = between (integer_at numbers j) (integer_at numbers (8 + 
 
 abbrev pub invariant-loop-i : goal.invariant-loop-i
 invariant-loop-i l = Left (tabulate l.n (test l.numbers l.values)) l.n (test l.numbers l.values) l.i (every (λ b. b)) (values_in l.n l.numbers l.values)
-
-abbrev pub decreases-loop-i : goal.decreases-loop-i
-decreases-loop-i l = l.n - l.i

@@ -2,43 +2,25 @@
 -- goal come behind. Assumes nothing.
 use native.Mathlib.Omega.{arith}
 use mathlib.Core.Path.{sym, ◌∙◌}
-use borrow.Author.Tests.{not-true}
-use Rattle.integers.specs.Numbers.{Bytes}
 use Rattle.file_actions.proofs.Accepted.{bytes-of}
-use Rattle.file_actions.specs.Places.{goal_part}
-use Rattle.file_actions.specs.Views.{SumsDecoded}
-use Rattle.model.specs.Decoding.{sum_conditions_of}
-use Rattle.model.specs.ActionBytes.{decode_action}
 use Rattle.source_step.proofs.Judging.{few-actions}
 use Rattle.source_sums.proofs.NoSum.{no-sum-in-file}
 use Rattle.source_sums.proofs.Gathering.{gathered-start, small_at, gathered-room, gathered_next, small-in-goal, goal-room}
 use Rattle.source_sums.proofs.Gathering.{all_found, all-ask, none_found, none-ask}
 use borrow.Author.Rules.{rules}
-use mathlib.Core.Path.{ap}
-use mathlib.Core.Bool.{not}
 use Rattle.source_sums.proofs.find_sums.Goals as goals
-use Rattle.source_sums.proofs.find_sums.Lts as lts
-use Rattle.source_sums.proofs.find_sums.Reads as reads
-use Rattle.source_sums.proofs.find_sums.Tie as tie
-
--- the K's of the goal, which stands at the place behind the actions
-goal : (c : lts.After-goal_sums tie.the-claims reads.Pre reads.Post goals.the-invariant-loop-k goals.the-decreases-loop-k) → (SumsDecoded (sum_conditions_of (decode_action (goal_part c.args.file.now c.args.count))) c.goal_sums-own.result)
-goal c = rw (c.requires.1 c.args.count (omega arith)) at c.goal_sums-own.ensures
-
--- the file is one of bytes
-bytes : (c : lts.After-has_sum tie.the-claims reads.Pre reads.Post goals.the-invariant-loop-k goals.the-decreases-loop-k) → Bytes c.args.file.now
-bytes c = bytes-of c.args.file.now (λ i. omega (arith, c.shared_slice_known-1.given i))
 
 pub returns-then-not-has_sum : goals.returns-then-not-has_sum
 returns-then-not-has_sum c =
     let file = c.args.file.now in
-    let none = no-sum-in-file file (sym c.has_sum.ensures ∙ not-true _ (ap not c.if-not-has_sum.true)) in (
-      none_found file c.args.count (bytes c.before.before) c.requires.0 none c.requires.2,
-      none-ask file c.args.count (bytes c.before.before) c.requires.0 none c.requires.2,
+    let bytes = bytes-of file (λ i. search rules) in
+    let none = no-sum-in-file file (sym c.has_sum.ensures ∙ c.if-not-has_sum.true) in (
+      none_found file c.args.count bytes c.requires.0 none c.requires.2,
+      none-ask file c.args.count bytes c.requires.0 none c.requires.2,
     )
 
 pub loop-k-init : goals.loop-k-init
-loop-k-init c = gathered-start (bytes c.before.before) c.requires.2
+loop-k-init c = gathered-start (bytes-of c.args.file.now (λ i. search rules)) c.requires.2
 
 pub action_sums-own-requires : goals.action_sums-own-requires
 action_sums-own-requires c =
@@ -81,7 +63,7 @@ pub put_sums-requires-2 : goals.put_sums-requires-2
 put_sums-requires-2 c =
     let file = c.args.file.now in
     let inv = c.loop-k.invariant in
-    let own = goal c.before.before in (
+    let own = rw (c.requires.1 c.args.count (omega arith)) at c.goal_sums-own.ensures in (
       goal-room file c.args.count inv.bytes c.requires.0 own inv c.loop-k-test.false,
       small-in-goal file c.args.count inv.bytes c.requires.0 own,
       inv.blank,
@@ -90,15 +72,16 @@ put_sums-requires-2 c =
 pub overflow_add-result : goals.overflow_add-result
 overflow_add-result c =
     let inv = c.loop-k.invariant in
-    let room = goal-room c.args.file.now c.args.count inv.bytes c.requires.0 (goal c.before.before.before.before) inv c.loop-k-test.false in
+    let own = rw (c.requires.1 c.args.count (omega arith)) at c.goal_sums-own.ensures in
+    let room = goal-room c.args.file.now c.args.count inv.bytes c.requires.0 own inv c.loop-k-test.false in
     search rules
 
 pub returns : goals.returns
 returns c =
-    let g = c.before.before.before.before in
     let file = c.args.file.now in
+    let own = rw (c.requires.1 c.args.count (omega arith)) at c.goal_sums-own.ensures in
     let inv = c.loop-k.invariant in
     let put = c.put_sums-2.ensures in (
-      all_found file c.args.count inv.bytes c.requires.0 (goal g) inv c.loop-k-test.false put,
-      all-ask file c.args.count inv.bytes c.requires.0 (goal g) inv c.loop-k-test.false put,
+      all_found file c.args.count inv.bytes c.requires.0 own inv c.loop-k-test.false put,
+      all-ask file c.args.count inv.bytes c.requires.0 own inv c.loop-k-test.false put,
     )

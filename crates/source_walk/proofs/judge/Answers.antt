@@ -9,13 +9,12 @@ use Rattle.source_walk.proofs.Judging.{judgement-is}
 use Rattle.source_walk.proofs.judge.Goals as goal
 
 pub judge_steps-judged-requires : goal.judge_steps-judged-requires
-judge_steps-judged-requires c = let S = rw c.in-Ready.is at c.«open».ensures in (usables S.rows, S.plan_is.steps_are, S.plan_is.few, S.inside.shaped.modes_long)
+judge_steps-judged-requires c = let S = c.in-Ok.ensures in (usables S.rows, S.plan_is.steps_are, S.plan_is.few, S.inside.shaped.modes_long)
 
-pub returns-in-Refused : goal.returns-in-Refused
-returns-in-Refused c =
-    let s = c.args in
-    let o = rw c.in-Refused.is at c.«open».ensures in
-    c.refuse.ensures ∙ ap judgement_of (sym (refused-both judge_source_task s.file.now s.plan.now c.in-Refused.number c.in-Refused.place o.0))
+pub returns-in-Err : goal.returns-in-Err
+returns-in-Err c =
+    c.refuse.ensures ∙ ap judgement_of (sym (refused-both judge_source_task c.args.file.now c.args.plan.now _ _ c.in-Err.ensures.0))
 
-pub returns-in-Ready : goal.returns-in-Ready
-returns-in-Ready c = c.conclude.ensures ∙ ap (λ (j : Judging). with_state j.verdict j.state) c.judge_steps-judged.ensures ∙ judgement-is (rw c.in-Ready.is at c.«open».ensures) _
+pub returns-in-Ok : goal.returns-in-Ok
+returns-in-Ok c =
+    c.conclude.ensures ∙ ap (λ (j : Judging). with_state j.verdict j.state) c.judge_steps-judged.ensures ∙ judgement-is c.in-Ok.ensures _

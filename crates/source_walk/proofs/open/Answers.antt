@@ -1,5 +1,6 @@
 -- `source_walk::open` meets its contract: the file's refusals come first, then that of the plan's bytes; else the task is made ready. Assumes nothing.
 use mathlib.Core.Path.{refl}
+use Rattle.std.proofs.lemmas.Result.{err_from_is_err_and}
 use Rattle.source_walk.proofs.Opening.{file-refused, plan-refused, accepted-with, plan-of}
 use Rattle.source_walk.proofs.open.Goals as goal
 
@@ -7,26 +8,21 @@ pub make_ready-requires : goal.make_ready-requires
 make_ready-requires c =
     record {
       accepted_with = (
-        accepted-with c.args.file.now _ _ _ (rw c.in-Accepted.is at c.check_source.ensures),
-        plan-of c.args.plan.now _ (rw c.in-Steps.is at c.count_steps.ensures),
+        accepted-with c.args.file.now _ _ _ c.in_ok-accepted.ensures,
+        plan-of c.args.plan.now _ c.in_ok-steps.ensures,
         c.requires.0,
         c.requires.1,
       );
       values_value = (c.requires.2, c.requires.3);
     }
 
-pub returns-in-Rejected : goal.returns-in-Rejected
-returns-in-Rejected c =
-    (file-refused c.args.file.now c.args.plan.now _ _ (rw c.in-Rejected.is at c.check_source.ensures), refl, refl, refl, refl)
+pub returns-in_err-accepted : goal.returns-in_err-accepted
+returns-in_err-accepted c =
+    let p = err_from_is_err_and c.from_residual.result c.from_residual.ensures.1 in
+    rw (p.1, p.2) (file-refused c.args.file.now c.args.plan.now _ _ c.in_err-accepted.ensures, refl, refl, refl, refl)
 
-pub returns-in-Refused : goal.returns-in-Refused
-returns-in-Refused c = (
-  plan-refused c.args.file.now c.args.plan.now _ _ _ (rw c.in-Accepted.is at c.check_source.ensures) _ _ (rw c.in-Refused.is at c.count_steps.ensures),
-  refl,
-  refl,
-  refl,
-  refl,
-)
-
-pub returns-in-Steps : goal.returns-in-Steps
-returns-in-Steps c = c.make_ready.ensures
+pub returns-in_err-steps : goal.returns-in_err-steps
+returns-in_err-steps c =
+    let p = err_from_is_err_and c.from_residual-in_err-steps.result c.from_residual-in_err-steps.ensures.1 in
+    let refused = plan-refused c.args.file.now c.args.plan.now _ _ _ c.in_ok-accepted.ensures _ _ c.in_err-steps.ensures in
+    rw (p.1, p.2) (refused, refl, refl, refl, refl)

@@ -6,4 +6,4 @@ pub returns-then-priced : goal.returns-then-priced
 returns-then-priced c = rw c.if-priced.true (record { turn_of = at-its-price c.take_priced.ensures.turned; times_len = c.take_priced.ensures.times_len })
 
 pub returns : goal.returns
-returns c = rw c.if-priced.false (record { turn_of = at-no-price c.take-applied.ensures; times_len = c.requires.n_bound.3 })
+returns c = rw (c.if-priced.false, c.then_some.ensures) (record { turn_of = at-no-price c.take.result c.take.ensures; times_len = c.requires.n_bound.3 })

@@ -2,4 +2,4 @@
 use Rattle.source_ready.proofs.narrowing.mark.Goals as goal
 
 pub returns : goal.returns
-returns c = rw c.wide-i.ensures
+returns c = rw c.from-i.ensures

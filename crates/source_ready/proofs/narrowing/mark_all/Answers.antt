@@ -14,12 +14,12 @@ loop-i-init c =
 
 pub mark-requires : goal.mark-requires
 mark-requires c =
-    c.requires.each c.loop-i.i (omega (arith, c.loop-i-test.true, c.wide-count.ensures))
+    c.requires.each c.loop-i.i (omega (arith, c.loop-i-test.true, c.from-count.ensures))
 
 pub loop-i-preserved : goal.loop-i-preserved
 loop-i-preserved c =
-    let b : c.loop-i.i < natural_at c.args.parts.now mode_effect_count = omega (arith, c.loop-i-test.true, c.wide-count.ensures) in
+    let b : c.loop-i.i < natural_at c.args.parts.now mode_effect_count = omega (arith, c.loop-i-test.true, c.from-count.ensures) in
     left-next c.loop-i.invariant _ b (λ rest. ap (marked_all rest) c.mark.ensures)
 
 pub returns : goal.returns
-returns c = left-none c.loop-i.invariant (omega (arith, c.loop-i-test.false, c.wide-count.ensures))
+returns c = left-none c.loop-i.invariant (omega (arith, c.loop-i-test.false, c.from-count.ensures))

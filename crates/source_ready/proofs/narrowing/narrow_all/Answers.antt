@@ -20,15 +20,15 @@ loop-i-init c =
 
 pub narrow-requires : goal.narrow-requires
 narrow-requires c =
-    let b : c.loop-i.i < natural_at c.args.parts.now condition_count = omega (arith, c.loop-i-test.true, c.wide-count.ensures) in
+    let b : c.loop-i.i < natural_at c.args.parts.now condition_count = omega (arith, c.loop-i-test.true, c.from-count.ensures) in
     let a : SFits w64 (get_or c.args.constants.now c.loop-i.i (pos 0)) = search rules in
     simp (to_z-of_z, a) (c.requires.declared c.loop-i.i b, c.requires.in_range c.loop-i.i b)
 
 pub loop-i-preserved : goal.loop-i-preserved
 loop-i-preserved c =
-    let b : c.loop-i.i < natural_at c.args.parts.now condition_count = omega (arith, c.loop-i-test.true, c.wide-count.ensures) in
+    let b : c.loop-i.i < natural_at c.args.parts.now condition_count = omega (arith, c.loop-i-test.true, c.from-count.ensures) in
     let a : SFits w64 (get_or c.args.constants.now c.loop-i.i (pos 0)) = search rules in
     left-next c.loop-i.invariant _ b (λ rest. ap (narrowed_all rest) (simp (to_z-of_z, a) at c.narrow.ensures))
 
 pub returns : goal.returns
-returns c = left-none c.loop-i.invariant (omega (arith, c.loop-i-test.false, c.wide-count.ensures))
+returns c = left-none c.loop-i.invariant (omega (arith, c.loop-i-test.false, c.from-count.ensures))

@@ -1,5 +1,4 @@
 -- `source_ready::narrowing::narrow_all` meets its contract: what is left of the conditions makes of the row what all make of the first. Assumes nothing.
-use Prim.Native.Nat.{◌-◌}
 use Rattle.model.specs.Steps.{natural_at}
 use Rattle.source_step.proofs.Rows.{Left}
 use Rattle.file_parts.specs.Layout.{condition_count}
@@ -11,6 +10,3 @@ abbrev pub invariant-loop-i : goal.invariant-loop-i
 invariant-loop-i l =
     Left (conditions_in l.parts l.constants) (natural_at l.parts condition_count) (condition_in l.parts l.constants) l.i
     (λ cs. narrowed_all cs l.numbers) (narrowed_all (conditions_in l.parts l.constants) l.initial.numbers)
-
-abbrev pub decreases-loop-i : goal.decreases-loop-i
-decreases-loop-i l = l.count - l.i

@@ -1,8 +1,6 @@
--- `source_state::State::step` meets its contract. Assumes nothing.
-use mathlib.Core.Path.{ap₂}
-use mathlib.Core.Bool.{Bool}
-use Rattle.model.specs.Tasks.{State}
+-- `source_state::State::step` meets its contract: the step is taken on a copy, which comes back where it applies. Assumes nothing.
+use Rattle.source_state.proofs.Alone.{given-if}
 use Rattle.source_state.proofs.State.step.Goals as goal
 
 pub returns : goal.returns
-returns c = ap₂ (λ (b : Bool) (x : State). (b, x)) c.applies-applied.ensures c.next-state.ensures
+returns c = rw c.then_some.ensures (given-if c.args.sums.now c.args.self _ c.take.result c.take.ensures)

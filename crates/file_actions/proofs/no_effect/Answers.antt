@@ -1,5 +1,0 @@
--- `file_actions::no_effect` meets its contract. Assumes nothing.
-use Rattle.file_actions.proofs.no_effect.Goals as goal
-
-pub returns : goal.returns
-returns c = rw c.no_terms-none.ensures

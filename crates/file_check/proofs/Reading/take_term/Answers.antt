@@ -1,0 +1,46 @@
+-- `file_check::Reading::take_term` meets its contract: each exit is the first test that holds, and where none does the reading goes on.
+-- Assumes nothing.
+use mathlib.Core.Path.{refl, sym, ◌∙◌}
+use borrow.Author.Rules.{rules}
+use lib.Dec.{lit<}
+use Rattle.commands.proofs.Known.{cut_short}
+use Rattle.model.specs.Rules.{tests_of, next_of}
+use Rattle.file_check.proofs.Tests.{tests}
+use Rattle.file_check.proofs.Taking.{stops, goes}
+use Rattle.file_check.proofs.Reading.take_term.Goals as goal
+
+pub returns-in_default : goal.returns-in_default
+unfolding tests_of
+returns-in_default c =
+    stops c.args.l.now c.args.self.now
+    (cut_short c.args.rest.now 9 (lit< tt) c.requires.0 c.requires.1 c.read_term.result c.read_term.ensures (search rules)) 0 refl
+
+pub returns-then-from-self : goal.returns-then-from-self
+unfolding tests_of
+returns-then-from-self c =
+    stops c.args.l.now c.args.self.now (sym c.read_term.ensures ∙ c.in-Term.is) 0 (search tests)
+
+pub returns-then-self-variable : goal.returns-then-self-variable
+unfolding tests_of
+returns-then-self-variable c =
+    stops c.args.l.now c.args.self.now (sym c.read_term.ensures ∙ c.in-Term.is) 1 (search tests)
+
+pub returns-then-is_zero : goal.returns-then-is_zero
+unfolding tests_of
+returns-then-is_zero c =
+    stops c.args.l.now c.args.self.now (sym c.read_term.ensures ∙ c.in-Term.is) 2 (search tests)
+
+pub returns-then-is_outside : goal.returns-then-is_outside
+unfolding tests_of
+returns-then-is_outside c =
+    stops c.args.l.now c.args.self.now (sym c.read_term.ensures ∙ c.in-Term.is) 3 (search tests)
+
+pub returns-then-is_marked : goal.returns-then-is_marked
+unfolding tests_of
+returns-then-is_marked c =
+    stops c.args.l.now c.args.self.now (sym c.read_term.ensures ∙ c.in-Term.is) 4 (search tests)
+
+pub returns : goal.returns
+unfolding tests_of next_of
+returns c =
+    rw c.put_mark.ensures (goes c.args.l.now c.args.self.now (sym c.read_term.ensures ∙ c.in-Term.is) (search tests))

@@ -1,6 +1,0 @@
--- `file_check::restricted_limits` meets its contract: each number is the definition's. Assumes nothing.
-use mathlib.Core.Path.{refl}
-use Rattle.file_check.proofs.restricted_limits.Goals as goal
-
-pub returns : goal.returns
-returns c = refl

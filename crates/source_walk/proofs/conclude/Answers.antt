@@ -1,8 +1,0 @@
--- `source_walk::conclude` meets its contract, case by case. Assumes nothing.
-use Rattle.source_walk.proofs.conclude.Goals as goal
-
-pub returns-in-Refused : goal.returns-in-Refused
-returns-in-Refused c = rw c.in-Refused.is c.refuse.ensures
-
-pub returns-in-Valid : goal.returns-in-Valid
-returns-in-Valid c = rw c.in-Valid.is
