@@ -1,6 +1,8 @@
 -- The reasons of refusals by document 01's numbers, and what a call answers in the words of the definitions.
 -- Assumes nothing.
-use Rattle.std.specs.Prelude.{◌≡◌, ◌≢◌, ℕ, Result, Ok, Err}
+use Rattle.std.specs.Prelude.{◌≡◌, ◌≢◌, ℕ, List, ◌++◌, Result, Ok, Err}
+use lib.Chars.{codes}
+use Rattle.std.specs.Fmt.{decimal}
 use Rattle.answers.specs.Answer.{Answer, given, refused}
 use Rattle.answers.specs.declared.Reason.{Reason}
 use Rattle.answers.specs.declared.Reason.TheVariants.{NotAllowed, CutShort, BytesBehind, OverLimit, Undeclared, OutOfRange, NamedTwice}
@@ -31,6 +33,10 @@ Numbered number (Err _) = (reason : Reason) → number ≢ number_of reason
 
 abbrev pub refusal_at : Reason → ℕ → Refusal
 refusal_at reason place = record { reason = reason; place = place }
+
+-- the word and the two numbers, as a refusal is printed
+abbrev pub printed : Refusal → List ℕ
+printed r = codes "refused " ++ (decimal (number_of r.reason) ++ (codes " " ++ decimal r.place))
 
 -- a refusal, and what a call answers whose result says a value of the definitions
 abbrev pub refusal_is : {A : Type 0} → Refusal → Answer A

@@ -4,8 +4,8 @@
 // answer is in the words of the definitions (specs/Answer).
 #![tactic(auto)]
 
-ghost use Rattle.std.specs.Prelude.{◌≡◌};
-ghost use Rattle.answers.specs.Refusals.{number_of, Numbered, refusal_at};
+ghost use Rattle.std.specs.Prelude.{◌≡◌, Some};
+ghost use Rattle.answers.specs.Refusals.{number_of, Numbered, refusal_at, printed};
 
 use std::error::Error;
 use std::fmt;
@@ -86,6 +86,8 @@ pub struct Refusal {
 }
 
 impl fmt::Display for Refusal {
+    ghost output = { λ r. Some (printed r) };
+
     fn fmt<W: fmt::Write>(&self, f: &mut fmt::Formatter<W>) -> fmt::Result {
         write!(f, "refused {} {}", self.reason.number(), self.place)
     }

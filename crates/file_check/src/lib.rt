@@ -11,7 +11,7 @@ ghost use Rattle.answers.specs.Refusals.{number_of};
 ghost use Rattle.commands.specs.Table.{letter_v, letter_u, letter_m, letter_c, letter_p, letter_e, plus_sign, letter_l, letter_t, letter_q, letter_r, letter_k};
 ghost use Rattle.commands.specs.Table.{rows, row_of};
 ghost use Rattle.commands.specs.Reading.{command_at};
-ghost use Rattle.commands.specs.declared.Command.TheVariants.{Action, Quotient};
+ghost use Rattle.commands.specs.declared.Command.TheVariants.{Action, Quotient, Goal, End};
 ghost use Rattle.model.specs.Limits.{source_limits, restricted_limits};
 ghost use Rattle.model.specs.ReadingState.{opened, with_numeric_effect, begin};
 ghost use Rattle.model.specs.Rules.{allowed, constant, is_zero, rule_of, take_of};
@@ -598,6 +598,21 @@ impl Reading {
         self.take_division(l, target, operand, divisor)
     }
 
+    // G: the goal begins.
+    fn take_goal(&mut self, l: &Limits) -> Result<Progress, Reason>
+        ensures { Ruled l.now self.old Goal self.new result }
+    {
+        self.open(Section::Goal, self.counts.actions);
+        Ok(Progress::Going)
+    }
+
+    // Z: the end.
+    fn take_end(&self, l: &Limits) -> Result<Progress, Reason>
+        ensures { Ruled l.now self.now End self.now result }
+    {
+        Ok(Progress::Ended)
+    }
+
     // A command that stands where a T must: 14, and before it 2 where the command is cut short.
     fn refuse_bare(&self, l: &Limits, rest: &[u8]) -> Result<Progress, Reason>
         requires { (0 < length rest.now) × (row_of (get_or rest.now 0 0) < rows)
@@ -640,11 +655,8 @@ impl Reading {
             b'T' => self.take_term(l, rest),
             b'Q' => self.take_quotient(l, rest),
             b'R' => self.take_residue(l, rest),
-            b'G' => {
-                self.open(Section::Goal, self.counts.actions);
-                Ok(Progress::Going)
-            }
-            b'Z' => Ok(Progress::Ended),
+            b'G' => self.take_goal(l),
+            b'Z' => self.take_end(l),
             b'K' => self.take_sum(l, rest),
             _ => Err(Reason::NotAllowed),
         }

@@ -1,13 +1,19 @@
--- Euclidean division has one quotient and one residue.
+-- Euclidean division has one quotient and one residue. The machine's division, that cuts towards 0, is a step of |c| away from them.
 -- Assumes nothing.
 use mathlib.Core.Path.{◌≡◌, refl, sym, ap}
-use Prim.Native.Nat.{ℕ, zero, suc, ◌*◌, ◌/◌, ◌%◌, ◌<◌}
+use mathlib.Core.Bool.{true, false}
+use Prim.Native.Nat.{ℕ, zero, suc, ◌*◌, ◌/◌, ◌%◌, ◌^◌, ◌≤◌, ◌<◌}
 use native.Mathlib.Omega.{arith}
-use native.Mathlib.Nat.{div-add-mod, mod-lt}
-use lib.IntN.{ℤ, pos, negsuc, nat_abs, ◌-ℤ◌, ◌*ℤ◌}
+use native.Mathlib.Nat.{div-add-mod, mod-lt, div-le_self}
+use lib.IntN.{ℤ, pos, negsuc, neg_ℤ, nat_abs, neg_ℤ-neg_ℤ, neg_ℤ-+ℤ, ◌+ℤ◌, ◌-ℤ◌, ◌*ℤ◌}
+use lib.Signed.{le_z, lt_z, quot_z, rem_z}
+use mir.Syntax.{Width}
+use mir.Val.{SFits, of_z, hbits}
+use mir.ValLaws.{pow-bits}
+use Rattle.integers.specs.Parts.{Within}
 use Rattle.integers.specs.Division.{Euclid, floor, remainder, quotient_of, residue_of}
-use Rattle.integers.proofs.Parts.{ints, sub, mul, abs, mul-up, mul-down, parts-equal}
-use Rattle.integers.proofs.Products.{mul-abs, mul-sub, mul-one}
+use Rattle.integers.proofs.Parts.{ints, add, sub, neg, mul, abs, mul-up, mul-down, parts-equal}
+use Rattle.integers.proofs.Products.{mul-abs, mul-add, mul-neg, mul-sub, mul-one}
 
 -- ---- the definitions satisfy the equation
 
@@ -53,3 +59,81 @@ unique y c q r e =
     let e' = euclid y c h in
     let s = same-quotient y c q r (quotient_of y c) (residue_of y c) e e' in
     (s, omega (ints, e.sum, e'.sum, ap (λ (z : ℤ). c *ℤ z) s))
+
+-- ---- the division that cuts towards 0
+record Truncated (y c q r : ℤ) : Type 0 where
+  pub sum : y ≡ c *ℤ q +ℤ r
+  pub small : nat_abs r < nat_abs c
+  pub bound : nat_abs q ≤ nat_abs y
+
+abs_neg : (n : ℕ) → nat_abs (neg_ℤ (pos n)) ≡ n
+abs_neg n = omega (ints, abs (neg_ℤ (pos n)), neg (pos n))
+
+truncated : (y c : ℤ) → 0 < nat_abs c → Truncated y c (quot_z y c) (rem_z y c)
+truncated (pos n) (pos m) h =
+    record { sum = ap pos (sym (div-add-mod n m)); small = mod-lt n h; bound = div-le_self n m }
+truncated (pos n) (negsuc m) h =
+    record { sum = rw (mul-neg, neg_ℤ-neg_ℤ) (ap pos (sym (div-add-mod n (suc m)))); small = mod-lt n h; bound = rw abs_neg (div-le_self n (suc m)) }
+truncated (negsuc n) (pos m) h =
+    record {
+      sum = rw (mul-neg, ← neg_ℤ-+ℤ) (ap (λ (x : ℕ). neg_ℤ (pos x)) (sym (div-add-mod (suc n) m)));
+      small = rw abs_neg (mod-lt (suc n) h);
+      bound = rw abs_neg (div-le_self (suc n) m);
+    }
+truncated (negsuc n) (negsuc m) h =
+    record {
+      sum = rw (← neg_ℤ-+ℤ) (ap (λ (x : ℕ). neg_ℤ (pos x)) (sym (div-add-mod (suc n) (suc m))));
+      small = rw abs_neg (mod-lt (suc n) h);
+      bound = div-le_self (suc n) (suc m);
+    }
+
+-- from there to the quotient and the residue: the cut quotient is the quotient, or 1 above it, or 1 below it
+module _ (y c : ℤ) (h : 0 < nat_abs c) where
+  pub cut-exact : le_z (pos 0) (rem_z y c) ≡ true → (quot_z y c ≡ quotient_of y c) × (rem_z y c ≡ residue_of y c)
+  cut-exact t =
+      let e = truncated y c h in
+      unique y c (quot_z y c) (rem_z y c) (record { sum = e.sum; low = omega ints; high = omega (ints, abs (rem_z y c), e.small) })
+
+  pub cut-above : le_z (pos 0) (rem_z y c) ≡ false → lt_z (pos 0) c ≡ true → (quot_z y c -ℤ pos 1 ≡ quotient_of y c) × (rem_z y c +ℤ c ≡ residue_of y c)
+  cut-above t u =
+      let e = truncated y c h in
+      unique y c (quot_z y c -ℤ pos 1) (rem_z y c +ℤ c)
+      (record {
+        sum = omega (ints, e.sum, mul-sub c (quot_z y c) (pos 1), mul-one c, add (c *ℤ (quot_z y c -ℤ pos 1)) (rem_z y c +ℤ c), add (rem_z y c) c);
+        low = omega (ints, add (rem_z y c) c, e.small, abs c, abs (rem_z y c));
+        high = omega (ints, add (rem_z y c) c, abs c);
+      })
+
+  pub cut_below : le_z (pos 0) (rem_z y c) ≡ false → lt_z (pos 0) c ≡ false → (quot_z y c +ℤ pos 1 ≡ quotient_of y c) × (rem_z y c -ℤ c ≡ residue_of y c)
+  cut_below t u =
+      let e = truncated y c h in
+      unique y c (quot_z y c +ℤ pos 1) (rem_z y c -ℤ c)
+      (record {
+        sum = omega (ints, e.sum, mul-add c (quot_z y c) (pos 1), mul-one c, sub (rem_z y c) c);
+        low = omega (ints, sub (rem_z y c) c, e.small, abs c, abs (rem_z y c));
+        high = omega (ints, sub (rem_z y c) c, abs c);
+      })
+
+-- ---- on the machine
+
+-- what the machine asks of a divisor: its bits are not 0
+pub divisor-bits : (w : Width) (c : ℤ) → SFits w c → 0 < nat_abs c → 0 < of_z w c
+divisor-bits w (pos n) f h = h
+divisor-bits w (negsuc n) f h = omega (arith, pow-bits w, f.sfits)
+
+-- numbers within a bound that a width holds: they, the quotient and what is left fit the width
+pub record Fit (w : Width) (y c : ℤ) : Type 0 where
+  pub dividend : SFits w y
+  pub divisor : SFits w c
+  pub quot : SFits w (quot_z y c)
+  pub rem : SFits w (rem_z y c)
+
+pub fit : (w : Width) (n : ℕ) (y c : ℤ) → n < 2 ^ hbits w → Within n y × Within n c × (0 < nat_abs c) → Fit w y c
+fit w n y c l h =
+    let e = truncated y c h.2 in
+    record {
+      dividend = omega (ints, h.0);
+      divisor = omega (ints, h.1);
+      quot = omega (ints, h.0, e.bound, abs y, abs (quot_z y c));
+      rem = omega (ints, h.1, e.small, abs c, abs (rem_z y c));
+    }

@@ -50,7 +50,11 @@ pub fn residue(y: i64, c: i64) -> i64
     requires { Within 1000000000 y × Within 1000000000 c × (0 < nat_abs c) }
     ensures { result ≡ residue_of y c }
 {
-    (y as i32).rem_euclid(c as i32) as i64
+    let r = ((y as i32) % (c as i32)) as i64;
+    if 0 <= r {
+        return r;
+    }
+    if 0 < c { r + c } else { r - c }
 }
 
 // The q with y = c × q + r and 0 ≤ r < |c|, for every sign of y and c; c is not 0.
@@ -58,7 +62,13 @@ pub fn quotient(y: i64, c: i64) -> i64
     requires { Within 1000000000 y × Within 1000000000 c × (0 < nat_abs c) }
     ensures { result ≡ quotient_of y c }
 {
-    (y as i32).div_euclid(c as i32) as i64
+    let a = y as i32;
+    let b = c as i32;
+    let q = (a / b) as i64;
+    if 0 <= a % b {
+        return q;
+    }
+    if 0 < b { q - 1 } else { q + 1 }
 }
 
 // The number of a width that stands at a place, least byte first. It is below 256 to the width, so that a caller may narrow it.

@@ -19,8 +19,9 @@ use Rattle.source_step.proofs.Sound.{length-settled}
 use Rattle.source_step.specs.Row.{outcomes_at, values_after, modes_after}
 use Rattle.source_step.specs.Ready.{marks_of, numbers_of, sums_of}
 use Rattle.source_step.specs.Table.{Table, takes_by, price_by, Usables}
-use Rattle.std.specs.Prelude.{Option, Some, None}
+use Rattle.std.specs.Prelude.{Result, Ok, Err}
 use Rattle.plan_strokes.specs.Made.{Turned}
+use Rattle.plan_strokes.proofs.Prices.{applied-price}
 use Rattle.source_walk.proofs.Loop.{long_after}
 use Rattle.listing.specs.Lines.{line_of, LINE, RoomFor}
 use Rattle.listing.specs.Listed.{CEILING, Listable, lines_by, lines_to, prices_by, prices_to, LinedTo}
@@ -32,8 +33,8 @@ pub record Reached (p : List ℕ) (values : List ℤ) (modes : List ℕ) (i : �
   pub values_long : length values ≡ 8
   pub modes_long : length modes ≡ 4
 
--- action k is tried in a state, and comes to a price or to none, and to the state after
-abbrev pub TurnsTo : Table → ℕ → List ℤ → List ℕ → Option ℕ → List ℤ → List ℕ → Type 0
+-- action k is tried in a state, and comes to its price or to what it would cost, and to the state after
+abbrev pub TurnsTo : Table → ℕ → List ℤ → List ℕ → Result ℕ ℕ → List ℤ → List ℕ → Type 0
 TurnsTo T k values modes r values' modes' =
     Turned T.variables T.modes (marks_of T.marks k) (numbers_of T.numbers k) (sums_of T.numbers) values modes r values' modes'
 
@@ -74,14 +75,14 @@ module _ (T : Table) (p : List ℕ) (values : List ℤ) (modes : List ℕ) (i : 
         (lines-at-step ∙ rw off refl, cost-at-step ∙ rw off refl)
 
     module _ (l : k < T.count) {values' : List ℤ} {modes' : List ℕ} where
-      not-applied : TurnsTo T k values modes None values' modes' → Over
+      not-applied : {cost : ℕ} → TurnsTo T k values modes (Err cost) values' modes' → Over
       unfolding lines_by prices_by
       not-applied t =
           let on = lt-ltb k T.count l in
           let off : takes_by T x k ≡ false = sym t.stepped.is in
           (lines-at-step ∙ rw (on, off) refl, cost-at-step ∙ rw (on, off) refl)
 
-      module _ {price : ℕ} (t : TurnsTo T k values modes (Some price) values' modes') where
+      module _ {price : ℕ} (t : TurnsTo T k values modes (Ok price) values' modes') where
         on : takes_by T x k ≡ true
         on = sym t.stepped.is
 
@@ -94,13 +95,13 @@ module _ (T : Table) (p : List ℕ) (values : List ℤ) (modes : List ℕ) (i : 
         lines_next : left_by T p i values modes ≡ line_of i k price (take T.variables values') ++ left_by T p (i + 1) values' modes'
         unfolding lines_by step_line
         lines_next =
-            let cost : price_by T x k ≡ price = sym t.price in
+            let cost : price_by T x k ≡ price = sym (applied-price t) in
             lines-at-step ∙ rw (lt-ltb k T.count l, on, cost, values_are, modes_are, add-one i) refl
 
         cost-next : cost_left T p i values modes ≡ price + cost_left T p (i + 1) values' modes'
         unfolding prices_by
         cost-next =
-            let cost : price_by T x k ≡ price = sym t.price in
+            let cost : price_by T x k ≡ price = sym (applied-price t) in
             cost-at-step ∙ rw (lt-ltb k T.count l, on, cost, values_are, modes_are, add-one i) refl
 
         reached-next : Usables T → Reached p values modes i → Reached p values' modes' (i + 1)
@@ -208,7 +209,7 @@ module _ {T : Table} {p : List ℕ} {from until before : ℕ} {values₀ : List 
 
     module _ (l : k < T.count) {values' : List ℤ} {modes' : List ℕ} where
       pub writing-not-applied
-          : TurnsTo T k values modes None values' modes' → (next : ℕ) → next ≡ length p
+          : {cost : ℕ} → TurnsTo T k values modes (Err cost) values' modes' → (next : ℕ) → next ≡ length p
           → LinedTo T p from until before values₀ modes₀ old at out (record { place = place; spent = spent; next = next }) values' modes'
       writing-not-applied t next m =
           let off : takes_by T (state values modes) k ≡ false = sym t.stepped.is in
@@ -219,7 +220,7 @@ module _ {T : Table} {p : List ℕ} {from until before : ℕ} {values₀ : List 
           (ap length same-modes ∙ g.reached.modes_long)
           (not-applied T q values modes i k part-is in-part l t) (not-applied T p values modes i k e in-plan l t)
 
-      module _ {price : ℕ} (t : TurnsTo T k values modes (Some price) values' modes') where
+      module _ {price : ℕ} (t : TurnsTo T k values modes (Ok price) values' modes') where
         abbrev line : List ℕ
         line = line_of i k price (take T.variables values')
 

@@ -22,7 +22,7 @@ use Rattle.source_step.specs.Table.{Table, declared_by, takes_by, after_by, pric
 use Rattle.source_step.proofs.Tables.{price-agrees, step-agrees, inside-after, usables}
 use Rattle.std.specs.Prelude.{Result, Ok, Err}
 use Rattle.answers.specs.Refusals.{number_of}
-use Rattle.answers.specs.declared.Refusal.{Refusal}
+use Rattle.answers.specs.declared.Refusal.{Refusal as CallRefusal}
 use Rattle.answers.specs.declared.Reason.{Reason}
 use Rattle.answers.specs.declared.Reason.TheVariants.{NoAction, DoesNotApply}
 use Rattle.source_walk.specs.declared.Task.{Task}
@@ -32,7 +32,7 @@ use Rattle.source_walk.proofs.Opening.{refused-both, goes_on_lem}
 use Rattle.source_walk.proofs.Judging.{answer_with, judged-is, priced-is}
 use Rattle.listing.specs.Listed.{lines_by, prices_by}
 use Rattle.listing.specs.declared.Rest.{Rest}
-use Rattle.listing.specs.declared.Rest.TheVariants.{Refused}
+use Rattle.listing.specs.declared.Rest.TheVariants.{Refusal}
 use Rattle.listing.specs.Parts.{LONGEST, most_of, rest_by, left_of, Pending, Begun}
 use Rattle.listing.proofs.Longest.{lines-most, total-most, goal-most, refused-most}
 
@@ -88,7 +88,7 @@ module _ (T : Table) where
       go false b ih = sym (add-zero price)
 
 -- a verdict whose answer is given is that of a valid plan, of so many steps
-valid-is : (v : Result ℕ Refusal) (y : State) (a : ℕ × State) → answer_with v y ≡ given a → v ≡ Ok a.0
+valid-is : (v : Result ℕ CallRefusal) (y : State) (a : ℕ × State) → answer_with v y ≡ given a → v ≡ Ok a.0
 valid-is (Ok steps) y a e = cc
 valid-is (Err r) y a e = let no : ◌≡◌ {A = ℕ} 0 1 = cc in absurd (omega arith)
 
@@ -102,17 +102,17 @@ with_total t p price = then price (λ total. given (text_with (step_lines t 0 p 
 abbrev go_on : SourceTask → List ℕ → Answer (List ℕ)
 go_on t p = then (judge_source_task t p) (λ v. with_total t p (price_task t false p))
 
-pub refused-listing : (file plan : List ℕ) (r : Refusal) → opened file plan ≡ refused (number_of r.reason) r.place
-    → refused_line (number_of r.reason) r.place ≡ listing file plan
+pub refused-listing : (file plan : List ℕ) (number place : ℕ) → opened file plan ≡ refused number place → refused_line number place ≡ listing file plan
 unfolding listing
-refused-listing file plan r e = sym (ap text_of (refused-both go_on file plan (number_of r.reason) r.place e))
+refused-listing file plan number place e = sym (ap text_of (refused-both go_on file plan number place e))
 
 -- what is refused when they are opened is all that is left
-pub not-opened : (file plan : List ℕ) (r : Refusal) → r.place < 2 ^ 64 → opened file plan ≡ refused (number_of r.reason) r.place
-    → {marks : List (List ℕ)} {numbers : List (List ℤ)} {values : List ℤ} {modes : List ℕ} → Begun file plan (Refused r) marks numbers values modes
-not-opened file plan r h e =
-    let text = refused-listing file plan r e in
-    record { left = text; pending = tt; short = omega (arith, refused-most r h, ap length text) }
+pub not-opened : (file plan : List ℕ) (number place : ℕ) → number < 256 → place < 2 ^ 64 → opened file plan ≡ refused number place
+    → {marks : List (List ℕ)} {numbers : List (List ℤ)} {values : List ℤ} {modes : List ℕ}
+    → Begun file plan (Refusal number place) marks numbers values modes
+not-opened file plan number place h l e =
+    let text = refused-listing file plan number place e in
+    record { left = text; pending = tt; short = omega (arith, refused-most number place h l, ap length text) }
 
 module _ {file plan : List ℕ} {r : Task} {marks : List (List ℕ)} {numbers : List (List ℤ)} {values : List ℤ} {modes : List ℕ}
     (S : Started file plan r marks numbers values modes) where
@@ -137,8 +137,8 @@ module _ {file plan : List ℕ} {r : Task} {marks : List (List ℕ)} {numbers : 
   steps-are : lines_by T 0 p x ≡ step_lines t 0 p (source_start t)
   steps-are = lines_are S.rows p 0 x S.inside ∙ ap (step_lines t 0 p) S.start
 
-  judged : (v : Result ℕ Refusal) → J.verdict ≡ v → judge_source_task t p ≡ answer_with v (declared_by T J.state)
-  judged v e = judged-is S false ∙ ap (λ (u : Result ℕ Refusal). answer_with u (declared_by T J.state)) e
+  judged : (v : Result ℕ CallRefusal) → J.verdict ≡ v → judge_source_task t p ≡ answer_with v (declared_by T J.state)
+  judged v e = judged-is S false ∙ ap (λ (u : Result ℕ CallRefusal). answer_with u (declared_by T J.state)) e
 
   -- the steps of a valid plan cost what the plan does
   total-is : (n : ℕ) → J.verdict ≡ Ok n → price_task t false p ≡ given total
@@ -147,7 +147,7 @@ module _ {file plan : List ℕ} {r : Task} {marks : List (List ℕ)} {numbers : 
       let valid = valid-is with-prices.verdict _ (n, declared_by T J.state) (sym (judged-is S true) ∙ judged (Ok n) e) in
       priced-is S n valid false ∙ ap given (walk-price T p 0 0 0 x)
 
-  by-verdict : (v : Result ℕ Refusal) → J.verdict ≡ v → left_of (rest_by r v) p marks numbers values modes ≡ text_of (go_on t p)
+  by-verdict : (v : Result ℕ CallRefusal) → J.verdict ≡ v → left_of (rest_by r v) p marks numbers values modes ≡ text_of (go_on t p)
   by-verdict (Ok n) e =
       ap (λ (lines : List ℕ). text_with lines total) steps-are
       ∙ sym (ap₂ (λ (a : Answer (ℕ × State)) (c : Answer ℕ). text_of (then a (λ v. with_total t p c))) (judged (Ok n) e) (total-is n e))
@@ -158,7 +158,7 @@ module _ {file plan : List ℕ} {r : Task} {marks : List (List ℕ)} {numbers : 
   unfolding listing
   all_left = by-verdict J.verdict refl ∙ sym (ap text_of (goes_on_lem go_on file plan t S.reads S.plan_is.plan_read))
 
-  pending : (v : Result ℕ Refusal) → Pending (rest_by r v) p marks numbers values modes
+  pending : (v : Result ℕ CallRefusal) → Pending (rest_by r v) p marks numbers values modes
   pending (Err r) = tt
   pending (Ok n) = record {
     steps_are = S.plan_is.steps_are;
@@ -180,19 +180,18 @@ module _ {file plan : List ℕ} {r : Task} {marks : List (List ℕ)} {numbers : 
   lines-few : length (lines_by T 0 p x) ≤ LONGEST * length p
   lines-few = lines-most S.rows p 0 x S.inside (omega (arith, S.plan_is.few, S.plan_is.steps_are))
 
-  short : (v : Result ℕ Refusal) → ((r : Refusal) → v ≡ Err r → r.place < 2 ^ 64)
+  short : (v : Result ℕ CallRefusal) → ((number place : ℕ) → rest_by r v ≡ Refusal number place → (number < 256) × (place < 2 ^ 64))
       → length (left_of (rest_by r v) p marks numbers values modes) ≤ most_of (rest_by r v)
-  short (Err r) told = refused-most r (told r refl)
+  short (Err d) told = let h = told (number_of d.reason) d.place refl in refused-most (number_of d.reason) d.place h.0 h.1
   short (Ok n) told =
       let steps = S.plan_is.steps_are in
       let goal : length (goal_line total) ≤ 18 = goal-most total (omega (arith, price-few, S.plan_is.few, steps)) in
       omega (arith, length-append (lines_by T 0 p x) (goal_line total), lines-few, goal, steps)
 
-  -- what judging leaves of the listing is all of it; the place of a refusal is of 64 bits
+  -- what judging leaves of the listing is all of it; the number and the place of a refusal are of 8 and of 64 bits
   pub begun : {rest : Rest} → rest ≡ rest_by r (judge_by (table_of r marks numbers) false (plan_numbers plan) (state values modes)).verdict
-      → ((r : Refusal) → rest ≡ Refused r → r.place < 2 ^ 64)
-      → Begun file plan rest marks numbers values modes
+      → ((number place : ℕ) → rest ≡ Refusal number place → (number < 256) × (place < 2 ^ 64)) → Begun file plan rest marks numbers values modes
   begun e told =
-      let few = short J.verdict (λ d v. told d (e ∙ ap (rest_by r) v)) in
+      let few = short J.verdict (λ number place v. told number place (e ∙ v)) in
       subst (λ (rest : Rest). Begun file plan rest marks numbers values modes) (sym e)
       (record { left = all_left; pending = pending J.verdict; short = omega (arith, few, ap length all_left) })

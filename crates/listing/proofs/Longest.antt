@@ -11,11 +11,6 @@ use lib.ListN.{length, length-append, length-take, take}
 use lib.IntN.{ℤ, pos, negsuc, nat_abs}
 use lib.Signed.{le_z}
 use borrow.Author.Tests.{ltb-true}
-use Rattle.answers.specs.Refusals.{number_of}
-use Rattle.answers.specs.declared.Refusal.{Refusal}
-use Rattle.answers.specs.declared.Reason.{Reason}
-use Rattle.answers.specs.declared.Reason.TheVariants.{NotAllowed, CutShort, BytesBehind, OverLimit, Undeclared, OutOfRange, NamedTwice}
-use Rattle.answers.specs.declared.Reason.TheVariants.{OutputShort, OverMillion, PlanLength, NoAction, DoesNotApply, GoalNotMet, SumWithoutTerm}
 use Rattle.integers.specs.All.{All}
 use Rattle.integers.proofs.Parts.{ints, abs}
 use Rattle.lists.proofs.Loops.{and_left, and_right}
@@ -114,27 +109,10 @@ line-most i k price y hi hk hp h l =
 pub goal-most : (total : ℕ) → total < 10 ^ 12 → length (goal_line total) ≤ 18
 goal-most total h = omega (arith, before-most 11 total (10 ∷ []) h)
 
--- the numbers of the reasons have at most two digits
-number-few : (reason : Reason) → number_of reason < 100
-number-few NotAllowed = omega arith
-number-few CutShort = omega arith
-number-few BytesBehind = omega arith
-number-few OverLimit = omega arith
-number-few Undeclared = omega arith
-number-few OutOfRange = omega arith
-number-few NamedTwice = omega arith
-number-few OutputShort = omega arith
-number-few OverMillion = omega arith
-number-few PlanLength = omega arith
-number-few NoAction = omega arith
-number-few DoesNotApply = omega arith
-number-few GoalNotMet = omega arith
-number-few SumWithoutTerm = omega arith
-
-pub refused-most : (r : Refusal) → r.place < 2 ^ 64 → length (refused_line (number_of r.reason) r.place) ≤ ENDS
-refused-most r h =
-    let behind : List ℕ = fields_of (pos r.place ∷ []) in
-    omega (arith, before-most 1 (number_of r.reason) behind (number-few r.reason), before-most 19 r.place (10 ∷ []) (omega (arith, h)))
+pub refused-most : (number place : ℕ) → number < 256 → place < 2 ^ 64 → length (refused_line number place) ≤ ENDS
+refused-most number place h l =
+    let behind : List ℕ = fields_of (pos place ∷ []) in
+    omega (arith, before-most 2 number behind (omega (arith, h)), before-most 19 place (10 ∷ []) (omega (arith, l)))
 
 -- ---- a step that is taken, from a state within its bounds
 module _ {t : SourceTask} {T : Table} (R : RowsOf t T) where

@@ -15,8 +15,6 @@ use Rattle.answers.specs.Answer.{given}
 use Rattle.lists.specs.Writing.{Room, Wrote}
 use Rattle.answers.specs.Lent.{Lent}
 use Rattle.std.specs.Prelude.{Ok, Err}
-use Rattle.answers.specs.Refusals.{number_of}
-use Rattle.answers.specs.declared.Refusal.{Refusal}
 use Rattle.answers.specs.declared.Reason.TheVariants.{OutputShort}
 use Rattle.answers.proofs.Lent.{too_short, written}
 use Rattle.lists.proofs.Writing.{Left, start, step, done, recast, room, room_by, long, splice_front, wrote-long}
@@ -29,7 +27,7 @@ use Rattle.source_walk.specs.Opening.{table_of}
 use Rattle.listing.specs.declared.Sheet.{Sheet}
 use Rattle.listing.specs.declared.Lined.{Lined}
 use Rattle.listing.specs.declared.Rest.{Rest}
-use Rattle.listing.specs.declared.Rest.TheVariants.{Refused, Lines, Nothing}
+use Rattle.listing.specs.declared.Rest.TheVariants.{Refusal, Lines, Nothing}
 use Rattle.listing.specs.declared.Part.{Part}
 use Rattle.listing.specs.Lines.{LINE, RoomFor}
 use Rattle.listing.specs.Listed.{Listable, LinedTo, lines_by, lines_to, prices_by}
@@ -212,21 +210,17 @@ module _ {S : Sheet} (most : ℕ) {p : List ℕ} {marks : List (List ℕ)} {numb
             }
 
 -- ---- a refusal's line is a part
-module _ (r : Refusal) (most : ℕ) where
-  abbrev line_of_refusal : List ℕ
-  line_of_refusal = refused_line (number_of r.reason) r.place
-
-  pub refusal-room : {old : List ℕ} → RoomFor old 0 (50 + LINE * most) (refused_line (number_of r.reason) r.place)
-      → RoomFor old 0 50 (refused_line (number_of r.reason) r.place)
+module _ (number place : ℕ) (most : ℕ) where
+  pub refusal-room : {old : List ℕ} → RoomFor old 0 (50 + LINE * most) (refused_line number place) → RoomFor old 0 50 (refused_line number place)
   refusal-room R = room-for-either (omega arith) refl (λ r. r) R
 
   pub part-refusal : (p : List ℕ) (marks : List (List ℕ)) (numbers : List (List ℤ)) {values : List ℤ} {modes : List ℕ} {old after : List ℕ} {count : ℕ}
-      → Wrote old 0 (refused_line (number_of r.reason) r.place) after count → count ≤ 0 + 50
-      → PutPart (Refused r) most p marks numbers values modes old after (record { count = count; rest = Nothing }) values modes
+      → Wrote old 0 (refused_line number place) after count → count ≤ 0 + 50
+      → PutPart (Refusal number place) most p marks numbers values modes old after (record { count = count; rest = Nothing }) values modes
   part-refusal p marks numbers w m = record {
     wrote = w;
     few = omega arith;
-    left = sym (append-nil line_of_refusal);
+    left = sym (append-nil (refused_line number place));
     pending = tt;
     fewer = omega arith;
   }
@@ -235,7 +229,7 @@ module _ (r : Refusal) (most : ℕ) where
 whole : (rest : Rest) (p : List ℕ) (marks : List (List ℕ)) (numbers : List (List ℤ)) (values : List ℤ) (modes : List ℕ)
     → Pending rest p marks numbers values modes
     → part_of rest 1_000_000 p marks numbers values modes ≡ left_of rest p marks numbers values modes
-whole (Refused r) p marks numbers values modes P = refl
+whole (Refusal number place) p marks numbers values modes P = refl
 whole (Lines S) p marks numbers values modes U =
     all-of-it 1_000_000 U (omega (arith, end-last S.next 1_000_000 S.task.steps (omega (arith, U.listable.few))))
 whole Nothing p marks numbers values modes P = refl
@@ -250,7 +244,7 @@ listed {plan = plan} {rest} {marks} {numbers} {values} {modes} B = sym (whole re
 -- the most bytes are a number of 64 bits
 pub most-fits : (rest : Rest) (p : List ℕ) (marks : List (List ℕ)) (numbers : List (List ℤ)) (values : List ℤ) (modes : List ℕ)
     → Pending rest p marks numbers values modes → most_of rest < 2 ^ 64
-most-fits (Refused r) p marks numbers values modes P = omega arith
+most-fits (Refusal number place) p marks numbers values modes P = omega arith
 most-fits (Lines S) p marks numbers values modes U = omega (arith, U.listable.few)
 most-fits Nothing p marks numbers values modes P = omega arith
 
@@ -304,7 +298,7 @@ module _ (old : List ℕ) {file plan : List ℕ} {rest : Rest} {marks : List (Li
 -- ---- where no line is left, no byte is
 pub nothing_left : (rest : Rest) (p : List ℕ) (marks : List (List ℕ)) (numbers : List (List ℤ)) (values : List ℤ) (modes : List ℕ)
     → lines_left rest ≡ 0 → left_of rest p marks numbers values modes ≡ []
-nothing_left (Refused r) p marks numbers values modes e = absurd (omega (arith, e))
+nothing_left (Refusal number place) p marks numbers values modes e = absurd (omega (arith, e))
 nothing_left (Lines S) p marks numbers values modes e = absurd (omega (arith, e))
 nothing_left Nothing p marks numbers values modes e = refl
 

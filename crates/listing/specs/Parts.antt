@@ -7,13 +7,13 @@ use Rattle.model.specs.Listing.{header, goal_line, refused_line, listing}
 use Rattle.source_step.specs.Step.{state}
 use Rattle.source_walk.specs.declared.Task.{Task}
 use Rattle.answers.specs.Refusals.{number_of}
-use Rattle.answers.specs.declared.Refusal.{Refusal}
+use Rattle.answers.specs.declared.Refusal.{Refusal as CallRefusal}
 use Rattle.source_walk.specs.Opening.{table_of}
 use Rattle.listing.specs.Lines.{LINE}
 use Rattle.listing.specs.Listed.{Listable, lines_by, lines_to, prices_by}
 use Rattle.listing.specs.declared.Sheet.{Sheet}
 use Rattle.listing.specs.declared.Rest.{Rest}
-use Rattle.listing.specs.declared.Rest.TheVariants.{Refused, Lines, Nothing}
+use Rattle.listing.specs.declared.Rest.TheVariants.{Refusal, Lines, Nothing}
 use Rattle.listing.specs.declared.Part.{Part}
 
 -- bytes that hold every part: `LINE` for each of 128 lines, and 50 for the header and the goal's line, or for a refusal's
@@ -31,7 +31,7 @@ ENDS = 42
 
 -- the most bytes of a listing of which this is left at first: the text of any plan of so many steps is no longer
 abbrev pub most_of : Rest → ℕ
-most_of (Refused r) = ENDS
+most_of (Refusal number place) = ENDS
 most_of (Lines S) = ENDS + LONGEST * S.task.steps
 most_of Nothing = ENDS
 
@@ -41,14 +41,14 @@ needed_of room rest long = cond (ltb room (most_of rest)) long 0
 
 -- how many lines are left, the header not counted
 abbrev pub lines_left : Rest → ℕ
-lines_left (Refused r) = 1
+lines_left (Refusal number place) = 1
 lines_left (Lines S) = suc (S.task.steps - S.next)
 lines_left Nothing = 0
 
 -- what is left at first of the listing of a plan with a verdict
-abbrev pub rest_by : Task → Result ℕ Refusal → Rest
+abbrev pub rest_by : Task → Result ℕ CallRefusal → Rest
 rest_by t (Ok steps) = Lines (record { task = t; spent = 0; next = 0 })
-rest_by t (Err r) = Refused r
+rest_by t (Err r) = Refusal (number_of r.reason) r.place
 
 -- the header stands before the first step's line
 abbrev pub header_at : ℕ → List ℕ
@@ -71,7 +71,7 @@ total_of S p marks numbers values modes = S.spent + prices_by (table_of S.task m
 
 -- the bytes that are left
 abbrev pub left_of : Rest → List ℕ → List (List ℕ) → List (List ℤ) → List ℤ → List ℕ → List ℕ
-left_of (Refused r) p marks numbers values modes = refused_line (number_of r.reason) r.place
+left_of (Refusal number place) p marks numbers values modes = refused_line number place
 left_of (Lines S) p marks numbers values modes =
     header_at S.next
     ++ (lines_by (table_of S.task marks numbers) S.next (drop S.next p) (state values modes)
@@ -80,7 +80,7 @@ left_of Nothing p marks numbers values modes = []
 
 -- those of them that a part of at most so many lines holds
 abbrev pub part_of : Rest → ℕ → List ℕ → List (List ℕ) → List (List ℤ) → List ℤ → List ℕ → List ℕ
-part_of (Refused r) most p marks numbers values modes = refused_line (number_of r.reason) r.place
+part_of (Refusal number place) most p marks numbers values modes = refused_line number place
 part_of (Lines S) most p marks numbers values modes =
     let until : ℕ = part_end S.next most S.task.steps in
     header_at S.next
@@ -96,7 +96,7 @@ pub record Unlisted (S : Sheet) (p : List ℕ) (marks : List (List ℕ)) (number
 
 -- required of what is left
 abbrev pub Pending : Rest → List ℕ → List (List ℕ) → List (List ℤ) → List ℤ → List ℕ → Type 0
-Pending (Refused r) p marks numbers values modes = Unit {0}
+Pending (Refusal number place) p marks numbers values modes = Unit {0}
 Pending (Lines S) p marks numbers values modes = Unlisted S p marks numbers values modes
 Pending Nothing p marks numbers values modes = Unit {0}
 

@@ -9,7 +9,6 @@
 ghost use Rattle.std.specs.Prelude.{◌≡◌, ◌+◌, ◌-◌, ◌*◌, ◌^◌, ◌≤◌, ◌<◌, false, ltb, length, take, replicate, pos};
 ghost use mathlib.Core.List.{flat_map};
 ghost use Rattle.answers.specs.Answer.{given};
-ghost use Rattle.answers.specs.Refusals.{number_of};
 ghost use Rattle.lists.specs.Writing.{Room, Wrote};
 ghost use Rattle.answers.specs.Lent.{Lent};
 ghost use Rattle.model.specs.Listing.{fields_of, goal_line, refused_line, listing};
@@ -101,13 +100,13 @@ fn put_goal_line(out: &mut [u8], at: usize, total: u64) -> usize
 }
 
 // The one line of a refusal: at most 50 bytes.
-fn put_refused_line(out: &mut [u8], at: usize, refusal: Refusal) -> usize
-    requires { RoomFor out.old at 50 (refused_line (number_of refusal.reason) refusal.place) }
-    ensures { Wrote out.old at (refused_line (number_of refusal.reason) refusal.place) out.new result × (result ≤ at + 50) }
+fn put_refused_line(out: &mut [u8], at: usize, number: u8, place: u64) -> usize
+    requires { RoomFor out.old at 50 (refused_line number place) }
+    ensures { Wrote out.old at (refused_line number place) out.new result × (result ≤ at + 50) }
 {
     let number_at = lists::put_bytes(out, at, b"refused");
-    let place_at = put_count(out, number_at, refusal.reason.number() as u64);
-    let end = put_count(out, place_at, refusal.place);
+    let place_at = put_count(out, number_at, number as u64);
+    let end = put_count(out, place_at, place);
     lists::put_number(out, end, 10, 1)
 }
 
@@ -153,7 +152,7 @@ fn put_lines(
                 next: plan.len() / 2,
             };
         }
-        let Some(price) = plan_strokes::take_priced(
+        let price = match plan_strokes::take_priced(
             values,
             modes,
             n,
@@ -162,12 +161,15 @@ fn put_lines(
             &numbers[k],
             &numbers[SUMS_ROW],
             &mut times,
-        ) else {
-            return Lined {
-                place,
-                spent,
-                next: plan.len() / 2,
-            };
+        ) {
+            Ok(price) => price,
+            Err(_) => {
+                return Lined {
+                    place,
+                    spent,
+                    next: plan.len() / 2,
+                };
+            }
         };
         place = put_step_line(out, place, i as u64, k as u64, price, values, n);
         spent += price;
@@ -188,10 +190,10 @@ pub struct Sheet {
     pub next: usize,
 }
 
-// What is left of a listing: the line of a refusal, the lines of a plan, or nothing.
+// What is left of a listing: the line of a refusal, by its number and its place, the lines of a plan, or nothing.
 #[derive(Clone, Copy)]
 pub enum Rest {
-    Refused(Refusal),
+    Refusal(u8, u64),
     Lines(Sheet),
     Nothing,
 }
@@ -202,7 +204,7 @@ pub fn any_left(rest: Rest) -> bool
 {
     match rest {
         Rest::Nothing => false,
-        Rest::Refused(_) => true,
+        Rest::Refusal(_, _) => true,
         Rest::Lines(_) => true,
     }
 }
@@ -236,7 +238,7 @@ fn judge(
         &mut last_modes,
     );
     match judged.verdict {
-        Err(refusal) => Rest::Refused(refusal),
+        Err(refusal) => Rest::Refusal(refusal.reason.number(), refusal.place),
         Ok(_) => Rest::Lines(Sheet {
             task,
             spent: 0,
@@ -258,7 +260,7 @@ pub fn begin(
     ensures { Begun file.now plan.now result marks.new numbers.new values.new modes.new }
 {
     match source_walk::open(file, plan, marks, numbers, values, modes) {
-        Err(refusal) => Rest::Refused(refusal),
+        Err(refusal) => Rest::Refusal(refusal.reason.number(), refusal.place),
         Ok(t) => judge(plan, t, marks, numbers, values, modes),
     }
 }
@@ -362,8 +364,8 @@ fn put_rest(
             count: 0,
             rest: Rest::Nothing,
         },
-        Rest::Refused(refusal) => Part {
-            count: put_refused_line(out, 0, refusal),
+        Rest::Refusal(number, place) => Part {
+            count: put_refused_line(out, 0, number, place),
             rest: Rest::Nothing,
         },
         Rest::Lines(sheet) => put_sheet(out, plan, sheet, most, marks, numbers, values, modes),
@@ -405,7 +407,7 @@ fn most_of(rest: Rest) -> usize
 {
     match rest {
         Rest::Nothing => ENDS,
-        Rest::Refused(_) => ENDS,
+        Rest::Refusal(_, _) => ENDS,
         Rest::Lines(sheet) => ENDS + LONGEST * sheet.task.steps,
     }
 }

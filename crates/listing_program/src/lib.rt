@@ -7,7 +7,7 @@
 // bounds.
 #![tactic(auto)]
 
-ghost use Rattle.std.specs.Prelude.{◌≡◌, ◌≤◌, OnOk, length};
+ghost use Rattle.std.specs.Prelude.{◌≡◌, ◌≤◌, OnOk, IfSome, length};
 ghost use Rattle.std.specs.Io.KnownBytes.{Appends};
 ghost use Rattle.io.specs.Counts.{IsPrefixLen};
 ghost use Rattle.model.specs.Plans.{plan_numbers};
@@ -112,7 +112,9 @@ fn read_full(file: &mut impl Read, buffer: &mut [u8]) -> usize
 
 // Reads a file into a buffer that has one byte more than the program takes: a file that is too large fills it. What can be opened and not read,
 // as a folder, is no file either: a read of no bytes tells. Nor is a path that is no text the path of one.
-fn read_file<'a>(files: &impl Files, path: &[u8], buffer: &'a mut [u8]) -> Option<&'a [u8]> {
+fn read_file<'a>(files: &impl Files, path: &[u8], buffer: &'a mut [u8]) -> Option<&'a [u8]>
+    ensures { IfSome result (λ part. IsPrefixLen (length part.now) buffer.old) }
+{
     let name = str::from_utf8(path).ok()?;
     let mut file = File::open(files, name).ok()?;
     file.read(&mut buffer[..0]).ok()?;

@@ -11,16 +11,16 @@ use native.Mathlib.Numerals.{add-one}
 use lib.IntN.{ℤ, pos, nat_abs}
 use Rattle.integers.specs.Division.{unit_less, floor}
 use Rattle.integers.specs.Parts.{EachWithin}
+use Rattle.lists.proofs.Loops.{and_left}
 use Rattle.model.specs.Tasks.{Effect, add_effect, linear_effect, quotient_effect, residue_effect}
 use Rattle.model.specs.Steps.{integer_at, result, results}
 use Rattle.model.specs.Expansion.{magnitudes, price_of_result, price_of_held, price_of_effects}
 use Rattle.model.proofs.StageValues.{sign-cost}
-use Rattle.std.specs.Bool.{then_some}
-use Rattle.std.proofs.Common.{None}
-use Rattle.source_step.specs.Row.{effects_at, held, Finished}
+use Rattle.std.specs.Prelude.{Result, Ok, Err}
+use Rattle.source_step.specs.Row.{effects_at, held, stays_in, Finished}
 use Rattle.source_step.proofs.Taking.{not-held, behind-the-test}
 use Rattle.plan_strokes.specs.Strokes.{term_strokes, result_strokes, held_strokes, set_strokes, single_strokes, strokes_of, price_of_strokes}
-use Rattle.plan_strokes.specs.Made.{StrokesMade, MacroIs, Turned}
+use Rattle.plan_strokes.specs.Made.{StrokesMade, MacroIs, Turned, priced}
 use Rattle.plan_strokes.proofs.Effects.{no-strokes}
 use Rattle.plan_strokes.proofs.Walks.{steps_of, steps-of-both}
 
@@ -75,18 +75,18 @@ module _ {zs : List ℤ} {price i : ℕ} (g : Pricing zs price i) where
 
 -- ---- a step: it was not taken, or priced and finished
 module _ {n m : ℕ} {marks : List ℕ} {numbers sums values : List ℤ} {modes : List ℕ} where
-  pub turned-away : held n m marks numbers sums values modes ≡ false → Turned n m marks numbers sums values modes None values modes
-  turned-away e = record { stepped = not-held sums e; price = tt; few = tt }
+  pub turned-away : held n m marks numbers sums values modes ≡ false → Turned n m marks numbers sums values modes (Err 0) values modes
+  turned-away e = record { stepped = not-held sums e; price = rw e refl; few = omega arith }
 
   module _ (e : held n m marks numbers sums values modes ≡ true) where
     at_price : {p : ℕ} → p ≡ price_of_effects (effects_at marks numbers) (integer_at (take n values)) → p ≤ 40000000000 → (r : Bool)
         {values' : List ℤ} {modes' : List ℕ} → Finished n m marks numbers values modes r values' modes'
-        → Turned n m marks numbers sums values modes (then_some r p) values' modes'
-    at_price q l true F = record { stepped = behind-the-test sums e F; price = q; few = l }
-    at_price q l false F = record { stepped = behind-the-test sums e F; price = tt; few = tt }
+        → Turned n m marks numbers sums values modes (priced r p) values' modes'
+    at_price q l true F = record { stepped = behind-the-test sums e F; price = rw e q; few = l }
+    at_price q l false F = record { stepped = behind-the-test sums e F; price = rw e q; few = l }
 
     pub turned-single : MacroIs marks false → (r : Bool) {values' : List ℤ} {modes' : List ℕ} → Finished n m marks numbers values modes r values' modes'
-        → Turned n m marks numbers sums values modes (then_some r 1) values' modes'
+        → Turned n m marks numbers sums values modes (priced r 1) values' modes'
     turned-single s r F =
         let es = effects_at marks numbers in
         let v = integer_at (take n values) in
@@ -95,5 +95,11 @@ module _ {n m : ℕ} {marks : List ℕ} {numbers sums values : List ℤ} {modes 
     pub turned : {times results : List ℤ} {count : ℕ} → StrokesMade n marks numbers values times results count
         → (p : ℕ) → (p ≡ price_of_strokes (take count times)) × (p ≤ 40000000000) → (r : Bool) {values' : List ℤ} {modes' : List ℕ}
         → Finished n m marks numbers values modes r values' modes'
-        → Turned n m marks numbers sums values modes (then_some r p) values' modes'
+        → Turned n m marks numbers sums values modes (priced r p) values' modes'
     turned s p q r F = at_price (q.0 ∙ ap price_of_strokes s.listed.is ∙ sym (price-is _ _)) q.1 r F
+
+  -- what a step cost that was taken
+  pub applied-price : {p : ℕ} {values' : List ℤ} {modes' : List ℕ} → Turned n m marks numbers sums values modes (Ok p) values' modes'
+      → p ≡ price_of_effects (effects_at marks numbers) (integer_at (take n values))
+  applied-price t =
+      t.price ∙ rw (and_left (held n m marks numbers sums values modes) (stays_in n marks numbers values) (sym t.stepped.is)) refl

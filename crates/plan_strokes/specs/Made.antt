@@ -1,12 +1,12 @@
 -- Strokes in lent times, and what the functions that make them ensure.
 -- Assumes nothing.
-use Rattle.std.specs.Prelude.{◌≡◌, ℕ, ◌+◌, ◌≤◌, Bool, List, [], ◌∷◌, ◌++◌, length, take, replicate, ℤ, nat_abs, Option, is_some, IfSome}
+use Rattle.std.specs.Prelude.{◌≡◌, ℕ, ◌+◌, ◌≤◌, Bool, List, [], ◌∷◌, ◌++◌, length, take, replicate, ℤ, nat_abs, true, false, cond, Result, Ok, Err, is_ok}
 use Rattle.integers.specs.Parts.{EachWithin}
 use Rattle.model.specs.Steps.{integer_at}
 use Rattle.model.specs.Expansion.{strokes, price_of_effects}
 use Rattle.model.specs.Following.{makes_macro}
 use Rattle.source_step.specs.Sizes.{EFFECTS}
-use Rattle.source_step.specs.Row.{terms_at, effect_at, effects_at, result_at, Stepped, ResultsAre}
+use Rattle.source_step.specs.Row.{terms_at, effect_at, effects_at, result_at, held, Stepped, ResultsAre}
 use Rattle.plan_strokes.specs.Strokes.{STAGES, term_strokes, result_strokes, held_strokes, strokes_of}
 use Rattle.plan_strokes.specs.declared.Run.{Run}
 
@@ -56,9 +56,18 @@ pub record RunOf (first : ℕ) (z : ℤ) (r : Run) : Type 0 where
   pub is : strokes first z ≡ replicate r.count r.number
   pub many : r.count ≡ nat_abs z
 
--- a step by rows was taken, and priced where it applies
-pub record Turned (n m : ℕ) (marks : List ℕ) (numbers sums values : List ℤ) (modes : List ℕ) (r : Option ℕ) (values' : List ℤ)
+-- a price, and whether it is that of a step that was taken; and the price alone
+abbrev pub priced : Bool → ℕ → Result ℕ ℕ
+priced true price = Ok price
+priced false price = Err price
+
+abbrev pub price_in : Result ℕ ℕ → ℕ
+price_in (Ok price) = price
+price_in (Err price) = price
+
+-- a step by rows was taken, and priced where their test holds
+pub record Turned (n m : ℕ) (marks : List ℕ) (numbers sums values : List ℤ) (modes : List ℕ) (r : Result ℕ ℕ) (values' : List ℤ)
     (modes' : List ℕ) : Type 0 where
-  pub stepped : Stepped n m marks numbers sums values modes (is_some r) values' modes'
-  pub price : IfSome r (λ price. price ≡ price_of_effects (effects_at marks numbers) (integer_at (take n values)))
-  pub few : IfSome r (λ price. price ≤ 40_000_000_000)
+  pub stepped : Stepped n m marks numbers sums values modes (is_ok r) values' modes'
+  pub price : price_in r ≡ cond (held n m marks numbers sums values modes) (price_of_effects (effects_at marks numbers) (integer_at (take n values))) 0
+  pub few : price_in r ≤ 40_000_000_000

@@ -14,7 +14,7 @@ ghost use Rattle.model.specs.Following.{agreeing};
 ghost use Rattle.model.specs.Steps.{integer_at};
 ghost use Rattle.source_step.specs.Row.{effect_count_at, kind_at, pairs_of, Reads, Usable};
 ghost use Rattle.plan_strokes.specs.Strokes.{set_strokes, stage_steps, macro_steps, step_numbers, price_of_strokes};
-ghost use Rattle.plan_strokes.specs.Made.{More, TermsMade, ResultMade, HeldMade, StrokesMade, MacroIs, RunOf, Turned};
+ghost use Rattle.plan_strokes.specs.Made.{More, TermsMade, ResultMade, HeldMade, StrokesMade, MacroIs, RunOf, Turned, priced};
 ghost use Rattle.plan_strokes.specs.Opening.{EffectSized, Sized, Opened};
 ghost use Rattle.source_step.specs.Sizes.{VARIABLES, MODES, EFFECTS};
 ghost use Rattle.plan_strokes.specs.Strokes.{STAGES};
@@ -255,8 +255,16 @@ pub fn price_of(times: &[i64; STAGES], count: usize) -> u64
     price
 }
 
-// Takes the action of two rows in a lent state where it applies, and else leaves the state as it was. The price, if it applies, is counted from
-// the values before: an action that stays one costs 1, without strokes. The times are lent for strokes.
+// A price, and whether it is that of a step that was taken.
+fn priced(applied: bool, price: u64) -> Result<u64, u64>
+    ensures { result ≡ priced applied price }
+{
+    if applied { Ok(price) } else { Err(price) }
+}
+
+// Takes the action of two rows in a lent state where it applies, and else leaves the state as it was. The price is counted from the values before:
+// an action that stays one costs 1, without strokes. Where the action does not apply the error is what it would cost, 0 where the test of its row
+// fails. The times are lent for strokes.
 pub fn take_priced(
     values: &mut [i64; VARIABLES],
     modes: &mut [u16; MODES],
@@ -266,7 +274,7 @@ pub fn take_priced(
     numbers: &[i64; NUMBERS],
     sums: &[i64; NUMBERS],
     times: &mut [i64; STAGES],
-) -> Option<u64>
+) -> Result<u64, u64>
     requires n_bound { (n ≤ VARIABLES) × (m ≤ MODES) × (length modes.old ≡ MODES) × (length times.old ≡ STAGES) }
     requires usable { Usable n marks.now numbers.now sums.now }
     ensures turned { Turned n m marks.now numbers.now sums.now values.old modes.old result
@@ -274,16 +282,18 @@ pub fn take_priced(
     ensures times_len { length times.new ≡ STAGES }
 {
     if !source_step::holds(values, modes, n, m, marks, numbers, sums) {
-        return None;
+        return Err(0);
     }
     if !makes_macro(marks) {
         let result = source_step::result_of(values, n, marks, numbers, 0);
-        return source_step::finish_single(values, modes, n, m, marks, numbers, result).then_some(1);
+        let applied = source_step::finish_single(values, modes, n, m, marks, numbers, result);
+        return priced(applied, 1);
     }
     let mut results = [0i64; EFFECTS];
     let count = put_strokes(times, &mut results, values, n, marks, numbers);
     let price = price_of(times, count);
-    source_step::finish(values, modes, n, m, marks, numbers, &results).then_some(price)
+    let applied = source_step::finish(values, modes, n, m, marks, numbers, &results);
+    priced(applied, price)
 }
 
 // A number so many times.

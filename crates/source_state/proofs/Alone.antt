@@ -22,17 +22,14 @@ use Rattle.model.proofs.AcceptedOk.{accepted-source-ok}
 use Rattle.file_declarations.specs.declared.Declared.{Declared}
 use Rattle.source_step.specs.Step.{state, step_of, handed_back, Tried}
 use Rattle.source_step.specs.Accepted.{AcceptedWith}
-use Rattle.std.specs.Prelude.{Option, Some, None, is_some, Result, Ok, Err, ⊤}
-use Rattle.answers.specs.Refusals.{number_of}
+use Rattle.std.specs.Prelude.{Result, Ok, Err, ⊤}
 use Rattle.answers.specs.declared.Refusal.{Refusal}
-use Rattle.answers.specs.declared.Reason.{Reason}
 use Rattle.answers.specs.declared.Reason.TheVariants.{DoesNotApply}
 use Rattle.source_state.specs.Alone.{verdict_over, returned, RowRead}
 use Rattle.std.specs.Bool.{then_some}
-use Rattle.std.specs.Option.{unwrap_or}
 use Rattle.source_state.specs.declared.State.{State as StateByValue}
 use Rattle.source_state.specs.Step.{whole_is, stepped_is, stepped_by}
-use Rattle.source_step.specs.Row.{Stepped}
+use Rattle.source_step.specs.Row.{Stepped, takes}
 use Rattle.source_step.proofs.Taking.{tried}
 use Rattle.source_step.proofs.Steps.{step-of-task}
 use Rattle.source_step.proofs.Judging.{task-of, accepted-task, counted-task, task-by}
@@ -57,20 +54,18 @@ answered n m x z b (some y) e = ap (λ (p : Bool × State). (verdict_over (step_
 abbrev task_step : SourceTask → State → ℕ → Answer State
 task_step t x k = step_alone (length t.variables) (length t.modes) (length t.actions) (step_source t) x k
 
--- whether a row is taken, and the whole arrays after it
-module _ {n m : ℕ} {marks : List ℕ} {numbers : List ℤ} (sums : List ℤ) (x y : StateByValue) where
-  pub given-if : (r : Bool) → Stepped n m marks numbers sums x.values x.modes r y.values y.modes
+-- the answer and the whole arrays after a row
+pub stepped-whole : {n m : ℕ} {marks : List ℕ} {numbers : List ℤ} (sums : List ℤ) {values : List ℤ} {modes : List ℕ} {r : Bool} {values' : List ℤ}
+    {modes' : List ℕ} → Stepped n m marks numbers sums values modes r values' modes'
+    → (r, state values' modes') ≡ stepped_by n m marks numbers sums (state values modes)
+stepped-whole sums T = rw (T.is, T.values_are, T.modes_are) refl
+
+-- whether a row is taken, and the state after it, are a step where there is one
+module _ (n m : ℕ) (marks : List ℕ) (numbers sums : List ℤ) (x y : StateByValue) where
+  pub given-if : (r : Bool) → r ≡ takes n m marks numbers sums x.values x.modes → whole_is y ≡ (stepped_by n m marks numbers sums (whole_is x)).1
       → stepped_is x (then_some r y) ≡ stepped_by n m marks numbers sums (whole_is x)
-  given-if true T = rw (T.is, T.values_are, T.modes_are) refl
-  given-if false T = rw (← T.is) refl
-
-pub first-is : (x : StateByValue) (o : Option StateByValue) → is_some o ≡ (stepped_is x o).0
-first-is x None = refl
-first-is x (Some y) = refl
-
-pub second-is : (x : StateByValue) (o : Option StateByValue) → whole_is (unwrap_or o x) ≡ (stepped_is x o).1
-second-is x None = refl
-second-is x (Some y) = refl
+  given-if true e after = ap₂ (λ (b : Bool) (z : State). (b, z)) e after
+  given-if false e after = rw (← e) refl
 
 -- a step by itself of the action that has these bytes
 module _ {file bytes marks : List ℕ} {numbers sums : List ℤ} {r : Declared} (R : RowRead file bytes marks numbers sums r) (k : ℕ)

@@ -31,27 +31,7 @@ pub struct State {
 }
 
 impl State {
-    // The state after the action of a row, where it applies, in a task of n variables and m modes.
-    pub fn step(
-        self,
-        n: usize,
-        m: usize,
-        marks: &[u16; MARKS],
-        numbers: &[i64; NUMBERS],
-        sums: &[i64; NUMBERS],
-    ) -> Option<State>
-        requires { (n ≤ VARIABLES) × (m ≤ MODES) × Usable n marks.now numbers.now sums.now }
-        ensures { stepped_is self result ≡ stepped_by n m marks.now numbers.now sums.now (whole_is self) }
-    {
-        let mut values = self.values;
-        let mut modes = self.modes;
-        source_step::take(&mut values, &mut modes, n, m, marks, numbers, sums).then_some(State {
-            values,
-            modes,
-        })
-    }
-
-    // Whether it applies.
+    // Whether the action of a row applies, in a task of n variables and m modes.
     pub fn applies(
         self,
         n: usize,
@@ -63,7 +43,9 @@ impl State {
         requires { (n ≤ VARIABLES) × (m ≤ MODES) × Usable n marks.now numbers.now sums.now }
         ensures { result ≡ takes n m marks.now numbers.now sums.now self.values self.modes }
     {
-        self.step(n, m, marks, numbers, sums).is_some()
+        let mut values = self.values;
+        let mut modes = self.modes;
+        source_step::take(&mut values, &mut modes, n, m, marks, numbers, sums)
     }
 
     // The state after it; where it does not apply, the state before.
@@ -78,7 +60,27 @@ impl State {
         requires { (n ≤ VARIABLES) × (m ≤ MODES) × Usable n marks.now numbers.now sums.now }
         ensures { whole_is result ≡ (stepped_by n m marks.now numbers.now sums.now (whole_is self)).1 }
     {
-        self.step(n, m, marks, numbers, sums).unwrap_or(self)
+        let mut values = self.values;
+        let mut modes = self.modes;
+        source_step::take(&mut values, &mut modes, n, m, marks, numbers, sums);
+        State { values, modes }
+    }
+
+    // Both: the state after it, where it applies.
+    pub fn step(
+        self,
+        n: usize,
+        m: usize,
+        marks: &[u16; MARKS],
+        numbers: &[i64; NUMBERS],
+        sums: &[i64; NUMBERS],
+    ) -> Option<State>
+        requires { (n ≤ VARIABLES) × (m ≤ MODES) × Usable n marks.now numbers.now sums.now }
+        ensures { stepped_is self result ≡ stepped_by n m marks.now numbers.now sums.now (whole_is self) }
+    {
+        let applied = self.applies(n, m, marks, numbers, sums);
+        let state = self.next(n, m, marks, numbers, sums);
+        applied.then_some(state)
     }
 }
 

@@ -17,7 +17,7 @@ use Rattle.model.specs.Expansion.{price_from}
 use Rattle.model.specs.Judging.{prices_from}
 use Rattle.model.specs.Plans.{plan_numbers}
 use Rattle.std.specs.Prelude.{Result, Ok, Err, ⊤}
-use Rattle.answers.specs.Refusals.{number_of, refusal_is}
+use Rattle.answers.specs.Refusals.{refusal_is}
 use Rattle.answers.specs.declared.Refusal.{Refusal}
 use Rattle.source_step.specs.Step.{state, Shaped, Kept}
 use Rattle.source_walk.specs.Answers.{on_progress}

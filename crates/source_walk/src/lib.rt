@@ -86,7 +86,10 @@ pub fn open(
         result marks.new numbers.new values.new modes.new }
 {
     let accepted = file_check::check_source(file)?;
-    let steps = plan_bytes::count_steps(plan)?;
+    let steps = match plan_bytes::count_steps(plan) {
+        Ok(steps) => steps,
+        Err(refusal) => return Err(refusal),
+    };
     Ok(make_ready(
         file,
         plan,
@@ -151,7 +154,7 @@ fn take_turn(
     ensures times_len { length times.new ≡ STAGES }
 {
     if priced {
-        return plan_strokes::take_priced(values, modes, n, m, marks, numbers, sums, times);
+        return plan_strokes::take_priced(values, modes, n, m, marks, numbers, sums, times).ok();
     }
     source_step::take(values, modes, n, m, marks, numbers, sums).then_some(0)
 }

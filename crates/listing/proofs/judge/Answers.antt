@@ -7,7 +7,7 @@ use Rattle.listing.proofs.judge.Goals as goal
 pub returns-in-Err : goal.returns-in-Err
 returns-in-Err c =
     let t = c.args.task in
-    rw c.in-Err.is at (ap (λ (judging : Judging). rest_by t judging.verdict) c.judge_steps-judged.ensures)
+    rw c.number.ensures (rw c.in-Err.is at (ap (λ (judging : Judging). rest_by t judging.verdict) c.judge_steps-judged.ensures))
 
 pub returns-in-Ok : goal.returns-in-Ok
 returns-in-Ok c =

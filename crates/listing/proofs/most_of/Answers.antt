@@ -11,8 +11,8 @@ overflow_add-result c = omega (arith, rw c.in-Lines.is at c.requires)
 pub returns-in-Nothing : goal.returns-in-Nothing
 returns-in-Nothing c = rw c.in-Nothing.is
 
-pub returns-in-Refused : goal.returns-in-Refused
-returns-in-Refused c = rw c.in-Refused.is
+pub returns-in-Refusal : goal.returns-in-Refusal
+returns-in-Refusal c = rw c.in-Refusal.is
 
 pub returns-in-Lines : goal.returns-in-Lines
 returns-in-Lines c = rw c.in-Lines.is

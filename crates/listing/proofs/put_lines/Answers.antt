@@ -4,7 +4,6 @@ use native.Mathlib.Omega.{arith}
 use Rattle.lists.proofs.Numbers.{length-halves}
 use Rattle.plan_bytes.proofs.Steps.{halves_long}
 use Rattle.listing.proofs.Lining as lining
-use borrow.Author.Rules.{rules}
 use Rattle.listing.proofs.put_lines.Goals as goal
 
 pub loop-i-init : goal.loop-i-init
@@ -40,18 +39,18 @@ take_priced-requires c =
       usable = u.usable _ (omega (arith, c.if-count-k.false));
     }
 
-pub shape_of-out-in_default : goal.shape_of-out-in_default
-shape_of-out-in_default c = lining.writing-long c.requires.listable c.loop-i.invariant.0
+pub shape_of-out-in-Err : goal.shape_of-out-in-Err
+shape_of-out-in-Err c = lining.writing-long c.requires.listable c.loop-i.invariant.0
 
-pub returns-in_default : goal.returns-in_default
-returns-in_default c =
+pub returns-in-Err : goal.returns-in-Err
+returns-in-Err c =
     lining.writing-not-applied c.requires.listable c.loop-i.invariant.0 _ c.action_of-k.ensures
-    c.loop-i-test.true c.if-count-k.false c.in_default.ensures.turned _ (sym (length-halves c.args.plan.now))
+    c.loop-i-test.true c.if-count-k.false c.in-Err.ensures.turned _ (sym (length-halves c.args.plan.now))
 
 pub put_step_line-place-requires : goal.put_step_line-place-requires
 put_step_line-place-requires c =
     let L = c.requires.listable in
-    let turned = c.in-Some.ensures.turned in (
+    let turned = c.in-Ok.ensures.turned in (
       L.usables.variables_few,
       (lining.writing-reached L c.loop-i.invariant.0 _ c.action_of-k.ensures c.loop-i-test.true c.if-count-k.false turned).values_long,
       lining.writing-room L c.loop-i.invariant.0 _ c.action_of-k.ensures c.loop-i-test.true c.if-count-k.false turned c.requires.room_for,
@@ -59,13 +58,13 @@ put_step_line-place-requires c =
 
 pub overflow_add-spent : goal.overflow_add-spent
 overflow_add-spent c =
-    omega (arith, c.loop-i.invariant.0.cheap, c.in-Some.ensures.turned.few, c.loop-i-test.true, c.requires.listable.few)
+    omega (arith, c.loop-i.invariant.0.cheap, c.in-Ok.ensures.turned.few, c.loop-i-test.true, c.requires.listable.few)
 
 pub loop-i-preserved : goal.loop-i-preserved
 loop-i-preserved c = (
   lining.writing-next c.requires.listable c.loop-i.invariant.0 _ c.action_of-k.ensures c.loop-i-test.true c.if-count-k.false
-      c.in-Some.ensures.turned c.put_step_line-place.ensures.0 c.put_step_line-place.ensures.1,
-  c.in-Some.ensures.times_len,
+      c.in-Ok.ensures.turned c.put_step_line-place.ensures.0 c.put_step_line-place.ensures.1,
+  c.in-Ok.ensures.times_len,
 )
 
 pub shape_of-out : goal.shape_of-out

@@ -7,7 +7,7 @@ use Rattle.listing.proofs.put_rest.Goals as goal
 
 pub put_refused_line-requires : goal.put_refused_line-requires
 put_refused_line-requires c =
-    refusal-room c.in-Refused.refusal c.args.most (rw c.in-Refused.is at c.requires.room_for)
+    let r = c.in-Refusal in refusal-room r.number r.place c.args.most (rw r.is at c.requires.room_for)
 
 pub put_sheet-requires : goal.put_sheet-requires
 put_sheet-requires c =
@@ -19,11 +19,12 @@ returns-in-Nothing c =
     rw c.in-Nothing.is
     (record { wrote = record { place = refl; bytes = refl }; few = omega arith; left = refl; pending = tt; fewer = omega arith })
 
-pub returns-in-Refused : goal.returns-in-Refused
-returns-in-Refused c =
+pub returns-in-Refusal : goal.returns-in-Refusal
+returns-in-Refusal c =
+    let r = c.in-Refusal in
     let w = c.put_refused_line.ensures in
-    rw c.in-Refused.is
-    (part-refusal c.in-Refused.refusal c.args.most (plan_numbers c.args.plan.now) c.args.marks.now c.args.numbers.now w.0 w.1)
+    rw r.is
+    (part-refusal r.number r.place c.args.most (plan_numbers c.args.plan.now) c.args.marks.now c.args.numbers.now w.0 w.1)
 
 pub returns-in-Lines : goal.returns-in-Lines
 returns-in-Lines c = rw c.in-Lines.is c.put_sheet.ensures

@@ -36,22 +36,22 @@ single c = subst (MacroIs c.args.marks.now) (not-true _ (ap not c.if-not-makes_m
 pub result_of-result-requires : goal.result_of-result-requires
 result_of-result-requires c = (row_reads (goal.at.result_of-result-requires c).Else-not-holds, omega arith)
 
-pub finish_single-requires : goal.finish_single-requires
-finish_single-requires c =
+pub finish_single-applied-requires : goal.finish_single-applied-requires
+finish_single-applied-requires c =
     let z : SFits w64 c.result_of-result.result = search rules in
     let n = c.requires.n_bound in (
       n.0,
       n.1,
       n.2,
       c.requires.usable.keeps,
-      (stays-few (single (goal.at.finish_single-requires c).Then-not-makes_macro), λ q. rw (to_z-of_z z) c.result_of-result.ensures.0),
+      (stays-few (single (goal.at.finish_single-applied-requires c).Then-not-makes_macro), λ q. rw (to_z-of_z z) c.result_of-result.ensures.0),
     )
 
 pub returns-then-not-makes_macro : goal.returns-then-not-makes_macro
 returns-then-not-makes_macro c =
     let at = goal.at.returns-then-not-makes_macro c in record {
-      turned = rw c.then_some.ensures
-          (turned-single (passed at.Else-not-holds) (single at.Then-not-makes_macro) c.finish_single.result c.finish_single.ensures);
+      turned = rw c.priced.ensures
+          (turned-single (passed at.Else-not-holds) (single at.Then-not-makes_macro) c.finish_single-applied.result c.finish_single-applied.ensures);
       times_len = c.requires.n_bound.3;
     }
 
@@ -64,7 +64,7 @@ price_of-price-requires c = let l = c.put_strokes-count.ensures.listed in (l.few
 
 pub returns : goal.returns
 returns c = record {
-  turned = rw c.then_some-2.ensures (turned (passed (goal.at.returns c).Else-not-holds) c.put_strokes-count.ensures c.price_of-price.result
-      c.price_of-price.ensures c.finish.result c.finish.ensures);
+  turned = rw c.priced-2.ensures (turned (passed (goal.at.returns c).Else-not-holds) c.put_strokes-count.ensures c.price_of-price.result
+      c.price_of-price.ensures c.finish-applied.result c.finish-applied.ensures);
   times_len = c.put_strokes-count.ensures.listed.long;
 }

@@ -9,7 +9,7 @@ make_ready-requires c =
     record {
       accepted_with = (
         accepted-with c.args.file.now _ _ _ c.in_ok-accepted.ensures,
-        plan-of c.args.plan.now _ c.in_ok-steps.ensures,
+        plan-of c.args.plan.now _ c.in-Ok.ensures,
         c.requires.0,
         c.requires.1,
       );
@@ -21,8 +21,6 @@ returns-in_err-accepted c =
     let p = err_from_is_err_and c.from_residual.result c.from_residual.ensures.1 in
     rw (p.1, p.2) (file-refused c.args.file.now c.args.plan.now _ _ c.in_err-accepted.ensures, refl, refl, refl, refl)
 
-pub returns-in_err-steps : goal.returns-in_err-steps
-returns-in_err-steps c =
-    let p = err_from_is_err_and c.from_residual-in_err-steps.result c.from_residual-in_err-steps.ensures.1 in
-    let refused = plan-refused c.args.file.now c.args.plan.now _ _ _ c.in_ok-accepted.ensures _ _ c.in_err-steps.ensures in
-    rw (p.1, p.2) (refused, refl, refl, refl, refl)
+pub returns-in-Err : goal.returns-in-Err
+returns-in-Err c =
+    (plan-refused c.args.file.now c.args.plan.now _ _ _ c.in_ok-accepted.ensures _ _ c.in-Err.ensures, refl, refl, refl, refl)

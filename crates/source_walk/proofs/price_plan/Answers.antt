@@ -6,7 +6,6 @@ use mathlib.Core.List.{List}
 use Rattle.model.specs.Tasks.{SourceTask}
 use Rattle.std.proofs.lemmas.Result.{err_from_is_err_and}
 use Rattle.answers.specs.Answer.{then}
-use Rattle.answers.specs.Answer.{Answer}
 use Rattle.model.specs.Judging.{judge_source_task, price_task}
 use Rattle.model.specs.Judging.{price_plan}
 use Rattle.source_step.proofs.Tables.{usables}

@@ -6,7 +6,6 @@ use Rattle.plan_bytes.proofs.Steps.{halves_long}
 use Rattle.source_step.specs.Step.{state}
 use Rattle.source_step.specs.Table.{table}
 use Rattle.source_walk.proofs.Loop.{begins, over, no-action, not-applied, goes}
-use borrow.Author.Rules.{rules}
 use Rattle.source_walk.proofs.walk.Goals as goal
 
 pub loop-i-init : goal.loop-i-init

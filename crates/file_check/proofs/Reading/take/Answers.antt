@@ -1,13 +1,12 @@
 -- `file_check::Reading::take` meets its contract: nothing remains, the byte may not stand there, a T is missing, or the command's own function
 -- has taken it.
 -- Assumes nothing.
-use mathlib.Core.Path.{refl, ap}
+use mathlib.Core.Path.{refl}
 use borrow.Author.Rules.{rules}
 use native.Mathlib.Omega.{arith}
 use Prim.Native.Nat.{◌<◌}
 use lib.ListN.{length, get_or}
 use lib.Dec.{lit<}
-use Rattle.model.specs.ReadingState.{go_on}
 use Rattle.model.specs.Rules.{tests_of, next_of}
 use Rattle.file_check.specs.Views.{limits_of, state_of}
 use Rattle.file_check.proofs.Tests.{told}
@@ -40,13 +39,13 @@ pub returns-in-71 : goal.returns-in-71
 unfolding tests_of next_of
 returns-in-71 c =
     alone _ _ _ c.if-rest-eq0.false (told c.is_allowed.ensures c.if-not-is_allowed.false) (told c.lacks_term.ensures c.if-lacks_term.false)
-    12 (lit< tt) refl c.in-71.is (ap go_on c.«open».ensures)
+    12 (lit< tt) refl c.in-71.is c.take_goal.ensures
 
 pub returns-in-90 : goal.returns-in-90
 unfolding tests_of next_of
 returns-in-90 c =
     alone _ _ _ c.if-rest-eq0.false (told c.is_allowed.ensures c.if-not-is_allowed.false) (told c.lacks_term.ensures c.if-lacks_term.false)
-    13 (lit< tt) refl c.in-90.is refl
+    13 (lit< tt) refl c.in-90.is c.take_end.ensures
 
 pub returns-in_default : goal.returns-in_default
 returns-in_default c =
