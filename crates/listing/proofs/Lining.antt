@@ -4,7 +4,7 @@ use mathlib.Core.Path.{◌≡◌, refl, sym, ap, ◌∙◌}
 use Prim.Native.Nat.{ℕ, suc, ◌+◌, ◌-◌, ◌*◌, ◌≤◌, ◌<◌}
 use native.Mathlib.Omega.{arith}
 use native.Mathlib.Numerals.{add-one}
-use mathlib.Core.Bool.{true, false}
+use mathlib.Core.Bool.{Bool, true, false}
 use mathlib.Core.List.{List, [], ◌∷◌, ◌++◌, append-nil, append_assoc}
 use lib.ListN.{length, get_or, take, drop, drop_of_length-le}
 use lib.Seq.{drop-cons, get_or-take, length-take-le}
@@ -16,10 +16,10 @@ use Rattle.model.specs.Tasks.{State}
 use Rattle.model.specs.Listing.{step_line}
 use Rattle.source_step.specs.Step.{state}
 use Rattle.source_step.proofs.Sound.{length-settled}
-use Rattle.source_step.specs.Row.{outcomes_at, values_after, modes_after}
+use Rattle.source_step.specs.Row.{outcomes_at, values_after, modes_after, Stepped}
 use Rattle.source_step.specs.Ready.{marks_of, numbers_of, sums_of}
 use Rattle.source_step.specs.Table.{Table, takes_by, price_by, Usables}
-use Rattle.std.specs.Prelude.{Result, Ok, Err}
+use Rattle.std.specs.Prelude.{Result, Ok}
 use Rattle.plan_strokes.specs.Made.{Turned}
 use Rattle.plan_strokes.proofs.Prices.{applied-price}
 use Rattle.source_walk.proofs.Loop.{long_after}
@@ -33,7 +33,12 @@ pub record Reached (p : List ℕ) (values : List ℤ) (modes : List ℕ) (i : �
   pub values_long : length values ≡ 8
   pub modes_long : length modes ≡ 4
 
--- action k is tried in a state, and comes to its price or to what it would cost, and to the state after
+-- action k is tried in a state, and is taken or not, and comes to the state after
+abbrev pub StepsTo : Table → ℕ → List ℤ → List ℕ → Bool → List ℤ → List ℕ → Type 0
+StepsTo T k values modes r values' modes' =
+    Stepped T.variables T.modes (marks_of T.marks k) (numbers_of T.numbers k) (sums_of T.numbers) values modes r values' modes'
+
+-- the same, with its price or what it would cost
 abbrev pub TurnsTo : Table → ℕ → List ℤ → List ℕ → Result ℕ ℕ → List ℤ → List ℕ → Type 0
 TurnsTo T k values modes r values' modes' =
     Turned T.variables T.modes (marks_of T.marks k) (numbers_of T.numbers k) (sums_of T.numbers) values modes r values' modes'
@@ -75,11 +80,11 @@ module _ (T : Table) (p : List ℕ) (values : List ℤ) (modes : List ℕ) (i : 
         (lines-at-step ∙ rw off refl, cost-at-step ∙ rw off refl)
 
     module _ (l : k < T.count) {values' : List ℤ} {modes' : List ℕ} where
-      not-applied : {cost : ℕ} → TurnsTo T k values modes (Err cost) values' modes' → Over
+      not-applied : StepsTo T k values modes false values' modes' → Over
       unfolding lines_by prices_by
-      not-applied t =
+      not-applied s =
           let on = lt-ltb k T.count l in
-          let off : takes_by T x k ≡ false = sym t.stepped.is in
+          let off : takes_by T x k ≡ false = sym s.is in
           (lines-at-step ∙ rw (on, off) refl, cost-at-step ∙ rw (on, off) refl)
 
       module _ {price : ℕ} (t : TurnsTo T k values modes (Ok price) values' modes') where
@@ -208,17 +213,16 @@ module _ {T : Table} {p : List ℕ} {from until before : ℕ} {values₀ : List 
         (no-action T q values modes i k part-is in-part l) (no-action T p values modes i k e in-plan l)
 
     module _ (l : k < T.count) {values' : List ℤ} {modes' : List ℕ} where
-      pub writing-not-applied
-          : {cost : ℕ} → TurnsTo T k values modes (Err cost) values' modes' → (next : ℕ) → next ≡ length p
+      pub writing-not-applied : StepsTo T k values modes false values' modes' → (next : ℕ) → next ≡ length p
           → LinedTo T p from until before values₀ modes₀ old at out (record { place = place; spent = spent; next = next }) values' modes'
-      writing-not-applied t next m =
-          let off : takes_by T (state values modes) k ≡ false = sym t.stepped.is in
-          let same-values : values' ≡ values = t.stepped.values_are ∙ rw off refl in
-          let same-modes : modes' ≡ modes = t.stepped.modes_are ∙ rw off refl in
+      writing-not-applied s next m =
+          let off : takes_by T (state values modes) k ≡ false = sym s.is in
+          let same-values : values' ≡ values = s.values_are ∙ rw off refl in
+          let same-modes : modes' ≡ modes = s.modes_are ∙ rw off refl in
           stopped next m
           (ap length same-values ∙ g.reached.values_long)
           (ap length same-modes ∙ g.reached.modes_long)
-          (not-applied T q values modes i k part-is in-part l t) (not-applied T p values modes i k e in-plan l t)
+          (not-applied T q values modes i k part-is in-part l s) (not-applied T p values modes i k e in-plan l s)
 
       module _ {price : ℕ} (t : TurnsTo T k values modes (Ok price) values' modes') where
         abbrev line : List ℕ

@@ -34,7 +34,7 @@ use Rattle.listing.specs.Listed.{lines_by, prices_by}
 use Rattle.listing.specs.declared.Rest.{Rest}
 use Rattle.listing.specs.declared.Rest.TheVariants.{Refusal}
 use Rattle.listing.specs.Parts.{LONGEST, most_of, rest_by, left_of, Pending, Begun}
-use Rattle.listing.proofs.Longest.{lines-most, total-most, goal-most, refused-most}
+use Rattle.listing.proofs.Longest.{lines-most, total-most, goal-most, number-few, refused-most}
 
 -- ---- the lines by the rows of a task are those of its steps
 -- there is no action past the last
@@ -180,17 +180,18 @@ module _ {file plan : List ℕ} {r : Task} {marks : List (List ℕ)} {numbers : 
   lines-few : length (lines_by T 0 p x) ≤ LONGEST * length p
   lines-few = lines-most S.rows p 0 x S.inside (omega (arith, S.plan_is.few, S.plan_is.steps_are))
 
-  short : (v : Result ℕ CallRefusal) → ((number place : ℕ) → rest_by r v ≡ Refusal number place → (number < 256) × (place < 2 ^ 64))
+  short : (v : Result ℕ CallRefusal) → ((number place : ℕ) → rest_by r v ≡ Refusal number place → place < 2 ^ 64)
       → length (left_of (rest_by r v) p marks numbers values modes) ≤ most_of (rest_by r v)
-  short (Err d) told = let h = told (number_of d.reason) d.place refl in refused-most (number_of d.reason) d.place h.0 h.1
+  short (Err d) told =
+      refused-most (number_of d.reason) d.place (omega (arith, number-few d.reason)) (told (number_of d.reason) d.place refl)
   short (Ok n) told =
       let steps = S.plan_is.steps_are in
       let goal : length (goal_line total) ≤ 18 = goal-most total (omega (arith, price-few, S.plan_is.few, steps)) in
       omega (arith, length-append (lines_by T 0 p x) (goal_line total), lines-few, goal, steps)
 
-  -- what judging leaves of the listing is all of it; the number and the place of a refusal are of 8 and of 64 bits
+  -- what judging leaves of the listing is all of it; the place of a refusal is of 64 bits
   pub begun : {rest : Rest} → rest ≡ rest_by r (judge_by (table_of r marks numbers) false (plan_numbers plan) (state values modes)).verdict
-      → ((number place : ℕ) → rest ≡ Refusal number place → (number < 256) × (place < 2 ^ 64)) → Begun file plan rest marks numbers values modes
+      → ((number place : ℕ) → rest ≡ Refusal number place → place < 2 ^ 64) → Begun file plan rest marks numbers values modes
   begun e told =
       let few = short J.verdict (λ number place v. told number place (e ∙ v)) in
       subst (λ (rest : Rest). Begun file plan rest marks numbers values modes) (sym e)

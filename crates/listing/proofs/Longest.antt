@@ -11,6 +11,10 @@ use lib.ListN.{length, length-append, length-take, take}
 use lib.IntN.{ℤ, pos, negsuc, nat_abs}
 use lib.Signed.{le_z}
 use borrow.Author.Tests.{ltb-true}
+use Rattle.answers.specs.Refusals.{number_of}
+use Rattle.answers.specs.declared.Reason.{Reason}
+use Rattle.answers.specs.declared.Reason.TheVariants.{NotAllowed, CutShort, BytesBehind, OverLimit, Undeclared, OutOfRange, NamedTwice}
+use Rattle.answers.specs.declared.Reason.TheVariants.{OutputShort, OverMillion, PlanLength, NoAction, DoesNotApply, GoalNotMet, SumWithoutTerm}
 use Rattle.integers.specs.All.{All}
 use Rattle.integers.proofs.Parts.{ints, abs}
 use Rattle.lists.proofs.Loops.{and_left, and_right}
@@ -108,6 +112,23 @@ line-most i k price y hi hk hp h l =
 
 pub goal-most : (total : ℕ) → total < 10 ^ 12 → length (goal_line total) ≤ 18
 goal-most total h = omega (arith, before-most 11 total (10 ∷ []) h)
+
+-- the numbers of the reasons have at most two digits
+pub number-few : (reason : Reason) → number_of reason < 100
+number-few NotAllowed = omega arith
+number-few CutShort = omega arith
+number-few BytesBehind = omega arith
+number-few OverLimit = omega arith
+number-few Undeclared = omega arith
+number-few OutOfRange = omega arith
+number-few NamedTwice = omega arith
+number-few OutputShort = omega arith
+number-few OverMillion = omega arith
+number-few PlanLength = omega arith
+number-few NoAction = omega arith
+number-few DoesNotApply = omega arith
+number-few GoalNotMet = omega arith
+number-few SumWithoutTerm = omega arith
 
 pub refused-most : (number place : ℕ) → number < 256 → place < 2 ^ 64 → length (refused_line number place) ≤ ENDS
 refused-most number place h l =

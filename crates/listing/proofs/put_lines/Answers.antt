@@ -45,7 +45,7 @@ shape_of-out-in-Err c = lining.writing-long c.requires.listable c.loop-i.invaria
 pub returns-in-Err : goal.returns-in-Err
 returns-in-Err c =
     lining.writing-not-applied c.requires.listable c.loop-i.invariant.0 _ c.action_of-k.ensures
-    c.loop-i-test.true c.if-count-k.false c.in-Err.ensures.turned _ (sym (length-halves c.args.plan.now))
+    c.loop-i-test.true c.if-count-k.false c.in-Err.ensures.turned.stepped _ (sym (length-halves c.args.plan.now))
 
 pub put_step_line-place-requires : goal.put_step_line-place-requires
 put_step_line-place-requires c =
